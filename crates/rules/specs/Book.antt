@@ -1,0 +1,32 @@
+-- "Day book": what it keeps.
+use Prim.Native.Nat.{ℕ}
+use mathlib.Core.Bool.{Bool, true, false}
+use mathlib.Core.List.{List, []}
+use mathlib.Core.Option.{Option, some, none}
+use lib.ListN.{replicate}
+use Rattle.rules.specs.Hours.{Date, hoursOf}
+use Rattle.rules.specs.Units.{Registered, Capacities}
+use Rattle.rules.specs.Lodging.{Lodgement}
+
+-- "It keeps what the rules ask of accepted calls: units, last notices, standing lodgements with their numbers, the last
+-- number, whether closed or cleared." A unit's last unavailability notice stands with the unit; standing lodgements are
+-- in the order of their numbers. ("Day book" is document 01's term.)
+pub record Book : Type 0 where
+  pub date : Date
+  pub units : List Registered
+  pub capacities : Capacities
+  pub standing : List Lodgement
+  pub last : ℕ
+  pub closed : Bool
+  pub cleared : Bool
+
+unfoldable pub hours : Book → ℕ
+hours b = hoursOf (b .date)
+
+-- "A fresh session follows from the date only: no units, no notices, no lodgements." "It starts open and empty."
+unfoldable pub fresh : Date → Book
+fresh d = record { date = d; units = []; capacities = replicate 8 none; standing = []; last = 0; closed = false; cleared = false }
+
+unfoldable pub Book·all : Unit {0}
+unfolding hours fresh
+Book·all = tt

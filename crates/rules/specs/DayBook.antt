@@ -1,0 +1,193 @@
+-- "Day book": calls, their refusals in the table's order, and what an accepted call does.
+use Prim.Native.Nat.{ℕ, zero, suc, _+_}
+use mathlib.Core.Bool.{Bool, true, false, cond, not, _&&_, _||_}
+use mathlib.Core.List.{List, [], _∷_, _++_, map}
+use mathlib.Core.Option.{Option, some, none}
+use lib.Dec.{leb, ltb, eqb}
+use lib.ListN.{length}
+use Rattle.rules.specs.Lists.{keep, any}
+use Rattle.rules.specs.Refusals.{Row, row, firstRow}
+use Rattle.rules.specs.Hours.{Date, isDate, dateRow}
+use Rattle.rules.specs.Units.{TradingUnit, Registered, Capacities, badUnit, badNumber, badEnergies, badPublished, notOfHours, sameSeat, hasNumber, isRegistered, unitOf}
+use Rattle.rules.specs.Message.{Fields, energyWidth, decode, badForm, badMap, badFields}
+use Rattle.rules.specs.Lodging.{Key, Lodgement, keyOf, stands, without, judgedAt, judgedBy, limitRows, namesBeyond, domesticExecution, badKey}
+use Rattle.rules.specs.Book.{Book, hours, fresh}
+use Rattle.rules.specs.Clearing.{daySteps}
+
+-- "registering, notices, lodging, annulling, closing and clearing"
+pub data Call : Type 0 where
+  register : TradingUnit → Call
+  capacity : Capacities → Call
+  available : ℕ → List ℕ → Call  -- an unavailability notice: a unit's number and its available energies
+  lodge : List ℕ → Call  -- "Lodging takes a message's bytes."
+  annul : Key → Call
+  close : Call
+  clear : Call
+
+pub data Answer : Type 0 where
+  refused : ℕ → ℕ → Answer  -- number and hour: "Other fields of a refusal are 0"
+  done : Answer
+  numbered : ℕ → Answer  -- "takes and answers the next lodging number"
+  steps : ℕ → Answer  -- clearing "answers the step count"
+
+-- Refusals, in the table's order
+
+-- 2, gate: "a change after closing"
+unfoldable pub changeRow : Book → Row
+changeRow b = row 2 (b .closed)
+
+-- 6, unit: "unregistered"
+unfoldable pub unregistered : Book → ℕ → Bool
+unregistered b n = not (isRegistered (b .units) n)
+
+-- 6, unit, of a key: "unregistered, or domestic for an execution"
+unfoldable pub badHolder : Book → Key → Bool
+badHolder b k = unregistered b (k .unit) || domesticExecution k (unitOf (b .units) (k .unit) .unit)
+
+-- 8, second: "agent has that border (1 to 4) and side"
+unfoldable pub hasSeat : Book → TradingUnit → Bool
+hasSeat b u = any (λ r. sameSeat u (r .unit)) (b .units)
+
+-- 9, full: "64 units"
+unfoldable pub unitsFull : Book → Bool
+unitsFull b = leb 64 (length (b .units))
+
+-- 9, full: "128 lodgements and none of this key; 65,535 accepted"
+unfoldable pub full : Book → Key → Bool
+full b k = leb 128 (length (b .standing)) && not (stands (b .standing) k) || leb 65535 (b .last)
+
+unfoldable pub lodgeRows : Book → List ℕ → List Row
+lodgeRows b bytes =
+    let m = decode energyWidth bytes in
+    changeRow b
+    ∷ row 3 (badForm energyWidth bytes)
+    ∷ row 4 (badMap (m .map) || namesBeyond (hours b) (m .map))
+    ∷ row 5 (badFields m)
+    ∷ row 6 (badHolder b (keyOf m))
+    ∷ row 9 (full b (keyOf m))
+    ∷ limitRows (hours b) (m .energies) (judgedAt (b .standing) m)
+    (judgedBy (b .capacities) (unitOf (b .units) (m .unit)) (m .default))
+
+unfoldable pub rowsOf : Book → Call → List Row
+rowsOf b (register u) =
+    changeRow b ∷ row 5 (badUnit u) ∷ row 7 (isRegistered (b .units) (u .number)) ∷ row 8 (hasSeat b u) ∷ row 9 (unitsFull b) ∷ []
+rowsOf b (capacity cs) = changeRow b ∷ row 4 (any (notOfHours (hours b)) cs) ∷ row 5 (any badPublished cs) ∷ []
+rowsOf b (available n es) =
+    changeRow b ∷ row 4 (not (eqb (length es) (hours b))) ∷ row 5 (badNumber n || badEnergies es) ∷ row 6 (unregistered b n) ∷ []
+rowsOf b (lodge bytes) = lodgeRows b bytes
+rowsOf b (annul k) =
+    changeRow b ∷ row 5 (badKey k) ∷ row 6 (badHolder b k) ∷ row 13 (not (stands (b .standing) k)) ∷ []
+rowsOf b close = changeRow b ∷ []  -- "closing [..] twice"
+rowsOf b clear = row 2 (not (b .closed) || b .cleared) ∷ []  -- "clearing [..] before closing", "clearing twice"
+
+-- The book after an accepted call
+
+unfoldable pub withUnits : Book → List Registered → Book
+withUnits b us = record {
+  date = b .date;
+  units = us;
+  capacities = b .capacities;
+  standing = b .standing;
+  last = b .last;
+  closed = b .closed;
+  cleared = b .cleared;
+}
+
+unfoldable pub withCapacities : Book → Capacities → Book
+withCapacities b cs = record {
+  date = b .date;
+  units = b .units;
+  capacities = cs;
+  standing = b .standing;
+  last = b .last;
+  closed = b .closed;
+  cleared = b .cleared;
+}
+
+unfoldable pub withStanding : Book → List Lodgement → ℕ → Book
+withStanding b standing last = record {
+  date = b .date;
+  units = b .units;
+  capacities = b .capacities;
+  standing = standing;
+  last = last;
+  closed = b .closed;
+  cleared = b .cleared;
+}
+
+unfoldable pub withStage : Book → Bool → Bool → Book
+withStage b closed cleared = record {
+  date = b .date;
+  units = b .units;
+  capacities = b .capacities;
+  standing = b .standing;
+  last = b .last;
+  closed = closed;
+  cleared = cleared;
+}
+
+-- the notice of unit n put in the place of its earlier one
+unfoldable pub notify : ℕ → List ℕ → Registered → Registered
+notify n es r = record { unit = r .unit; available = cond (hasNumber n r) (some es) (r .available) }
+
+unfoldable pub entry : Fields → ℕ → Lodgement
+entry m n = record { key = keyOf m; number = n; energies = m .energies; prices = m .prices }
+
+-- "registering adds the unit; a notice replaces its earlier one; lodging drops any lodgement of its key, enters its own
+-- under the next number [..]; annulling drops the key's lodgement"
+unfoldable pub after1 : Book → Call → Book
+after1 b (register u) = withUnits b (b .units ++ (record { unit = u; available = none } ∷ []))
+after1 b (capacity cs) = withCapacities b cs
+after1 b (available n es) = withUnits b (map (notify n es) (b .units))
+after1 b (lodge bytes) =
+    let m = decode energyWidth bytes in
+    withStanding b (without (keyOf m) (b .standing) ++ (entry m (suc (b .last)) ∷ [])) (suc (b .last))
+after1 b (annul k) = withStanding b (without k (b .standing)) (b .last)
+after1 b close = withStage b true (b .cleared)
+after1 b clear = withStage b (b .closed) true
+
+-- lodging "answers that" number; clearing "answers the step count"
+unfoldable pub answer1 : Book → Call → Answer
+answer1 b (register u) = done
+answer1 b (capacity cs) = done
+answer1 b (available n es) = done
+answer1 b (lodge bytes) = numbered (suc (b .last))
+answer1 b (annul k) = done
+answer1 b close = done
+answer1 b clear = steps (daySteps b)
+
+pub record Turn : Type 0 where
+  pub book : Book
+  pub answer : Answer
+
+-- "A call that the table below refuses, judged on the book, gets that refusal and changes nothing there."
+unfoldable pub turned : Book → Call → Option Row → Turn
+turned b c none = record { book = after1 b c; answer = answer1 b c }
+turned b c (some r) = record { book = b; answer = refused (r .number) (r .hour) }
+
+-- one call
+unfoldable pub turn : Book → Call → Turn
+turn b c = turned b c (firstRow (rowsOf b c))
+
+-- "each call on the session the last one left": the book after a list of calls, and every answer
+unfoldable pub after : Book → List Call → Book
+after b [] = b
+after b (c ∷ cs) = after (turn b c .book) cs
+
+unfoldable pub answers : Book → List Call → List Answer
+answers b [] = []
+answers b (c ∷ cs) = turn b c .answer ∷ answers (turn b c .book) cs
+
+-- Opening
+
+-- "Beside a refused date stands the fresh session of 2002-01-01."
+unfoldable pub openedWith : Date → Option Row → Turn
+openedWith d none = record { book = fresh d; answer = done }
+openedWith d (some r) = record { book = fresh (record { year = 2002; month = 1; day = 1 }); answer = refused (r .number) (r .hour) }
+
+unfoldable pub opening : Date → Turn
+opening d = openedWith d (firstRow (dateRow d ∷ []))
+
+unfoldable pub DayBook·all : Unit {0}
+unfolding changeRow unregistered badHolder hasSeat unitsFull full lodgeRows rowsOf withUnits withCapacities withStanding withStage notify entry after1 answer1 turned turn after answers openedWith opening
+DayBook·all = tt

@@ -1,0 +1,9 @@
+ghost use mathlib.Core.Path.{_≡_};
+ghost use Rattle.rules.specs.Units.{maxEnergy};
+
+// The largest energy, in tenths of MWh (document 01, "Units and notices").
+pub fn energy_limit() -> u32
+    ensures { λ r. ⌜ r ≡ maxEnergy ⌝ }
+{
+    99_999
+}
