@@ -25,7 +25,7 @@ pub data Call : Type 0 where
   clear : Call
 
 pub data Answer : Type 0 where
-  refused : ℕ → ℕ → Answer  -- number and hour: "Other fields of a refusal are 0"
+  refusal : ℕ → ℕ → Answer  -- number and hour: "Other fields of a refusal are 0"
   done : Answer
   numbered : ℕ → Answer  -- "takes and answers the next lodging number"
   steps : ℕ → Answer  -- clearing "answers the step count"
@@ -135,26 +135,26 @@ entry m n = record { key = keyOf m; number = n; energies = m .energies; prices =
 
 -- "registering adds the unit; a notice replaces its earlier one; lodging drops any lodgement of its key, enters its own
 -- under the next number [..]; annulling drops the key's lodgement"
-unfoldable pub after1 : Book → Call → Book
-after1 b (register u) = withUnits b (b .units ++ (record { unit = u; available = none } ∷ []))
-after1 b (capacity cs) = withCapacities b cs
-after1 b (available n es) = withUnits b (map (notify n es) (b .units))
-after1 b (lodge bytes) =
+unfoldable pub applied : Book → Call → Book
+applied b (register u) = withUnits b (b .units ++ (record { unit = u; available = none } ∷ []))
+applied b (capacity cs) = withCapacities b cs
+applied b (available n es) = withUnits b (map (notify n es) (b .units))
+applied b (lodge bytes) =
     let m = decode energyWidth bytes in
     withStanding b (without (keyOf m) (b .standing) ++ (entry m (suc (b .last)) ∷ [])) (suc (b .last))
-after1 b (annul k) = withStanding b (without k (b .standing)) (b .last)
-after1 b close = withStage b true (b .cleared)
-after1 b clear = withStage b (b .closed) true
+applied b (annul k) = withStanding b (without k (b .standing)) (b .last)
+applied b close = withStage b true (b .cleared)
+applied b clear = withStage b (b .closed) true
 
 -- lodging "answers that" number; clearing "answers the step count"
-unfoldable pub answer1 : Book → Call → Answer
-answer1 b (register u) = done
-answer1 b (capacity cs) = done
-answer1 b (available n es) = done
-answer1 b (lodge bytes) = numbered (suc (b .last))
-answer1 b (annul k) = done
-answer1 b close = done
-answer1 b clear = steps (daySteps b)
+unfoldable pub reply : Book → Call → Answer
+reply b (register u) = done
+reply b (capacity cs) = done
+reply b (available n es) = done
+reply b (lodge bytes) = numbered (suc (b .last))
+reply b (annul k) = done
+reply b close = done
+reply b clear = steps (daySteps b)
 
 pub record Turn : Type 0 where
   pub book : Book
@@ -162,8 +162,8 @@ pub record Turn : Type 0 where
 
 -- "A call that the table below refuses, judged on the book, gets that refusal and changes nothing there."
 unfoldable pub turned : Book → Call → Option Row → Turn
-turned b c none = record { book = after1 b c; answer = answer1 b c }
-turned b c (some r) = record { book = b; answer = refused (r .number) (r .hour) }
+turned b c none = record { book = applied b c; answer = reply b c }
+turned b c (some r) = record { book = b; answer = refusal (r .number) (r .hour) }
 
 -- one call
 unfoldable pub turn : Book → Call → Turn
@@ -180,14 +180,14 @@ answers b (c ∷ cs) = turn b c .answer ∷ answers (turn b c .book) cs
 
 -- Opening
 
--- "Beside a refused date stands the fresh session of 2002-01-01."
+-- "Beside a refusal date stands the fresh session of 2002-01-01."
 unfoldable pub openedWith : Date → Option Row → Turn
 openedWith d none = record { book = fresh d; answer = done }
-openedWith d (some r) = record { book = fresh (record { year = 2002; month = 1; day = 1 }); answer = refused (r .number) (r .hour) }
+openedWith d (some r) = record { book = fresh (record { year = 2002; month = 1; day = 1 }); answer = refusal (r .number) (r .hour) }
 
 unfoldable pub opening : Date → Turn
 opening d = openedWith d (firstRow (dateRow d ∷ []))
 
 unfoldable pub DayBook·all : Unit {0}
-unfolding changeRow unregistered badHolder hasSeat unitsFull full lodgeRows rowsOf withUnits withCapacities withStanding withStage notify entry after1 answer1 turned turn after answers openedWith opening
+unfolding changeRow unregistered badHolder hasSeat unitsFull full lodgeRows rowsOf withUnits withCapacities withStanding withStage notify entry applied reply turned turn after answers openedWith opening
 DayBook·all = tt

@@ -17,12 +17,11 @@ use Rattle.rules.specs.Closing.{Closing·all}
 use Rattle.rules.specs.Share.{share, Share·all}
 use Rattle.rules.specs.Match.{Match·all}
 use Rattle.rules.specs.Borders.{marketBalance, executionBalance, Borders·all}
-use Rattle.rules.specs.Split.{Split·all}
-use Rattle.rules.specs.Split as Split
+use Rattle.rules.specs.Split.{marketMaximum, Split·all}
 use Rattle.rules.specs.Withdrawal.{Withdrawal·all}
 use Rattle.rules.specs.Executions.{Executions·all}
 use Rattle.rules.specs.Clearing.{figuresAt, Clearing·all}
-use Rattle.rules.specs.Queries.{Query, Shown, number, matched, executed, market, bilateral, marketMaximum, query, Queries·all}
+use Rattle.rules.specs.Queries.{Query, Shown, number, matched, executed, market, bilateral, marketMax, query, Queries·all}
 use Rattle.rules.specs.DayBook.{Call, Answer, Turn, register, capacity, lodge, close, clear, done, numbered, steps, after, answers, opening, DayBook·all}
 
 -- A figure: what the definitions give, and what document 01 states.
@@ -103,12 +102,12 @@ twelve =
     figure {A = Outcome (List ℕ) × Outcome Fields} (write 16 offer1, read bytes1) (given bytes1, given offer1)
     ∷ figure (map hoursAt (date 2006 10 29 ∷ date 2006 3 26 ∷ date 2006 6 1 ∷ [])) (given 25 ∷ given 23 ∷ given 24 ∷ [])
     ∷ figure (clockOf 25 3 ∷ clockOf 25 4 ∷ clockOf 23 3 ∷ []) (clock 2 false ∷ clock 2 true ∷ clock 3 false ∷ [])
-    ∷ figure (Split.marketMaximum 100 (pos 60) (pos 80) 0) 57
-    ∷ figure (Split.marketMaximum 100 (pos 60) (pos 80) 40) 64
-    ∷ figure (Split.marketMaximum 100 (negℤ (pos 30)) (pos 200) 0) 130
-    ∷ figure (Split.marketMaximum 100 (pos 0) (pos 0) 0) 100
-    ∷ figure (Split.marketMaximum 100 (pos 20) (pos 30) 0) 80
-    ∷ figure (Split.marketMaximum 100 (pos 60) (pos 150) 120) 100
+    ∷ figure (marketMaximum 100 (pos 60) (pos 80) 0) 57
+    ∷ figure (marketMaximum 100 (pos 60) (pos 80) 40) 64
+    ∷ figure (marketMaximum 100 (negℤ (pos 30)) (pos 200) 0) 130
+    ∷ figure (marketMaximum 100 (pos 0) (pos 0) 0) 100
+    ∷ figure (marketMaximum 100 (pos 20) (pos 30) 0) 80
+    ∷ figure (marketMaximum 100 (pos 60) (pos 150) 120) 100
     ∷ figure (share 10 (7 ∷ 7 ∷ 7 ∷ [])) (4 ∷ 3 ∷ 3 ∷ [])
     ∷ figure (dayOf (date 2006 6 1) (calls11 ++ (close ∷ clear ∷ [])) (matched 2 1 ∷ market 1 1 ∷ []))
     (record {
@@ -116,7 +115,7 @@ twelve =
       shown = energy 100 ∷ energy 100 ∷ [];
     })
     ∷ figure {A = Day × ℤ} (
-      dayOf (date 2006 6 1) calls12 (marketMaximum 1 true 1 ∷ executed 4 1 ∷ market 1 1 ∷ bilateral 1 1 ∷ []),
+      dayOf (date 2006 6 1) calls12 (marketMax 1 true 1 ∷ executed 4 1 ∷ market 1 1 ∷ bilateral 1 1 ∷ []),
       balancesSum (after (opening (date 2006 6 1) .book) calls12) 1 1,
     ) (
       record {

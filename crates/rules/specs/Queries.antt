@@ -21,7 +21,7 @@ pub data Query : Type 0 where
   executed : ℕ → ℕ → Query  -- of a unit in an hour
   market : ℕ → ℕ → Query  -- the final market balance of a border in an hour
   bilateral : ℕ → ℕ → Query  -- the final balance of its executions
-  marketMaximum : ℕ → Bool → ℕ → Query  -- of a border and direction (true for export) in an hour
+  marketMax : ℕ → Bool → ℕ → Query  -- of a border and direction (true for export) in an hour
   bilateralMax : ℕ → Bool → ℕ → Query
   price : ℕ → Query  -- of an hour
 
@@ -54,7 +54,7 @@ queryRows b (matched u h) = figureRows b h (unitRows b u)
 queryRows b (executed u h) = figureRows b h (unitRows b u)
 queryRows b (market border h) = figureRows b h (borderRows border)
 queryRows b (bilateral border h) = figureRows b h (borderRows border)
-queryRows b (marketMaximum border export h) = figureRows b h (borderRows border)
+queryRows b (marketMax border export h) = figureRows b h (borderRows border)
 queryRows b (bilateralMax border export h) = figureRows b h (borderRows border)
 queryRows b (price h) = figureRows b h []
 
@@ -80,7 +80,7 @@ shown b (matched u h) = number (pos (matchedAt b u h))
 shown b (executed u h) = number (pos (executedAt b u h))
 shown b (market border h) = number (marketBalance border (figuresAt b h .offers))
 shown b (bilateral border h) = number (executionBalance border (figuresAt b h .executions))
-shown b (marketMaximum border export h) = directedAt (λ m. pos (m .energy)) border export (figuresAt b h .maxima)
+shown b (marketMax border export h) = directedAt (λ m. pos (m .energy)) border export (figuresAt b h .maxima)
 shown b (bilateralMax border export h) =
     directedAt (bilateralMaximum (figuresAt b h .offers)) border export (capacitiesAt (b .capacities) h)
 shown b (price h) = number (pos (figuresAt b h .price))
