@@ -1,0 +1,137 @@
+-- Laws of lists: `All`, and what the definitions of specs/Lists.antt do.
+use Prim.Native.Nat.{ℕ, zero, suc, _+_, _-_, _≤_, _<_}
+use mathlib.Core.Path.{_≡_, refl, ap, ap₂, subst, _∙_}
+use mathlib.Core.Logic.{⊎-elim}
+use mathlib.Core.Bool.{Bool, true, false, not, false≢true}
+use mathlib.Core.List.{List, [], _∷_, _++_}
+use native.Mathlib.Omega.{arith}
+use native.Mathlib.Nat.{not-suc-le-zero, le-of-suc-le-suc, eq-or-lt-of-le}
+use lib.Dec.{eqb}
+use lib.ListN.{length, take, drop, getD, replicate, List·getD-eq-default}
+use borrow.Author.Tests.{eqb-true, not-false}
+use Rattle.rules.specs.Lists.{All, none, more, any, first, from, hourly}
+use Rattle.rules.proofs.BoolLaws.{by-bool, neither, of-neither}
+
+-- every number of the list is below n: `Under 2` is a list of bits, `Under 256` a list of bytes
+abbrev pub Under : ℕ → List ℕ → Type 0
+Under n xs = All (λ x. x < n) xs
+
+module _ {A : Type 0} {P : A → Type 0} where
+  -- what follows from what holds of each
+  pub all-map : {Q : A → Type 0} {xs : List A} → ((x : A) → P x → Q x) → All P xs → All Q xs
+  all-map f none = none
+  all-map f (more {x} h t) = more (f x h) (all-map f t)
+
+  -- what holds of both parts holds of the whole
+  pub all-append : {xs ys : List A} → All P xs → All P ys → All P (xs ++ ys)
+  all-append none k = k
+  all-append (more h t) k = more h (all-append t k)
+
+  -- what holds of all holds of the first n
+  pub all-take : (n : ℕ) {xs : List A} → All P xs → All P (take n xs)
+  all-take zero h = none
+  all-take (suc n) none = none
+  all-take (suc n) (more h t) = more h (all-take n t)
+
+  -- of those after the first n
+  pub all-drop : (n : ℕ) {xs : List A} → All P xs → All P (drop n xs)
+  all-drop zero h = h
+  all-drop (suc n) none = none
+  all-drop (suc n) (more h t) = all-drop n t
+
+  -- of the first
+  pub all-head : {x : A} {xs : List A} → All P (x ∷ xs) → P x
+  all-head (more h t) = h
+
+  -- of the others
+  pub all-tail : {x : A} {xs : List A} → All P (x ∷ xs) → All P xs
+  all-tail (more h t) = t
+
+  -- of n times an element of which it holds
+  pub all-replicate : (n : ℕ) (x : A) → P x → All P (replicate n x)
+  all-replicate zero x h = none
+  all-replicate (suc n) x h = more h (all-replicate n x h)
+
+  -- of the element at a place
+  pub all-at : {xs : List A} (i : ℕ) (d : A) → All P xs → i < length xs → P (getD xs i d)
+  all-at i d none h = absurd (not-suc-le-zero h)
+  all-at zero d (more p t) h = p
+  all-at (suc i) d (more p t) h = all-at i d t (le-of-suc-le-suc h)
+
+-- what holds of the element at each place holds of all
+pub all-of : {A : Type 0} {P : A → Type 0} (d : A) (xs : List A) → ((i : ℕ) → i < length xs → P (getD xs i d)) → All P xs
+all-of d [] h = none
+all-of d (x ∷ xs) h = more (h 0 (omega arith)) (all-of d xs (λ i k. h (suc i) (omega arith)))
+
+-- zeros beyond the end change no element
+pub getD-pad : (xs : List ℕ) (n i : ℕ) → getD (xs ++ replicate n 0) i 0 ≡ getD xs i 0
+getD-pad [] zero i = refl
+getD-pad [] (suc n) zero = refl
+getD-pad [] (suc n) (suc i) = getD-pad [] n i
+getD-pad (x ∷ xs) n zero = refl
+getD-pad (x ∷ xs) n (suc i) = getD-pad xs n i
+
+-- the first k of n equal elements
+pub take-replicate : {A : Type 0} (k n : ℕ) (x : A) → k ≤ n → take k (replicate n x) ≡ replicate k x
+take-replicate zero n x h = refl
+take-replicate (suc k) zero x h = absurd (not-suc-le-zero h)
+take-replicate (suc k) (suc n) x h = ap {B = List _} (λ l. x ∷ l) (take-replicate k n x (le-of-suc-le-suc h))
+
+-- Tests
+
+module _ {A : Type 0} (p : A → Bool) where
+  -- none passes: each fails
+  pub any-false : (xs : List A) → any p xs ≡ false → All (λ x. p x ≡ false) xs
+  unfolding any
+  any-false [] h = none
+  any-false (x ∷ xs) h = let k = neither (p x) (any p xs) h in more (k .0) (any-false xs (k .1))
+
+  -- and the other way
+  pub of-any-false : {xs : List A} → All (λ x. p x ≡ false) xs → any p xs ≡ false
+  unfolding any
+  of-any-false none = refl
+  of-any-false (more h t) = of-neither h (of-any-false t)
+
+  -- where one passes, the first does
+  pub first-passes : (d : A) (xs : List A) → any p xs ≡ true → p (first p d xs) ≡ true
+  unfolding any first
+  first-passes d [] h = absurd (false≢true h)
+  first-passes d (x ∷ xs) h = by-bool (p x) (λ e. rw (e, first) e) (λ e. rw e (first-passes d xs (rw e at h)))
+
+  -- where none passes, it is the default
+  pub first-none : (d : A) (xs : List A) → any p xs ≡ false → first p d xs ≡ d
+  unfolding any first
+  first-none d [] h = refl
+  first-none d (x ∷ xs) h = let k = neither (p x) (any p xs) h in rw (k .0) (first-none d xs (k .1))
+
+-- numbers of which none differs from 0 are zeros
+pub all-zero : (xs : List ℕ) → any (λ x. not (eqb x 0)) xs ≡ false → xs ≡ replicate (length xs) 0
+unfolding any
+all-zero [] h = refl
+all-zero (x ∷ xs) h =
+    let k = neither _ _ h in
+    ap₂ (λ y l. y ∷ l) (eqb-true x 0 (not-false _ (k .0))) (all-zero xs (k .1))
+
+-- and the other way
+pub of-all-zero : (n : ℕ) → any (λ x. not (eqb x 0)) (replicate n 0) ≡ false
+unfolding any
+of-all-zero zero = refl
+of-all-zero (suc n) = of-all-zero n
+
+-- Numbers in a row, and hours
+
+-- what holds of n numbers from i on holds of each
+pub all-from : {P : ℕ → Type 0} (i n h : ℕ) → All P (from i n) → i ≤ h → h < i + n → P h
+unfolding from
+all-from i zero h t l u = absurd (omega arith)
+all-from {P} i (suc n) h (more p t) l u =
+    ⊎-elim (λ e. subst P e p) (λ k. all-from (suc i) n h t k (omega arith)) (eq-or-lt-of-le l)
+
+-- hour i + 1 is at place i
+pub hourly-suc : (xs : List ℕ) (i : ℕ) → hourly xs (suc i) ≡ getD xs i 0
+unfolding hourly
+hourly-suc xs i = let e : suc i - 1 ≡ i = omega arith in rw e
+
+-- and hours beyond the list have 0
+pub hourly-beyond : (xs : List ℕ) (i : ℕ) → length xs ≤ i → hourly xs (suc i) ≡ 0
+hourly-beyond xs i h = hourly-suc xs i ∙ List·getD-eq-default xs 0 h
