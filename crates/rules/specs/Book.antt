@@ -1,8 +1,8 @@
 -- "Day book": what it keeps.
 use Prim.Native.Nat.{ℕ}
-use mathlib.Core.Bool.{Bool, true, false}
+use mathlib.Core.Bool.{Bool, false}
 use mathlib.Core.List.{List, []}
-use mathlib.Core.Option.{Option, some, none}
+use mathlib.Core.Option.{none}
 use lib.ListN.{replicate}
 use Rattle.rules.specs.Hours.{Date, hoursOf}
 use Rattle.rules.specs.Units.{Registered, Capacities}

@@ -1,9 +1,9 @@
 -- "Clearing, hour by hour": one hour, and the day.
-use Prim.Native.Nat.{ℕ, zero, suc, _+_, _*_, _-_, _/_, _%_}
-use mathlib.Core.Bool.{Bool, true, false, cond, not, _&&_}
+use Prim.Native.Nat.{ℕ}
+use mathlib.Core.Bool.{Bool, true, false, not}
 use mathlib.Core.List.{List, [], _∷_, _++_, map}
-use mathlib.Core.Option.{Option, some, none}
-use lib.Dec.{leb, ltb, eqb}
+use mathlib.Core.Option.{some, none}
+use lib.Dec.{ltb}
 use Rattle.rules.specs.Lists.{keep, sumOf, from, hourly}
 use Rattle.rules.specs.Units.{Registered, Published, Capacities, capacityOf, unitOf}
 use Rattle.rules.specs.Lodging.{Lodgement, energyAt}
@@ -12,7 +12,7 @@ use Rattle.rules.specs.Closing.{acceptedAt}
 use Rattle.rules.specs.Match.{Holder, Offer, matchAll, hourPrice}
 use Rattle.rules.specs.Borders.{Directed, Execution}
 use Rattle.rules.specs.Split.{maximumOf}
-use Rattle.rules.specs.Withdrawal.{Withdrawn, withdraw}
+use Rattle.rules.specs.Withdrawal.{withdraw}
 use Rattle.rules.specs.Executions.{cutAll}
 
 -- What an hour is cleared from: the published capacities, the accepted offers and executions, by rising lodging number.
@@ -57,7 +57,7 @@ offerAt us h l = record { holder = holderOf us l; price = hourly (l .prices) h; 
 unfoldable pub executionAt : List Registered → ℕ → Lodgement → Execution
 executionAt us h l = record { holder = holderOf us l; energy = energyAt l h }
 
--- a direction's capacity in an hour, "absent means no maximum"
+-- a direction's capacity in an hour. "Absent means no maximum"
 unfoldable pub published : ℕ → ℕ → Bool → Published → List Directed
 published h border export none = []
 published h border export (some es) = record { border = border; export = export; energy = hourly es h } ∷ []

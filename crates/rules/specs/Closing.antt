@@ -1,16 +1,16 @@
 -- "Closing": the order in which lodgements are taken, and each one's verdict.
-use Prim.Native.Nat.{ℕ, zero, suc, _+_, _-_}
-use mathlib.Core.Bool.{Bool, true, false, cond, not, _&&_, _||_}
+use Prim.Native.Nat.{ℕ, _+_}
+use mathlib.Core.Bool.{Bool, true, false, cond, not, _&&_}
 use mathlib.Core.List.{List, [], _∷_, _++_, map, reverse}
 use mathlib.Core.Option.{Option, some, none}
-use lib.Dec.{leb, ltb, eqb}
+use lib.Dec.{eqb}
 use Rattle.rules.specs.Lists.{keep, sumOf}
 use Rattle.rules.specs.Refusals.{Row, firstRow}
 use Rattle.rules.specs.Units.{limits, unitOf}
-use Rattle.rules.specs.Lodging.{Key, Lodgement, energyAt, isHidden, unhidden, limitRows}
+use Rattle.rules.specs.Lodging.{Lodgement, energyAt, unhidden, limitRows}
 use Rattle.rules.specs.Book.{Book, hours}
 
--- "a lodging number's verdict (accepted, hidden, or the limit's number and hour)"
+-- "a lodging number's verdict (accepted, hidden, or the limit's number and hour, chosen as below)"
 pub data Verdict : Type 0 where
   accepted : Verdict
   hidden : Verdict

@@ -1,14 +1,14 @@
 -- "Day book": calls, their refusals in the table's order, and what an accepted call does.
-use Prim.Native.Nat.{ℕ, zero, suc, _+_}
-use mathlib.Core.Bool.{Bool, true, false, cond, not, _&&_, _||_}
+use Prim.Native.Nat.{ℕ, suc}
+use mathlib.Core.Bool.{Bool, true, cond, not, _&&_, _||_}
 use mathlib.Core.List.{List, [], _∷_, _++_, map}
 use mathlib.Core.Option.{Option, some, none}
-use lib.Dec.{leb, ltb, eqb}
+use lib.Dec.{leb, eqb}
 use lib.ListN.{length}
-use Rattle.rules.specs.Lists.{keep, any}
+use Rattle.rules.specs.Lists.{any}
 use Rattle.rules.specs.Refusals.{Row, row, firstRow}
-use Rattle.rules.specs.Hours.{Date, isDate, dateRow}
-use Rattle.rules.specs.Units.{TradingUnit, Registered, Capacities, badUnit, badNumber, badEnergies, badPublished, notOfHours, sameSeat, hasNumber, isRegistered, unitOf}
+use Rattle.rules.specs.Hours.{Date, dateRow}
+use Rattle.rules.specs.Units.{TradingUnit, Registered, Capacities, badUnit, badNumber, badEnergies, badPublished, notOfHours, sameBorderSide, hasNumber, isRegistered, unitOf}
 use Rattle.rules.specs.Message.{Fields, energyWidth, decode, badForm, badMap, badFields}
 use Rattle.rules.specs.Lodging.{Key, Lodgement, keyOf, stands, without, judgedAt, judgedBy, limitRows, namesBeyond, domesticExecution, badKey}
 use Rattle.rules.specs.Book.{Book, hours, fresh}
@@ -45,8 +45,8 @@ unfoldable pub badHolder : Book → Key → Bool
 badHolder b k = unregistered b (k .unit) || domesticExecution k (unitOf (b .units) (k .unit) .unit)
 
 -- 8, second: "agent has that border (1 to 4) and side"
-unfoldable pub hasSeat : Book → TradingUnit → Bool
-hasSeat b u = any (λ r. sameSeat u (r .unit)) (b .units)
+unfoldable pub isSecond : Book → TradingUnit → Bool
+isSecond b u = any (λ r. sameBorderSide u (r .unit)) (b .units)
 
 -- 9, full: "64 units"
 unfoldable pub unitsFull : Book → Bool
@@ -54,7 +54,7 @@ unitsFull b = leb 64 (length (b .units))
 
 -- 9, full: "128 lodgements and none of this key; 65,535 accepted"
 unfoldable pub full : Book → Key → Bool
-full b k = leb 128 (length (b .standing)) && not (stands (b .standing) k) || leb 65535 (b .last)
+full b k = (leb 128 (length (b .standing)) && not (stands (b .standing) k)) || leb 65535 (b .last)
 
 unfoldable pub lodgeRows : Book → List ℕ → List Row
 lodgeRows b bytes =
@@ -70,7 +70,7 @@ lodgeRows b bytes =
 
 unfoldable pub rowsOf : Book → Call → List Row
 rowsOf b (register u) =
-    changeRow b ∷ row 5 (badUnit u) ∷ row 7 (isRegistered (b .units) (u .number)) ∷ row 8 (hasSeat b u) ∷ row 9 (unitsFull b) ∷ []
+    changeRow b ∷ row 5 (badUnit u) ∷ row 7 (isRegistered (b .units) (u .number)) ∷ row 8 (isSecond b u) ∷ row 9 (unitsFull b) ∷ []
 rowsOf b (capacity cs) = changeRow b ∷ row 4 (any (notOfHours (hours b)) cs) ∷ row 5 (any badPublished cs) ∷ []
 rowsOf b (available n es) =
     changeRow b ∷ row 4 (not (eqb (length es) (hours b))) ∷ row 5 (badNumber n || badEnergies es) ∷ row 6 (unregistered b n) ∷ []
@@ -180,7 +180,7 @@ answers b (c ∷ cs) = turn b c .answer ∷ answers (turn b c .book) cs
 
 -- Opening
 
--- "Beside a refusal date stands the fresh session of 2002-01-01."
+-- "Beside a refused date stands the fresh session of 2002-01-01."
 unfoldable pub openedWith : Date → Option Row → Turn
 openedWith d none = record { book = fresh d; answer = done }
 openedWith d (some r) = record { book = fresh (record { year = 2002; month = 1; day = 1 }); answer = refusal (r .number) (r .hour) }
@@ -189,5 +189,5 @@ unfoldable pub opening : Date → Turn
 opening d = openedWith d (firstRow (dateRow d ∷ []))
 
 unfoldable pub DayBook·all : Unit {0}
-unfolding changeRow unregistered badHolder hasSeat unitsFull full lodgeRows rowsOf withUnits withCapacities withStanding withStage notify entry applied reply turned turn after answers openedWith opening
+unfolding changeRow unregistered badHolder isSecond unitsFull full lodgeRows rowsOf withUnits withCapacities withStanding withStage notify entry applied reply turned turn after answers openedWith opening
 DayBook·all = tt

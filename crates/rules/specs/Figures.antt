@@ -1,9 +1,9 @@
 -- "Figures to hold against the rules": the twelve, of the definitions together, as one list under one theorem.
-use Prim.Native.Nat.{ℕ, zero, suc, _+_}
+use Prim.Native.Nat.{ℕ}
 use mathlib.Core.Path.{_≡_, refl}
 use mathlib.Core.Bool.{Bool, true, false}
 use mathlib.Core.List.{List, [], _∷_, _++_, map}
-use mathlib.Core.Option.{Option, some, none}
+use mathlib.Core.Option.{some, none}
 use lib.ListN.{replicate}
 use lib.IntN.{ℤ, pos, negℤ, _+ℤ_}
 use Rattle.rules.specs.Lists.{Lists·all}
@@ -22,7 +22,7 @@ use Rattle.rules.specs.Withdrawal.{Withdrawal·all}
 use Rattle.rules.specs.Executions.{Executions·all}
 use Rattle.rules.specs.Clearing.{figuresAt, Clearing·all}
 use Rattle.rules.specs.Queries.{Query, Shown, number, matched, executed, market, bilateral, marketMax, query, Queries·all}
-use Rattle.rules.specs.DayBook.{Call, Answer, Turn, register, capacity, lodge, close, clear, done, numbered, steps, after, answers, opening, DayBook·all}
+use Rattle.rules.specs.DayBook.{Call, Answer, register, capacity, lodge, close, clear, done, numbered, steps, after, answers, opening, DayBook·all}
 
 -- A figure: what the definitions give, and what document 01 states.
 pub record Figure : Type 1 where

@@ -1,7 +1,7 @@
 -- "Hours of the day": dates, the number of hours of a day, clock names.
 use Prim.Native.Nat.{ℕ, zero, suc, _+_, _*_, _-_, _/_, _%_}
-use mathlib.Core.Bool.{Bool, true, false, cond, not, _&&_, _||_, Bool·beq}
-use mathlib.Core.List.{List, [], _∷_}
+use mathlib.Core.Bool.{Bool, cond, not, _&&_, _||_, Bool·beq}
+use mathlib.Core.List.{[], _∷_}
 use lib.Dec.{leb, ltb, eqb}
 use Rattle.rules.specs.Lists.{lowest}
 use Rattle.rules.specs.Refusals.{Row, row, Outcome, outcome}
@@ -13,7 +13,7 @@ pub record Date : Type 0 where
 
 -- "Gregorian": a leap year is a multiple of 4, but of centuries only each fourth
 unfoldable pub leap : ℕ → Bool
-leap y = eqb (y % 4) 0 && not (eqb (y % 100) 0) || eqb (y % 400) 0
+leap y = (eqb (y % 4) 0 && not (eqb (y % 100) 0)) || eqb (y % 400) 0
 
 unfoldable pub daysOfMonth : ℕ → ℕ → ℕ
 daysOfMonth y m =
@@ -60,7 +60,7 @@ clockName H h =
     (cond (eqb H 25) (cond (leb h 3) (h - 1) (h - 2))
     (h - 1))
 
--- "Hours 3 and 4 of a 25-hour day are both named 2, the first unmarked, the second marked"
+-- "Hours 3 and 4 of a 25-hour day are both named 2, the first unmarked, the second marked "second"."
 unfoldable pub clockOf : ℕ → ℕ → Clock
 clockOf H h = record { name = clockName H h; second = eqb H 25 && eqb h 4 }
 

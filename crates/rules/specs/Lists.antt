@@ -1,6 +1,6 @@
--- Lists, as the rules' sentences use them. No word of the market.
+-- Lists, as the rules' sentences use them.
 use Prim.Native.Nat.{ℕ, zero, suc, _+_, _-_, _/_}
-use mathlib.Core.Bool.{Bool, true, false, cond, _||_}
+use mathlib.Core.Bool.{Bool, false, cond, _||_}
 use mathlib.Core.List.{List, [], _∷_, map}
 use lib.ListN.{getD}
 
@@ -39,7 +39,7 @@ from i (suc n) = i ∷ from (suc i) n
 unfoldable pub lowest : (ℕ → Bool) → ℕ → ℕ
 lowest p n = first p 0 (from 1 n)
 
--- the energy or price of hour h, hours counted from 1
+-- what a list has for hour h, hours counted from 1
 unfoldable pub hourly : List ℕ → ℕ → ℕ
 hourly es h = getD es (h - 1) 0
 

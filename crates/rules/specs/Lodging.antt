@@ -1,9 +1,8 @@
 -- "Lodging and annulling": keys, standing lodgements, hiding, and what a lodgement is judged by.
-use Prim.Native.Nat.{ℕ, zero, suc, _+_, _-_}
+use Prim.Native.Nat.{ℕ, _+_}
 use mathlib.Core.Bool.{Bool, true, false, cond, not, _&&_, _||_, Bool·beq}
 use mathlib.Core.List.{List, [], _∷_, map}
-use lib.Dec.{leb, ltb, eqb}
-use lib.ListN.{length}
+use lib.Dec.{ltb, eqb}
 use Rattle.rules.specs.Lists.{keep, any, sumOf, from, hourly}
 use Rattle.rules.specs.Refusals.{Row, limitRow}
 use Rattle.rules.specs.Units.{TradingUnit, Registered, Limit, Capacities, limits, maximumLimit, passes, badNumber, domestic}

@@ -1,6 +1,6 @@
 -- "Match": an hour's offers laid out one tenth of MWh at a time.
-use Prim.Native.Nat.{ℕ, zero, suc, _+_, _-_}
-use mathlib.Core.Bool.{Bool, true, false, cond, not, _&&_, _||_, Bool·beq}
+use Prim.Native.Nat.{ℕ, zero, suc, _+_}
+use mathlib.Core.Bool.{Bool, true, false, cond, _&&_, _||_, Bool·beq}
 use mathlib.Core.List.{List, [], _∷_, _++_, map}
 use lib.Dec.{leb, ltb, eqb}
 use lib.ListN.{take, getD, replicate}
@@ -24,13 +24,14 @@ pub record Offer : Type 0 where
 unfoldable pub withEnergies : ℕ → ℕ → Offer → Offer
 withEnergies offered matched o = record { holder = o .holder; price = o .price; offered = offered; matched = matched }
 
--- "sales by rising price, purchases by falling price, equal prices by lower lodging number": a stands before b
-unfoldable pub cheaper : Bool → Offer → Offer → Bool
-cheaper false a b = ltb (a .price) (b .price)
-cheaper true a b = ltb (b .price) (a .price)
+-- "sales by rising price, purchases by falling price": a's price goes before b's; `side` is true for purchases
+unfoldable pub betterPrice : Bool → Offer → Offer → Bool
+betterPrice false a b = ltb (a .price) (b .price)
+betterPrice true a b = ltb (b .price) (a .price)
 
+-- "equal prices by lower lodging number": a stands before b
 unfoldable pub standsBefore : Bool → Offer → Offer → Bool
-standsBefore side a b = cheaper side a b || eqb (a .price) (b .price) && ltb (a .holder .number) (b .holder .number)
+standsBefore side a b = betterPrice side a b || (eqb (a .price) (b .price) && ltb (a .holder .number) (b .holder .number))
 
 unfoldable pub insertBy : (Offer → Offer → Bool) → Offer → List Offer → List Offer
 insertBy f o [] = o ∷ []
@@ -93,5 +94,5 @@ unfoldable pub hourPrice : List Offer → ℕ
 hourPrice os = placePrice (volume os) (places false os)
 
 unfoldable pub Match·all : Unit {0}
-unfolding withEnergies cheaper standsBefore insertBy sortBy ordered layOut places meeting volume placesOf matchedOf matchAll placePrice hourPrice
+unfolding withEnergies betterPrice standsBefore insertBy sortBy ordered layOut places meeting volume placesOf matchedOf matchAll placePrice hourPrice
 Match·all = tt

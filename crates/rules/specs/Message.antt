@@ -1,12 +1,12 @@
 -- "The lodging message": its fields, its bits and bytes, reading and writing.
 -- Bits are lists of 0 and 1, most significant first. The codec is stated over the width w of an energy; form 1 has 17.
-use Prim.Native.Nat.{ℕ, zero, suc, _+_, _*_, _-_, _/_, _%_, _^_}
-use mathlib.Core.Bool.{Bool, true, false, cond, not, _&&_, _||_}
+use Prim.Native.Nat.{ℕ, zero, suc, _+_, _*_, _/_, _%_, _^_}
+use mathlib.Core.Bool.{Bool, true, false, cond, not, _||_}
 use mathlib.Core.List.{List, [], _∷_, _++_}
 use lib.Dec.{leb, ltb, eqb}
 use lib.ListN.{length, take, drop, replicate}
 use Rattle.rules.specs.Lists.{any, sum, from, hourly, roundUp}
-use Rattle.rules.specs.Refusals.{Row, row, Outcome, outcome}
+use Rattle.rules.specs.Refusals.{Row, row, Outcome, refused, given, outcome}
 use Rattle.rules.specs.Units.{maxEnergy, maxPrice, badNumber}
 
 -- What a message says. Energies and prices are by hour, 25 of each.
@@ -212,6 +212,11 @@ writeRows room m = row 4 (badMap (m .map)) ∷ row 5 (badFields m) ∷ row 14 (l
 unfoldable pub write : ℕ → Fields → Outcome (List ℕ)
 write room m = outcome (writeRows room m) (encode energyWidth m)
 
+-- what the buffer then holds: the bytes and, "beyond them", what it held; where writing is refused, all that it held
+unfoldable pub bufferAfter : Outcome (List ℕ) → List ℕ → List ℕ
+bufferAfter (given bytes) old = bytes ++ drop (length bytes) old
+bufferAfter (refused n h) old = old
+
 unfoldable pub Message·all : Unit {0}
-unfolding priceWidth bits value field bitsOf groups bytesOf bit hourBits names setBits slotWidth lengthFor headBits slot slots messageBits encode readSlots isExecution mapOf fieldsOf decode badFilling badForm badMap badContract topPrice badHour badFields readRows read messageLength writeRows write
+unfolding priceWidth bits value field bitsOf groups bytesOf bit hourBits names setBits slotWidth lengthFor headBits slot slots messageBits encode readSlots isExecution mapOf fieldsOf decode badFilling badForm badMap badContract topPrice badHour badFields readRows read messageLength writeRows write bufferAfter
 Message·all = tt

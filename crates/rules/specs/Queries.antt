@@ -1,9 +1,8 @@
 -- "Queries": verdicts after closing, figures after clearing, and their refusals.
-use Prim.Native.Nat.{ℕ, zero, suc, _+_}
-use mathlib.Core.Bool.{Bool, true, false, cond, not, _&&_, _||_, Bool·beq}
-use mathlib.Core.List.{List, [], _∷_, map}
-use mathlib.Core.Option.{Option, some, none}
-use lib.Dec.{leb, ltb, eqb}
+use Prim.Native.Nat.{ℕ}
+use mathlib.Core.Bool.{Bool, cond, not, _&&_, _||_, Bool·beq}
+use mathlib.Core.List.{List, [], _∷_}
+use lib.Dec.{ltb, eqb}
 use lib.IntN.{ℤ, pos}
 use Rattle.rules.specs.Lists.{keep, any, sumOf}
 use Rattle.rules.specs.Refusals.{Row, row, Outcome, outcome}
@@ -13,7 +12,7 @@ use Rattle.rules.specs.Book.{Book, hours}
 use Rattle.rules.specs.Closing.{Verdict, judgements, verdictAmong}
 use Rattle.rules.specs.Borders.{Directed, marketBalance, executionBalance}
 use Rattle.rules.specs.Executions.{bilateralMaximum}
-use Rattle.rules.specs.Clearing.{Figures, figuresAt, capacitiesAt}
+use Rattle.rules.specs.Clearing.{figuresAt, capacitiesAt}
 
 pub data Query : Type 0 where
   verdict : ℕ → Query  -- of a lodging number
@@ -33,7 +32,7 @@ pub data Shown : Type 0 where
 
 -- Refusals, in the table's order
 
--- 2, gate: "a verdict before closing; a figure before clearing"; 4, hour: "hour outside 1 to H"
+-- 2, gate: "a figure before clearing"; 4, hour: "hour outside 1 to H"
 unfoldable pub figureRows : Book → ℕ → List Row → List Row
 figureRows b h rows = row 2 (not (b .cleared)) ∷ row 4 (notAnHour (hours b) h) ∷ rows
 
@@ -48,6 +47,7 @@ borderRows border = row 5 (eqb border 0 || ltb 4 border) ∷ []
 unfoldable pub isStanding : Book → ℕ → Bool
 isStanding b n = any (λ l. eqb (l .number) n) (b .standing)
 
+-- of a verdict 2, gate: "a verdict before closing"; 13, absent: "lodging number (0 too) not standing at closing"
 unfoldable pub queryRows : Book → Query → List Row
 queryRows b (verdict n) = row 2 (not (b .closed)) ∷ row 13 (not (isStanding b n)) ∷ []
 queryRows b (matched u h) = figureRows b h (unitRows b u)

@@ -1,20 +1,20 @@
 -- "Split": the market maximum of a border's direction, after the first match. ("Split" is document 01's term.)
-use Prim.Native.Nat.{ℕ, zero, suc, _+_, _*_, _-_, _/_, min}
-use mathlib.Core.Bool.{Bool, true, false, cond}
-use mathlib.Core.List.{List, [], _∷_, map}
+use Prim.Native.Nat.{ℕ, _+_, _*_, _-_, min}
+use mathlib.Core.Bool.{Bool, cond}
+use mathlib.Core.List.{List}
 use lib.Dec.{ltb}
-use lib.IntN.{ℤ, pos, negsuc, negℤ}
+use lib.IntN.{ℤ, negℤ}
 use Rattle.rules.specs.Lists.{keep, roundUp}
-use Rattle.rules.specs.Match.{Holder, Offer}
+use Rattle.rules.specs.Match.{Offer}
 use Rattle.rules.specs.Borders.{Directed, Execution, flow, marketBalance, executionBalance, toward, positive}
 
 -- "a = E + max(−B, 0)"
-unfoldable pub room : ℕ → ℤ → ℕ
-room E B = E + positive (negℤ B)
+unfoldable pub netCapacity : ℕ → ℤ → ℕ
+netCapacity E B = E + positive (negℤ B)
 
 -- "d = max(max(M, 0) − L, 0) + max(B, 0)"
-unfoldable pub demand : ℤ → ℤ → ℕ → ℕ
-demand B M L = (positive M - L) + positive B
+unfoldable pub claims : ℤ → ℤ → ℕ → ℕ
+claims B M L = (positive M - L) + positive B
 
 -- "t = B × min(s, d) / d rounded up, and 0 when B ≤ 0"
 unfoldable pub bilateralPart : ℤ → ℕ → ℕ → ℕ
@@ -23,8 +23,8 @@ bilateralPart B s d = cond (ltb 0 (positive B)) (roundUp (positive B * min s d) 
 -- "Market export maximum: a − t", with "s = max(a − L, 0)". (Subtraction stops at 0; t is never above s.)
 unfoldable pub marketMaximum : ℕ → ℤ → ℤ → ℕ → ℕ
 marketMaximum E B M L =
-    let a = room E B in
-    a - bilateralPart B (a - L) (demand B M L)
+    let a = netCapacity E B in
+    a - bilateralPart B (a - L) (claims B M L)
 
 -- "L matched legacy exports", or imports
 unfoldable pub legacyFlow : ℕ → Bool → List Offer → ℕ
@@ -41,5 +41,5 @@ maximumOf os xs c = record {
 }
 
 unfoldable pub Split·all : Unit {0}
-unfolding room demand bilateralPart marketMaximum legacyFlow maximumOf
+unfolding netCapacity claims bilateralPart marketMaximum legacyFlow maximumOf
 Split·all = tt

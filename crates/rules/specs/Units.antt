@@ -1,9 +1,9 @@
 -- "Units and notices": units, capacity and unavailability notices, the limits and the ceiling.
-use Prim.Native.Nat.{ℕ, zero, suc, _+_, _*_, _-_, min}
+use Prim.Native.Nat.{ℕ, _+_, _*_, _-_, min}
 use mathlib.Core.Bool.{Bool, true, false, cond, not, _&&_, _||_, Bool·beq}
 use mathlib.Core.List.{List, [], _∷_, map}
 use mathlib.Core.Option.{Option, some, none}
-use lib.Dec.{leb, ltb, eqb}
+use lib.Dec.{ltb, eqb}
 use lib.ListN.{length, getD}
 use Rattle.rules.specs.Lists.{any, first, hourly}
 
@@ -35,11 +35,11 @@ domestic u = eqb (u .border) 0
 unfoldable pub badUnit : TradingUnit → Bool
 badUnit u =
     badNumber (u .number) || badNumber (u .agent) || ltb 4 (u .border) || ltb maxEnergy (u .maximum)
-    || u .legacy && domestic u
+    || (u .legacy && domestic u)
 
 -- "An agent has one unit per border 1 to 4 and side (001); domestic units are not so limited."
-unfoldable pub sameSeat : TradingUnit → TradingUnit → Bool
-sameSeat u v =
+unfoldable pub sameBorderSide : TradingUnit → TradingUnit → Bool
+sameBorderSide u v =
     not (domestic u) && eqb (u .agent) (v .agent) && eqb (u .border) (v .border) && Bool·beq (u .purchase) (v .purchase)
 
 -- "each is absent, or H energies": one direction of a capacity notice, by hour
@@ -136,5 +136,5 @@ unfoldable pub isRegistered : List Registered → ℕ → Bool
 isRegistered us n = any (hasNumber n) us
 
 unfoldable pub Units·all : Unit {0}
-unfolding badNumber domestic badUnit sameSeat direction capacityOf notOfHours badEnergies badPublished availableAt bothAt borderSum maximumLimit limits passes leastOf ceiling hasNumber unitOf isRegistered
+unfolding badNumber domestic badUnit sameBorderSide direction capacityOf notOfHours badEnergies badPublished availableAt bothAt borderSum maximumLimit limits passes leastOf ceiling hasNumber unitOf isRegistered
 Units·all = tt

@@ -1,13 +1,13 @@
 -- "Withdrawal step", and its repetition.
-use Prim.Native.Nat.{ℕ, zero, suc, _+_, _*_, _-_, min, max}
-use mathlib.Core.Bool.{Bool, true, false, cond, not, _&&_, _||_, Bool·beq}
+use Prim.Native.Nat.{ℕ, zero, suc, _-_, min, max}
+use mathlib.Core.Bool.{Bool, true, false, cond, not, _&&_, Bool·beq}
 use mathlib.Core.List.{List, [], _∷_, map}
 use mathlib.Core.Option.{Option, some, none}
 use lib.Dec.{leb, ltb, eqb}
-use lib.IntN.{ℤ, pos, _-ℤ_}
+use lib.IntN.{pos, _-ℤ_}
 use Rattle.rules.specs.Lists.{keep, any, sum, sumOf, addEach}
 use Rattle.rules.specs.Share.{share}
-use Rattle.rules.specs.Match.{Holder, Offer, withEnergies, matchAll}
+use Rattle.rules.specs.Match.{Offer, withEnergies, matchAll}
 use Rattle.rules.specs.Borders.{Directed, runs, marketBalance, toward, positive}
 
 -- how far a market balance passes its maximum, 0 where it does not: "the overrun being the excess"
