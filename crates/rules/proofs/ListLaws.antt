@@ -2,14 +2,14 @@
 use Prim.Native.Nat.{ℕ, zero, suc, _+_, _-_, _≤_, _<_}
 use mathlib.Core.Path.{_≡_, refl, ap, ap₂, subst, _∙_}
 use mathlib.Core.Logic.{⊎-elim}
-use mathlib.Core.Bool.{Bool, true, false, not, false≢true}
-use mathlib.Core.List.{List, [], _∷_, _++_}
+use mathlib.Core.Bool.{Bool, true, false, cond, not, false≢true}
+use mathlib.Core.List.{List, [], _∷_, _++_, map}
 use native.Mathlib.Omega.{arith}
 use native.Mathlib.Nat.{not-suc-le-zero, le-of-suc-le-suc, eq-or-lt-of-le}
 use lib.Dec.{eqb}
 use lib.ListN.{length, take, drop, getD, replicate, List·getD-eq-default}
 use borrow.Author.Tests.{eqb-true, not-false}
-use Rattle.rules.specs.Lists.{All, none, more, any, first, from, hourly}
+use Rattle.rules.specs.Lists.{All, none, more, keep, any, first, from, hourly}
 use Rattle.rules.proofs.BoolLaws.{by-bool, neither, of-neither}
 
 -- every number of the list is below n: `Under 2` is a list of bits, `Under 256` a list of bytes
@@ -57,6 +57,33 @@ module _ {A : Type 0} {P : A → Type 0} where
   all-at i d none h = absurd (not-suc-le-zero h)
   all-at zero d (more p t) h = p
   all-at (suc i) d (more p t) h = all-at i d t (le-of-suc-le-suc h)
+
+-- Parts and images
+
+module _ {A : Type 0} {P : A → Type 0} where
+  -- what holds of both cases
+  pub all-cond : (b : Bool) {xs ys : List A} → All P xs → All P ys → All P (cond b xs ys)
+  all-cond true h k = h
+  all-cond false h k = k
+
+  -- what holds of all holds of those that pass a test
+  pub all-keep : (p : A → Bool) {xs : List A} → All P xs → All P (keep p xs)
+  unfolding keep
+  all-keep p none = none
+  all-keep p (more {x} h t) = all-cond (p x) (more h (all-keep p t)) (all-keep p t)
+
+module _ {A B : Type 0} (f : A → B) where
+  -- what holds of each image
+  pub all-mapped : {P : B → Type 0} {xs : List A} → All (λ x. P (f x)) xs → All P (map f xs)
+  all-mapped none = none
+  all-mapped (more h t) = more h (all-mapped t)
+
+  -- those of a mapped list that pass a test
+  pub keep-map : (p : B → Bool) (xs : List A) → keep p (map f xs) ≡ map f (keep (λ x. p (f x)) xs)
+  unfolding keep
+  keep-map p [] = refl
+  keep-map p (x ∷ xs) =
+      by-bool (p (f x)) (λ t. rw t (ap (λ (l : List B). f x ∷ l) (keep-map p xs))) (λ t. rw t (keep-map p xs))
 
 -- what holds of the element at each place holds of all
 pub all-of : {A : Type 0} {P : A → Type 0} (d : A) (xs : List A) → ((i : ℕ) → i < length xs → P (getD xs i d)) → All P xs

@@ -1,0 +1,252 @@
+// Dates, the hours of a day and their clock names (document 01, "Hours of the day").
+ghost use mathlib.Core.Path.{_≡_};
+ghost use mathlib.Core.Bool.{true};
+ghost use Prim.Native.Nat.{_-_, _≤_};
+ghost use Rattle.rules.specs.Hours.{leap, daysOfMonth, isDate, daysBefore, dayNumber, lastSunday, hoursOf, clockName, clockOf, hourOf, hoursAt, clockAt, hourAt};
+ghost use Rattle.calendar.specs.View.{dateIn, clockIn, clockAs, countedAs, namedAs};
+
+pub struct Date {
+    pub year: u32,
+    pub month: u32,
+    pub day: u32,
+}
+
+// A clock name with its mark: the starting local hour, and whether it is marked "second".
+pub struct Clock {
+    pub name: u32,
+    pub second: bool,
+}
+
+// The number asked for, or the refusal table's number.
+pub enum Counted {
+    Refused(u32),
+    Given(u32),
+}
+
+// The clock name asked for, or the refusal table's number.
+pub enum Named {
+    Refused(u32),
+    Given(Clock),
+}
+
+// The refusal table's row 1: not a date in the range.
+const DATE: u32 = 1;
+
+// Row 4: an hour or a clock name that the day lacks.
+const HOUR: u32 = 4;
+
+// Of centuries only each fourth is a leap year.
+fn is_leap(year: u32) -> bool
+    ensures { λ r. ⌜ r ≡ leap year ⌝ }
+{
+    if year % 400 == 0 {
+        return true;
+    }
+    if year % 100 == 0 {
+        return false;
+    }
+    year % 4 == 0
+}
+
+fn days_of_month(year: u32, month: u32) -> u32
+    ensures { λ r. ⌜ r ≡ daysOfMonth year month ⌝ }
+{
+    match month {
+        2 => if is_leap(year) { 29 } else { 28 },
+        4 | 6 | 9 | 11 => 30,
+        _ => 31,
+    }
+}
+
+// "Dates run from 2002-01-01 to 2099-12-31, Gregorian."
+pub fn is_date(d: Date) -> bool
+    ensures { λ r. ⌜ r ≡ isDate (dateIn d) ⌝ }
+{
+    if d.year < 2002 {
+        return false;
+    }
+    if 2099 < d.year {
+        return false;
+    }
+    if d.month < 1 {
+        return false;
+    }
+    if 12 < d.month {
+        return false;
+    }
+    if d.day < 1 {
+        return false;
+    }
+    d.day <= days_of_month(d.year, d.month)
+}
+
+// The days of a year in its first months.
+fn days_before(year: u32, months: u32) -> u64
+    requires { ⌜ months ≤ 12 ⌝ }
+    ensures { λ r. ⌜ r ≡ daysBefore year months ⌝ }
+{
+    let mut days: u64 = 0;
+    for m in 0..months {
+        days += days_of_month(year, m + 1) as u64;
+    }
+    days
+}
+
+// The years before a year, counted from year 1: none before year 0, as the definition has it.
+fn years_before(year: u32) -> u64
+    ensures { λ r. ⌜ r ≡ year - 1 ⌝ }
+{
+    if year == 0 {
+        return 0;
+    }
+    (year - 1) as u64
+}
+
+// The day's number, 1 on 0001-01-01, a Monday. 64 bits hold it for every year and day of 32.
+fn day_number(d: Date) -> u64
+    requires { ⌜ (1 ≤ d .month) × (d .month ≤ 12) ⌝ }
+    ensures { λ r. ⌜ r ≡ dayNumber (dateIn d) ⌝ }
+{
+    let y = years_before(d.year);
+    let before = days_before(d.year, d.month - 1);
+    y * 365 + y / 4 - y / 100 + y / 400 + before + d.day as u64
+}
+
+// A Sunday with no other in the rest of its month.
+fn is_last_sunday(d: Date) -> bool
+    requires { ⌜ (1 ≤ d .month) × (d .month ≤ 12) ⌝ }
+    ensures { λ r. ⌜ r ≡ lastSunday (dateIn d) ⌝ }
+{
+    if day_number(d) % 7 == 0 {
+        return (days_of_month(d.year, d.month) as u64) < d.day as u64 + 7;
+    }
+    false
+}
+
+// "the last Sunday of March has H = 23 hours, the last Sunday of October 25, other days 24": of any date, in the range or not.
+pub fn hours_of(d: Date) -> u32
+    ensures { λ r. ⌜ r ≡ hoursOf (dateIn d) ⌝ }
+{
+    let month = d.month;
+    match month {
+        3 => if is_last_sunday(d) { 23 } else { 24 },
+        10 => if is_last_sunday(d) { 25 } else { 24 },
+        _ => 24,
+    }
+}
+
+// The number of hours of a date.
+pub fn hours_at(d: Date) -> Counted
+    ensures { λ r. ⌜ r ≡ countedAs (hoursAt (dateIn d)) ⌝ }
+{
+    if !is_date(d) {
+        return Counted::Refused(DATE);
+    }
+    Counted::Given(hours_of(d))
+}
+
+// "on 24 hours h−1; on 23, h−1 up to hour 2, then h; on 25, h−1 up to hour 3, then h−2"
+fn clock_name(hours: u32, hour: u32) -> u32
+    requires { ⌜ 1 ≤ hour ⌝ }
+    ensures { λ r. ⌜ r ≡ clockName hours hour ⌝ }
+{
+    if hours == 23 {
+        if hour <= 2 {
+            return hour - 1;
+        }
+        return hour;
+    }
+    if hours == 25 {
+        if hour <= 3 {
+            return hour - 1;
+        }
+        return hour - 2;
+    }
+    hour - 1
+}
+
+// "Hours 3 and 4 of a 25-hour day are both named 2, the first unmarked, the second marked"
+fn clock_of(hours: u32, hour: u32) -> Clock
+    requires { ⌜ 1 ≤ hour ⌝ }
+    ensures { λ r. ⌜ r ≡ clockAs (clockOf hours hour) ⌝ }
+{
+    let name = clock_name(hours, hour);
+    if hours == 25 {
+        return Clock {
+            name,
+            second: hour == 4,
+        };
+    }
+    Clock {
+        name,
+        second: false,
+    }
+}
+
+// The clock name and mark of an hour of a date.
+pub fn clock_at(d: Date, hour: u32) -> Named
+    ensures { λ r. ⌜ r ≡ namedAs (clockAt (dateIn d) hour) ⌝ }
+{
+    if !is_date(d) {
+        return Named::Refused(DATE);
+    }
+    if hour == 0 {
+        return Named::Refused(HOUR);
+    }
+    let hours = hours_of(d);
+    if hours < hour {
+        return Named::Refused(HOUR);
+    }
+    Named::Given(clock_of(hours, hour))
+}
+
+// The hour of a name that is marked: of two o'clock on the long day.
+fn second_hour(hours: u32, c: Clock) -> u32
+    requires { ⌜ c .second ≡ true ⌝ }
+    ensures { λ r. ⌜ r ≡ hourOf hours (clockIn c) ⌝ }
+{
+    if hours == 25 {
+        if c.name == 2 {
+            return 4;
+        }
+    }
+    0
+}
+
+// The hour of a clock name and mark, 0 where the day lacks it. Midnight and one o'clock begin every day, and from three o'clock on
+// the hours count back from the last, which is named 23. Two o'clock is missing on the short day and comes twice on the long one.
+fn hour_of(hours: u32, c: Clock) -> u32
+    requires { ⌜ (23 ≤ hours) × (hours ≤ 25) ⌝ }
+    ensures { λ r. ⌜ r ≡ hourOf hours (clockIn c) ⌝ }
+{
+    if c.second {
+        return second_hour(hours, c);
+    }
+    if 23 < c.name {
+        return 0;
+    }
+    if 2 < c.name {
+        return hours - (23 - c.name);
+    }
+    if c.name < 2 {
+        return c.name + 1;
+    }
+    if hours == 23 {
+        return 0;
+    }
+    3
+}
+
+// The hour of a clock name and mark of a date.
+pub fn hour_at(d: Date, c: Clock) -> Counted
+    ensures { λ r. ⌜ r ≡ countedAs (hourAt (dateIn d) (clockIn c)) ⌝ }
+{
+    if !is_date(d) {
+        return Counted::Refused(DATE);
+    }
+    let hour = hour_of(hours_of(d), c);
+    if hour == 0 {
+        return Counted::Refused(HOUR);
+    }
+    Counted::Given(hour)
+}

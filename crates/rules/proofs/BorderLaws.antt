@@ -1,0 +1,282 @@
+-- The cut of executions: market plus bilateral balance keeps within each published capacity, executions in a direction are cut
+-- exactly when the sum with none cut passes it, and the cut sum then stands at it.
+use Prim.Native.Nat.{ℕ, _+_, _-_, _≤_, _<_}
+use mathlib.Core.Path.{_≡_, refl, ap, ap₂, _∙_}
+use mathlib.Core.Logic.{_↔_}
+use mathlib.Core.Bool.{Bool, true, false, cond, not, Bool·not-not}
+use mathlib.Core.List.{List, [], _∷_, map}
+use native.Mathlib.Omega.{arith}
+use native.Mathlib.Nat.{le-refl}
+use lib.Dec.{ltb}
+use lib.IntN.{pos}
+use lib.Signed.{_≤ℤ_, _<ℤ_}
+use borrow.Author.Tests.{ltb-true, ltb-false}
+use Rattle.rules.specs.Lists.{All, none, more, keep, any, sum, sumOf, addEach}
+use Rattle.rules.specs.Share.{share}
+use Rattle.rules.specs.Match.{Offer}
+use Rattle.rules.specs.Borders.{Directed, Execution, runs, flow}
+use Rattle.rules.specs.Executions.{bilateralExcess, cuts, allCuts, lessEach, cutAll}
+use Rattle.rules.proofs.BoolLaws.{by-bool, not-both, of-not}
+use Rattle.rules.proofs.ElementLaws.{all-both, empty, ahead, Each, each0, each, each-refl}
+use Rattle.rules.proofs.ShareLaws.{Under, under0, under, each-sum, share-sum, share-under}
+use Rattle.rules.proofs.SumLaws.{sum-zeros, cond-le, masked, zeros-under, masked-sum, under-add, passing, passing-self, passing-none, passing-add, passing-le, add-zeros}
+use Rattle.rules.proofs.BalanceLaws.{marketFlow, executionFlow, crossing, crossing-flows, bilateral-flows, passes-excess, sub-le, sub-at}
+use Rattle.rules.proofs.DirectionLaws.{sameDirection, same-parts, Once, runs-one, runs-none}
+
+-- What a cut leaves
+
+-- An execution against what it was before the cut: the same holder, and no more energy.
+pub record CutDown (before after : Execution) : Type 0 where
+  pub holder : after .holder ≡ before .holder
+  pub energy : after .energy ≤ before .energy
+
+-- "Some execution there in a direction is cut": it has less energy after than before
+pub data SomeCut (c : Directed) : List Execution → List Execution → Type 0 where
+  this : {x y : Execution} {xs ys : List Execution} → runs (c .border) (c .export) (x .holder) ≡ true → y .energy < x .energy → SomeCut c (x ∷ xs) (y ∷ ys)
+  another : {x y : Execution} {xs ys : List Execution} → SomeCut c xs ys → SomeCut c (x ∷ xs) (y ∷ ys)
+
+-- the executions' energies in a direction, 0 for the others
+abbrev pub amountsOn : Directed → List Execution → List ℕ
+amountsOn c xs = masked (λ x. runs (c .border) (c .export) (x .holder)) (λ x. x .energy) xs
+
+-- what each execution in a direction loses, 0 for the others
+unfoldable pub lost : Directed → List Execution → List Execution → List ℕ
+lost c [] ys = []
+lost c (x ∷ xs) [] = []
+lost c (x ∷ xs) (y ∷ ys) = cond (runs (c .border) (c .export) (x .holder)) (x .energy - y .energy) 0 ∷ lost c xs ys
+
+-- an execution runs in a direction
+abbrev on : Directed → Execution → Bool
+on c x = runs (c .border) (c .export) (x .holder)
+
+-- in one of some directions
+abbrev among : List Directed → Execution → Bool
+among cs x = any (λ c. runs (c .border) (c .export) (x .holder)) cs
+
+-- one execution after a cut
+down : (x : Execution) (l : ℕ) → CutDown x (record { holder = x .holder; energy = x .energy - l })
+down x l = record { holder = refl; energy = sub-le-self (x .energy) l }
+  where
+    sub-le-self : (n l : ℕ) → n - l ≤ n
+    sub-le-self n l = omega arith
+
+-- an execution's energy after cuts is at most its energy
+pub less-down : (ls : List ℕ) (xs : List Execution) → Each CutDown xs (lessEach ls xs)
+unfolding lessEach
+less-down ls [] = each0
+less-down [] (x ∷ xs) = each-refl (λ x. record { holder = refl; energy = le-refl (x .energy) }) (x ∷ xs)
+less-down (l ∷ ls) (x ∷ xs) = each (down x l) (less-down ls xs)
+
+-- who is in none of the directions loses nothing
+all-left : (b : Bool) (n l : ℕ) → b ≡ false → l ≤ cond b n 0 → n - l ≡ n
+all-left b n l e h = omega (arith, rw e at h)
+
+-- losses none of which is above the execution's energy
+module _ (q : Execution → Bool) where
+  -- the flow after the losses, and what was lost in it
+  less-flow : (border : ℕ) (export : Bool) {ls : List ℕ} (xs : List Execution) → Under ls (masked q (λ x. x .energy) xs)
+      → executionFlow border export (lessEach ls xs) + sum (passing (λ x. runs border export (x .holder)) ls xs) ≡ executionFlow border export xs
+  unfolding flow keep sumOf sum lessEach passing
+  less-flow border export [] under0 = refl
+  less-flow border export (x ∷ xs) (under h t) =
+      by-bool (runs border export (x .holder))
+      (λ e. rw e (omega (arith, cond-le (q x) (x .energy), less-flow border export xs t))) (λ e. rw e (omega (arith, less-flow border export xs t)))
+
+  -- what is lost in a direction is that direction's part of the losses
+  lost-passing : (c : Directed) {ls : List ℕ} (xs : List Execution) → Under ls (masked q (λ x. x .energy) xs) → lost c xs (lessEach ls xs) ≡ passing (on c) ls xs
+  unfolding lost lessEach passing
+  lost-passing c [] under0 = refl
+  lost-passing c (x ∷ xs) (under {a = l} h t) =
+      ap₂ (λ (n : ℕ) (r : List ℕ). cond (on c x) n 0 ∷ r) (omega (arith, cond-le (q x) (x .energy))) (lost-passing c xs t)
+
+  -- where something is lost in a direction some execution is cut
+  some-of-sum : (c : Directed) {ls : List ℕ} (xs : List Execution) → Under ls (masked q (λ x. x .energy) xs) → 0 < sum (passing (on c) ls xs) → SomeCut c xs (lessEach ls xs)
+  unfolding lessEach passing sum
+  some-of-sum c [] under0 k = absurd (omega arith)
+  some-of-sum c (x ∷ xs) (under {a = l} h t) k =
+      by-bool (on c x)
+      (λ e. by-bool (ltb 0 l) (λ p. this e (omega (arith, cond-le (q x) (x .energy), ltb-true 0 l p)))
+      (λ p. another (some-of-sum c xs t (omega (arith, rw e at k, ltb-false 0 l p)))))
+      (λ e. another (some-of-sum c xs t (omega (arith, rw e at k))))
+
+  -- and the other way
+  sum-of-some : (c : Directed) {ls : List ℕ} (xs : List Execution) → Under ls (masked q (λ x. x .energy) xs) → SomeCut c xs (lessEach ls xs) → 0 < sum (passing (on c) ls xs)
+  unfolding lessEach passing sum
+  sum-of-some c (x ∷ xs) (under {a = l} h t) (this r k) = rw r (omega arith)
+  sum-of-some c (x ∷ xs) (under h t) (another s) = omega (arith, sum-of-some c xs t s)
+
+  -- who is in none of the directions keeps all
+  less-other : {ls : List ℕ} (xs : List Execution) → Under ls (masked q (λ x. x .energy) xs) → Each (λ x y. q x ≡ false → y .energy ≡ x .energy) xs (lessEach ls xs)
+  unfolding lessEach
+  less-other [] under0 = each0
+  less-other (x ∷ xs) (under {a = l} h t) = each (λ e. all-left (q x) (x .energy) l e h) (less-other xs t)
+
+-- The cuts
+
+-- the market alone fits in what the capacity and the flows against the direction leave
+unfoldable pub Fits : List Offer → List Execution → Directed → Type 0
+Fits os xs c =
+    marketFlow (c .border) (c .export) os ≤ marketFlow (c .border) (not (c .export)) os + executionFlow (c .border) (not (c .export)) xs + c .energy
+
+-- the amounts in a direction sum to the executions' energy in it
+pub amounts-flow : (c : Directed) (xs : List Execution) → sum (amountsOn c xs) ≡ executionFlow (c .border) (c .export) xs
+unfolding flow
+amounts-flow c xs = masked-sum (λ x. x .energy) (on c) xs
+
+module _ (os : List Offer) (xs : List Execution) where
+  -- "R ≤ G": the excess is at most the executions' energy in that direction
+  pub excess-le : (c : Directed) → Fits os xs c → bilateralExcess os xs c ≤ executionFlow (c .border) (c .export) xs
+  unfolding Fits
+  excess-le c f = omega (arith, bilateral-flows os xs c)
+
+  -- Share takes from no execution more than it has
+  cuts-under : (c : Directed) → Fits os xs c → Under (cuts os xs c) (amountsOn c xs)
+  unfolding cuts
+  cuts-under c f = share-under _ _ (omega (arith, excess-le c f, amounts-flow c xs))
+
+  -- in all it takes the excess
+  cuts-sum : (c : Directed) → Fits os xs c → sum (cuts os xs c) ≡ bilateralExcess os xs c
+  unfolding cuts
+  cuts-sum c f = share-sum _ _ (omega (arith, excess-le c f, amounts-flow c xs))
+
+  -- in all directions together too no execution loses more than it has
+  all-cuts-under : {cs : List Directed} → Once cs → All (Fits os xs) cs → Under (allCuts os xs cs) (masked (among cs) (λ x. x .energy) xs)
+  unfolding allCuts any
+  all-cuts-under empty none = zeros-under xs
+  all-cuts-under (ahead {x = c} {xs = cs} a t) (more f fs) =
+      under-add (λ x. x .energy) (on c) (among cs) (runs-none (λ x. x .holder) on (λ d x h. h) a) xs (cuts-under c f) (all-cuts-under t fs)
+
+  -- in a direction each loses what Share takes there: directions that stand behind take nothing there
+  own-cuts : (c : Directed) {cs : List Directed} → All (λ d. sameDirection c d ≡ false) cs → Once cs → Fits os xs c → All (Fits os xs) cs
+      → passing (on c) (addEach (cuts os xs c) (allCuts os xs cs)) xs ≡ cuts os xs c
+  own-cuts c {cs} a t f fs =
+      passing-add (on c) (cuts os xs c) (allCuts os xs cs) xs
+      ∙ ap₂ addEach (passing-self (λ x. x .energy) (on c) xs (cuts-under c f))
+      (passing-none (λ x. x .energy) (on c) (among cs) (λ x h. of-not (on c x) (λ e. not-both h (behind a x e))) xs (all-cuts-under t fs))
+      ∙ add-zeros (λ x. x .energy) (on c) xs (cuts-under c f) .0
+    where
+      behind : {cs : List Directed} → All (λ d. sameDirection c d ≡ false) cs → (x : Execution) → on c x ≡ true → among cs x ≡ false
+      behind = runs-none (λ x. x .holder) on (λ d x h. h)
+
+  -- nor does one that stands in front
+  other-cuts : (c d : Directed) (ls : List ℕ) → sameDirection c d ≡ false → Fits os xs c
+      → passing (on d) (addEach (cuts os xs c) ls) xs ≡ addEach (map (λ x. 0) xs) (passing (on d) ls xs)
+  other-cuts c d ls n f =
+      passing-add (on d) (cuts os xs c) ls xs
+      ∙ ap (λ (k : List ℕ). addEach k (passing (on d) ls xs)) (passing-none (λ x. x .energy) (on d) (on c) (λ x h. runs-one c d (x .holder) n h) xs (cuts-under c f))
+
+  -- so in each direction the executions lose what Share takes there
+  passing-cuts : {cs : List Directed} → Once cs → All (Fits os xs) cs → All (λ c. passing (on c) (allCuts os xs cs) xs ≡ cuts os xs c) cs
+  unfolding allCuts
+  passing-cuts empty none = none
+  passing-cuts (ahead {x = c} {xs = cs} a t) (more f fs) =
+      more (own-cuts c a t f fs)
+      (all-both {P = λ d. (sameDirection c d ≡ false) × Fits os xs d} (λ d n e. other-cuts c d (allCuts os xs cs) (n .0) f ∙ ap (addEach (map (λ x. 0) xs)) e ∙ add-zeros (λ x. x .energy) (on d) xs (cuts-under d (n .1)) .1)
+      (all-both (λ d n g. (n, g)) a fs) (passing-cuts t fs))
+
+  -- by how far the flows in a direction pass those against it
+  abbrev surplus : ℕ → Bool → ℕ
+  surplus border export =
+      (marketFlow border export os + executionFlow border export xs) - (marketFlow border (not export) os + executionFlow border (not export) xs)
+
+  -- in any direction no more is cut than that
+  passing-bound : (d : Directed) {cs : List Directed} → Once cs → All (Fits os xs) cs
+      → sum (passing (on d) (allCuts os xs cs) xs) ≤ surplus (d .border) (d .export)
+  unfolding allCuts
+  passing-bound d empty none = omega (arith, passing-le (on d) (map (λ x. 0) xs) xs, sum-zeros xs)
+  passing-bound d (ahead {x = c} {xs = cs} a t) (more f fs) =
+      by-bool (sameDirection c d)
+      (λ e. let k = same-parts c d e in
+      let all = addEach (cuts os xs c) (allCuts os xs cs) in
+      let same : sum (passing (on c) all xs) ≡ sum (passing (on d) all xs) = ap₂ (λ border export. sum (passing (λ x. runs border export (x .holder)) all xs)) (k .0) (k .1) in
+      let flows : surplus (c .border) (c .export) ≡ surplus (d .border) (d .export) = ap₂ surplus (k .0) (k .1) in
+      omega (arith, ap sum (own-cuts c a t f fs), cuts-sum c f, bilateral-flows os xs c))
+      (λ e. omega (
+        arith,
+        ap sum (other-cuts c d (allCuts os xs cs) e f),
+        each-sum (map (λ x. 0) xs) (passing (on d) (allCuts os xs cs) xs),
+        sum-zeros xs,
+        passing-bound d t fs,
+      ))
+
+-- What holds at a border in a direction with a capacity, of the final offers, the executions, and the executions after cuts.
+pub record Kept (c : Directed) (os : List Offer) (before after : List Execution) : Type 0 where
+  -- "Market plus bilateral balance at each border keeps within each published capacity."
+  pub within : crossing c os after ≤ℤ pos (c .energy)
+  -- "Some execution there in a direction is cut [..] exactly when the sum with none cut would pass that direction's capacity"
+  pub cut : SomeCut c before after ↔ (pos (c .energy) <ℤ crossing c os before)
+  -- "and the cut sum then stands at it"
+  pub stands : pos (c .energy) <ℤ crossing c os before → crossing c os after ≡ pos (c .energy)
+  -- "by the papers' Share": R is at most G, and each loses what Share takes from it
+  pub enough : bilateralExcess os before c ≤ sum (amountsOn c before)
+  pub shared : lost c before after ≡ share (bilateralExcess os before c) (amountsOn c before)
+
+module _ (os : List Offer) (xs : List Execution) {cs : List Directed} (once : Once cs) (fits : All (Fits os xs) cs) where
+  -- the executions after cuts
+  abbrev after : List Execution
+  after = lessEach (allCuts os xs cs) xs
+
+  -- the flow after cuts, and what was cut in it
+  after-flow : (border : ℕ) (export : Bool)
+      → executionFlow border export after + sum (passing (λ x. runs border export (x .holder)) (allCuts os xs cs) xs) ≡ executionFlow border export xs
+  after-flow border export = less-flow (among cs) border export xs (all-cuts-under os xs once fits)
+
+  module _ (c : Directed) (f : Fits os xs c) (own : passing (on c) (allCuts os xs cs) xs ≡ cuts os xs c) where
+    -- in a published direction that is the excess
+    taken : sum (passing (on c) (allCuts os xs cs) xs) ≡ bilateralExcess os xs c
+    taken = ap sum own ∙ cuts-sum os xs c f
+
+    -- the executions' flow in the direction falls by it
+    flow-in : executionFlow (c .border) (c .export) after + bilateralExcess os xs c ≡ executionFlow (c .border) (c .export) xs
+    flow-in = omega (arith, after-flow (c .border) (c .export), taken)
+
+    -- their flow against it falls at most by how far what flows against it passes what flows in it
+    flow-against : executionFlow (c .border) (not (c .export)) xs ≤ executionFlow (c .border) (not (c .export)) after
+        + ((marketFlow (c .border) (not (c .export)) os + executionFlow (c .border) (not (c .export)) xs)
+        - (marketFlow (c .border) (c .export) os + executionFlow (c .border) (c .export) xs))
+    flow-against =
+        omega (
+          arith,
+          after-flow (c .border) (not (c .export)),
+          rw (Bool·not-not (c .export)) at (passing-bound os xs (record { border = c .border; export = not (c .export); energy = 0 }) once fits),
+        )
+
+    -- after cuts what flows in the direction is within the capacity and what flows against it
+    within-after : marketFlow (c .border) (c .export) os + executionFlow (c .border) (c .export) after
+        ≤ marketFlow (c .border) (not (c .export)) os + executionFlow (c .border) (not (c .export)) after + c .energy
+    within-after = omega (arith, flow-in, flow-against, bilateral-flows os xs c)
+
+    -- and where there was an excess, at them
+    at-after : 0 < bilateralExcess os xs c → marketFlow (c .border) (c .export) os + executionFlow (c .border) (c .export) after
+        ≡ marketFlow (c .border) (not (c .export)) os + executionFlow (c .border) (not (c .export)) after + c .energy
+    at-after h = omega (arith, flow-in, flow-against, after-flow (c .border) (not (c .export)), bilateral-flows os xs c)
+
+    -- all that holds there
+    kept : Kept c os xs after
+    unfolding cuts
+    kept =
+        record {
+          within = rw (crossing-flows c os after) (sub-le _ _ _ within-after);
+          cut = (
+            (λ s. passes-excess c os xs .1 (omega (arith, taken, sum-of-some (among cs) c xs (all-cuts-under os xs once fits) s))),
+            (λ h. some-of-sum (among cs) c xs (all-cuts-under os xs once fits) (omega (arith, taken, passes-excess c os xs .0 h))),
+          );
+          stands = λ h. rw (crossing-flows c os after) (sub-at _ _ _ (at-after (passes-excess c os xs .0 h)));
+          enough = omega (arith, excess-le os xs c f, amounts-flow c xs);
+          shared = lost-passing (among cs) c xs (all-cuts-under os xs once fits) ∙ own;
+        }
+
+  -- every published direction, where the market alone fits
+  pub all-kept : All (λ c. Kept c os xs (cutAll os cs xs)) cs
+  unfolding cutAll
+  all-kept = all-both kept fits (passing-cuts os xs once fits)
+
+  -- an execution in no published direction keeps its energy
+  pub all-uncut : Each (λ x y. any (λ c. runs (c .border) (c .export) (x .holder)) cs ≡ false → y .energy ≡ x .energy) xs (cutAll os cs xs)
+  unfolding cutAll
+  all-uncut = less-other (among cs) xs (all-cuts-under os xs once fits)
+
+-- no execution gains, and each keeps its holder
+pub all-down : (os : List Offer) (cs : List Directed) (xs : List Execution) → Each CutDown xs (cutAll os cs xs)
+unfolding cutAll
+all-down os cs xs = less-down (allCuts os xs cs) xs
