@@ -76,9 +76,9 @@ pub part-some : (B : ℤ) (s d : ℕ) → 0 < positive B → bilateralPart B s d
 unfolding bilateralPart
 part-some B s d h = rw (lt-ltb 0 (positive B) h)
 
-pub positive-le-demand : (B M : ℤ) (L : ℕ) → positive B ≤ claims B M L
+pub positive-le-claims : (B M : ℤ) (L : ℕ) → positive B ≤ claims B M L
 unfolding claims
-positive-le-demand B M L = omega arith
+positive-le-claims B M L = omega arith
 
 -- no market maximum passes the capacity and what executions against the direction free
 pub maximum-le : (E : ℕ) (B M : ℤ) (L : ℕ) → marketMaximum E B M L ≤ E + positive (negℤ B)

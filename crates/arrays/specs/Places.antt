@@ -1,0 +1,14 @@
+-- Arrays read and written by place.
+use Prim.Native.Nat.{ℕ, zero, suc, _+_, _-_}
+use mathlib.Core.List.{List, [], _∷_, map}
+use lib.ListN.{getD, set}
+use Rattle.rules.specs.Lists.{from}
+
+-- what stands at the places from i to below n
+unfoldable pub vals : List ℕ → ℕ → ℕ → List ℕ
+vals a i n = map (λ j. getD a j 0) (from i (n - i))
+
+-- d places from i on, each written anew from its place and what it held
+unfoldable pub layOn : (ℕ → ℕ → ℕ) → ℕ → ℕ → List ℕ → List ℕ
+layOn f zero i l = l
+layOn f (suc d) i l = layOn f d (i + 1) (set l i (f i (getD l i 0)))

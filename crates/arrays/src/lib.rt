@@ -1,0 +1,61 @@
+// Numbers and arrays by place: what every room uses, with no word of the market.
+ghost use mathlib.Core.Path.{_≡_};
+ghost use Prim.Native.Nat.{ℕ, _+_, _-_, _*_, _/_, _≤_, _<_, min, max};
+ghost use lib.ListN.{getD};
+ghost use Rattle.rules.specs.Lists.{sum};
+ghost use Rattle.arrays.specs.Places.{vals};
+
+pub fn lower(a: u32, b: u32) -> u32
+    ensures { λ r. ⌜ r ≡ min a b ⌝ }
+{
+    if a < b {
+        return a;
+    }
+    b
+}
+
+pub fn higher(a: u32, b: u32) -> u32
+    ensures { λ r. ⌜ r ≡ max a b ⌝ }
+{
+    if a < b {
+        return b;
+    }
+    a
+}
+
+// a - b, and 0 where b is more.
+pub fn less(a: u32, b: u32) -> u32
+    ensures { λ r. ⌜ r ≡ a - b ⌝ }
+{
+    if a < b {
+        return 0;
+    }
+    a - b
+}
+
+pub fn wide(x: u32) -> u64
+    ensures { λ r. ⌜ (r ≡ x) × (r < 4294967296) ⌝ }
+{
+    x as u64
+}
+
+// (x × y + w) / z rounded down: x / z of y, rounded down where w is 0 and up where it is z - 1.
+pub fn portion(x: u32, y: u32, w: u32, z: u32) -> u32
+    requires { ⌜ (x ≤ z) × (w < z) ⌝ }
+    ensures { λ r. ⌜ r ≡ (x * y + w) / z ⌝ }
+{
+    let q = (wide(x) * wide(y) + wide(w)) / wide(z);
+    q as u32
+}
+
+// The sum of the first n numbers of an array, each of them at most 99,999.
+pub fn total(a: &[u32; 128], n: usize) -> u32
+    requires { ⌜ (n ≤ 128) × ((i : ℕ) → getD (now a) i 0 ≤ 99999) ⌝ }
+    ensures { λ r. ⌜ (r ≡ sum (vals (now (a .entry)) 0 n)) × (r ≤ 99999 * n) ⌝ }
+{
+    let mut s: u32 = 0;
+    for i in 0..n {
+        s += a[i];
+    }
+    s
+}

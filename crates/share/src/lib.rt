@@ -1,0 +1,89 @@
+// Share: taking an energy from several amounts pro rata.
+ghost use mathlib.Core.Path.{_≡_};
+ghost use mathlib.Core.List.{map, _++_};
+ghost use Prim.Native.Nat.{ℕ, _≤_, _<_};
+ghost use lib.ListN.{length, getD, take, drop};
+ghost use Rattle.rules.specs.Lists.{sum, addEach};
+ghost use Rattle.rules.specs.Share.{proRata, handOut, share as shareOf};
+ghost use Rattle.arrays.specs.Places.{vals};
+ghost use Rattle.share.specs.Next.{next};
+
+// "each loses R × m / G rounded down"; "G 0 loses nothing".
+fn pro_rata(r: u32, g: u32, m: u32) -> u32
+    requires { ⌜ r ≤ g ⌝ }
+    ensures { λ x. ⌜ x ≡ proRata r g m ⌝ }
+{
+    if g == 0 {
+        return 0;
+    }
+    arrays::portion(r, m, 0, g)
+}
+
+// The pro rata losses, and their sum.
+fn floors(losses: &mut [u32], amounts: &[u32], r: u32, g: u32) -> u32
+    requires { ⌜ (length (now losses) ≡ length (now amounts)) × (r ≤ g) × (g ≡ sum (now amounts)) ⌝ }
+    ensures { λ s. ⌜ (s ≡ sum (map (proRata r g) (now (amounts .entry)))) × (now (losses .exit) ≡ map (proRata r g) (now (amounts .entry))) ⌝ }
+{
+    let mut s: u32 = 0;
+    for i in 0..amounts.len() {
+        let x = pro_rata(r, g, amounts[i]);
+        losses[i] = x;
+        s += x;
+    }
+    s
+}
+
+// The lowest place with an amount above 0; the place past the last where there is none.
+fn next_place(amounts: &[u32]) -> usize
+    ensures { λ i. ⌜ i ≡ next (now (amounts .entry)) ⌝ }
+{
+    for i in 0..amounts.len() {
+        if 0 < amounts[i] {
+            return i;
+        }
+    }
+    amounts.len()
+}
+
+// "the leftover units go out one each to the lowest lodging numbers with m above 0, and each hand-out leaves the rest to
+// the same rule over the higher numbers".
+fn hand_out(losses: &mut [u32], amounts: &[u32], left: u32)
+    requires { ⌜ (length (now losses) ≡ length (now amounts)) × ((i : ℕ) → getD (now losses) i 0 < 4294967295) ⌝ }
+    ensures { λ _. ⌜ now (losses .exit) ≡ addEach (now (losses .entry)) (handOut left (now (amounts .entry))) ⌝ }
+{
+    if left == 0 {
+        return;
+    }
+    let i = next_place(amounts);
+    if amounts.len() <= i {
+        return;
+    }
+    losses[i] += 1;
+    hand_out(&mut losses[i + 1..], &amounts[i + 1..], left - 1)
+}
+
+// Share over all the amounts, whose sum is g.
+fn share_all(losses: &mut [u32], amounts: &[u32], r: u32, g: u32)
+    requires { ⌜ (length (now losses) ≡ length (now amounts)) × (r ≤ g) × (g ≡ sum (now amounts)) × ((i : ℕ) → getD (now amounts) i 0 ≤ 99999) ⌝ }
+    ensures { λ _. ⌜ now (losses .exit) ≡ shareOf r (now (amounts .entry)) ⌝ }
+{
+    let s = floors(losses, amounts, r, g);
+    hand_out(losses, amounts, r - s)
+}
+
+// Share over the first n amounts, whose sum is g.
+fn share_first(losses: &mut [u32], amounts: &[u32], n: usize, r: u32, g: u32)
+    requires { ⌜ (n ≤ length (now losses)) × (n ≤ length (now amounts)) × (r ≤ g) × (g ≡ sum (take n (now amounts))) × ((i : ℕ) → getD (now amounts) i 0 ≤ 99999) ⌝ }
+    ensures { λ _. ⌜ now (losses .exit) ≡ shareOf r (take n (now (amounts .entry))) ++ drop n (now (losses .entry)) ⌝ }
+{
+    share_all(&mut losses[..n], &amounts[..n], r, g)
+}
+
+// To take r from the first n amounts: what each of them loses. The losses behind them stay as they were.
+pub fn share(losses: &mut [u32; 128], amounts: &[u32; 128], n: usize, r: u32)
+    requires { ⌜ (n ≤ 128) × ((i : ℕ) → getD (now amounts) i 0 ≤ 99999) × (r ≤ sum (vals (now amounts) 0 n)) ⌝ }
+    ensures { λ _. ⌜ (vals (now (losses .exit)) 0 n ≡ shareOf r (vals (now (amounts .entry)) 0 n)) × ((i : ℕ) → n ≤ i → getD (now (losses .exit)) i 0 ≡ getD (now (losses .entry)) i 0) ⌝ }
+{
+    let g = arrays::total(amounts, n);
+    share_first(losses, amounts, n, r, g)
+}
