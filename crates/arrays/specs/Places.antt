@@ -1,6 +1,6 @@
 -- Arrays read and written by place.
 use Prim.Native.Nat.{ℕ, zero, suc, _+_, _-_}
-use mathlib.Core.List.{List, [], _∷_, map}
+use mathlib.Core.List.{List, map}
 use lib.ListN.{getD, set}
 use Rattle.rules.specs.Lists.{from}
 

@@ -1,7 +1,6 @@
-use Prim.Native.Nat.{ℕ, _≤_, _<_, _-_, _+_, _*_}
+use Prim.Native.Nat.{_≤_, _-_, _+_, _*_}
 use mathlib.Core.Path.{_≡_}
 use native.Mathlib.Omega.{arith}
-use lib.ListN.{length, getD}
 use Rattle.rules.specs.Lists.{sum}
 use Rattle.arrays.specs.Places.{vals}
 use Rattle.arrays.proofs.PlaceLaws.{total-next, total-end}

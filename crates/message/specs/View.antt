@@ -1,0 +1,46 @@
+-- How the crate's structs say what the rules' definitions say.
+use Prim.Native.Nat.{ℕ}
+use mathlib.Core.Bool.{false}
+use mathlib.Core.List.{List}
+use lib.ListN.{length, replicate}
+use Rattle.rules.specs.Refusals.{Outcome, refused, given}
+use Rattle.rules.specs.Message as M
+use Rattle.message.specs.declared.Fields.{Fields}
+use Rattle.message.specs.declared.Reading.{Reading}
+use Rattle.message.specs.declared.Written.{Written}
+
+abbrev pub fieldsIn : Fields → M.Fields
+fieldsIn m = record {
+  execution = m .execution;
+  default = m .default;
+  unit = m .unit;
+  contract = m .contract;
+  map = m .map;
+  energies = m .energies;
+  prices = m .prices;
+}
+
+-- "Other fields of a refusal are 0"
+abbrev pub noFields : Fields
+noFields = record { execution = false; default = false; unit = 0; contract = 0; map = 0; energies = replicate 25 0; prices = replicate 25 0 }
+
+-- the reading of a message's outcome
+unfoldable pub readingAs : Outcome M.Fields → Reading
+readingAs (given m) = record {
+  refusal = 0;
+  fields = record {
+    execution = m .execution;
+    default = m .default;
+    unit = m .unit;
+    contract = m .contract;
+    map = m .map;
+    energies = m .energies;
+    prices = m .prices;
+  };
+}
+readingAs (refused n h) = record { refusal = n; fields = noFields }
+
+-- the count of an outcome of writing
+unfoldable pub writtenAs : Outcome (List ℕ) → Written
+writtenAs (given bytes) = record { refusal = 0; count = length bytes }
+writtenAs (refused n h) = record { refusal = n; count = 0 }

@@ -1,0 +1,45 @@
+// The lodging message: its fields, its length, and what its fields are refused for (document 01, "The lodging message").
+pub mod form;
+pub mod judge;
+
+ghost use mathlib.Core.Path.{_≡_};
+ghost use Rattle.message.specs.View.{noFields};
+
+// What a message says, and what a writer is given. Energies and prices are by hour, hour 1 first.
+pub struct Fields {
+    pub execution: bool,
+    pub default: bool,
+    pub unit: u32,
+    pub contract: u32,
+    // The hour map: hour 1 is bit 24, hour 25 bit 0.
+    pub map: u32,
+    pub energies: [u32; 25],
+    pub prices: [u32; 25],
+}
+
+// A message read: refusal 0 and its fields, or the table's number and fields that are all 0.
+pub struct Reading {
+    pub refusal: u32,
+    pub fields: Fields,
+}
+
+// A message written: refusal 0 and the count of its bytes, or the table's number and 0.
+pub struct Written {
+    pub refusal: u32,
+    pub count: usize,
+}
+
+// Fields that are all 0.
+pub fn blank() -> Fields
+    ensures { λ r. ⌜ r ≡ noFields ⌝ }
+{
+    Fields {
+        execution: false,
+        default: false,
+        unit: 0,
+        contract: 0,
+        map: 0,
+        energies: [0; 25],
+        prices: [0; 25],
+    }
+}

@@ -1,0 +1,205 @@
+-- The named hours one by one: what is left of the map, of the bits and of the slots to fill.
+use Prim.Native.Nat.{ℕ, zero, suc, _+_, _*_, _-_, _^_, _≤_, _<_}
+use mathlib.Core.Path.{_≡_, refl, ap, sym, _∙_}
+use mathlib.Core.Bool.{Bool}
+use mathlib.Core.List.{List, [], _∷_, _++_}
+use native.Mathlib.Omega.{arith}
+use native.Mathlib.Nat.{lt-of-not-le, pos-of-ne-zero, div-eq-of-lt, mul-add-mod-self-right, pow-suc, suc-mul}
+use lib.Count.{leadingZeros, leading-length, leading-top, leading-unique}
+use lib.Pow.{pow-pos, pow-mono, high}
+use lib.ListN.{length, drop, set, replicate, length-set}
+use lib.Seq.{drop-drop}
+use Rattle.rules.specs.Lists.{sum}
+use Rattle.rules.specs.Message.{bits, bitsOf, field, energyWidth, priceWidth, headWidth, slotWidth, setBits, hourBits, readSlots}
+use Rattle.rules.proofs.BitLaws.{length-bits, bits-same, field-drop}
+use Rattle.message.proofs.FormLaws.{end-le}
+
+-- A map of w bits whose first set bit has k bits before it and j after it
+
+bits-below : (k w j n : ℕ) → k + j ≡ w → n < 2 ^ j → bits w n ≡ replicate k 0 ++ bits j n
+unfolding bits
+bits-below zero w j n e h = let q : w ≡ j = omega arith in rw q
+bits-below (suc k) zero j n e h = absurd (omega arith)
+bits-below (suc k) (suc w) j n e h =
+    let z : n < 2 ^ w = omega (arith, pow-mono {i = j} {j = w} (omega arith)) in
+    rw (div-eq-of-lt z, bits-below k w j n (omega arith) h)
+
+bits-zero : bits 25 0 ≡ replicate 25 0
+unfolding bits
+bits-zero = refl
+
+module _ (k w j r : ℕ) (e : k + suc j ≡ w) (h : r < 2 ^ j) where
+  bits-after : bits w r ≡ replicate k 0 ++ (0 ∷ bits j r)
+  unfolding bits
+  bits-after =
+      let z : r < 2 ^ suc j = omega (arith, pow-suc 2 j) in
+      bits-below k w (suc j) r e z ∙ rw (div-eq-of-lt h)
+
+  bits-first : bits w (1 * 2 ^ j + r) ≡ replicate k 0 ++ (1 ∷ bits j r)
+  unfolding bits
+  bits-first =
+      let z : 1 * 2 ^ j + r < 2 ^ suc j = omega (arith, pow-suc 2 j) in
+      bits-below k w (suc j) (1 * 2 ^ j + r) e z ∙ rw (high 1 j h, bits-same j (1 * 2 ^ j + r) r (mul-add-mod-self-right 1 (2 ^ j) r))
+
+-- Slots
+
+sum-zeros : (k : ℕ) (l : List ℕ) → sum (replicate k 0 ++ l) ≡ sum l
+unfolding sum
+sum-zeros zero l = refl
+sum-zeros (suc k) l = omega (arith, sum-zeros k l)
+
+module _ (f : List ℕ → ℕ) (n : ℕ) where
+  -- what f finds in the slot of each set hour, put into a list; the others stay
+  unfoldable pub fillSlots : List ℕ → List ℕ → List ℕ → List ℕ
+  fillSlots [] bs es = es
+  fillSlots (b ∷ map) bs [] = []
+  fillSlots (zero ∷ map) bs (e ∷ es) = e ∷ fillSlots map bs es
+  fillSlots (suc b ∷ map) bs (e ∷ es) = f bs ∷ fillSlots map (drop n bs) es
+
+  fill-blank : (map bs : List ℕ) → fillSlots map bs (replicate (length map) 0) ≡ readSlots f n map bs
+  unfolding fillSlots readSlots
+  fill-blank [] bs = refl
+  fill-blank (zero ∷ map) bs = ap (λ l. 0 ∷ l) (fill-blank map bs)
+  fill-blank (suc b ∷ map) bs = ap (λ l. f bs ∷ l) (fill-blank map (drop n bs))
+
+  fill-zeros : (k : ℕ) (bs es : List ℕ) → fillSlots (replicate k 0) bs es ≡ es
+  unfolding fillSlots
+  fill-zeros zero bs es = refl
+  fill-zeros (suc k) bs [] = refl
+  fill-zeros (suc k) bs (e ∷ es) = ap (λ l. e ∷ l) (fill-zeros k bs es)
+
+  -- the first set hour is filled, and the rest goes on without it
+  fill-first : (k : ℕ) (map bs es : List ℕ) → k < length es
+      → fillSlots (replicate k 0 ++ (1 ∷ map)) bs es ≡ fillSlots (replicate k 0 ++ (0 ∷ map)) (drop n bs) (set es k (f bs))
+  unfolding fillSlots
+  fill-first k map bs [] h = absurd (omega arith)
+  fill-first zero map bs (e ∷ es) h = refl
+  fill-first (suc k) map bs (e ∷ es) h = ap (λ l. e ∷ l) (fill-first k map bs es (omega arith))
+
+-- The first hour that a map names, h hours before it
+
+-- it is found by its leading zeros, also in 32 bits
+module _ (map : ℕ) (l : map < 2 ^ 25) where
+  short : (m : ℕ) × (leadingZeros 32 map + m ≡ 32) × (map < 2 ^ m) × (2 ^ m ≤ 2 * map + 1) × (m ≤ 25)
+  short =
+      let t = leading-length 32 map (omega (arith, l)) in
+      let s : t .0 < 26 = lt-of-not-le (λ g. absurd (omega (arith, l, t .3, pow-mono {i = 26} {j = t .0} g))) in
+      (t .0, t .1, t .2, t .3, omega arith)
+
+  pub leading-seven : 7 ≤ leadingZeros 32 map
+  leading-seven = let t = short in omega (arith, t .1, t .4)
+
+  pub leading-here : leadingZeros 32 map - 7 ≡ leadingZeros 25 map
+  leading-here = let t = short in leading-unique 25 map (leadingZeros 32 map - 7) (t .0) (omega (arith, t .1, t .4)) (t .2) (t .3)
+
+-- the map without it is below its bit
+pub record Next (map h : ℕ) : Type 0 where
+  pub inside : h < 25
+  pub above : 2 ^ (24 - h) ≤ map
+  pub under : map - 2 ^ (24 - h) < 2 ^ (24 - h)
+
+pub next : (map h : ℕ) → map < 2 ^ 25 → (map ≡ 0 → ⊥) → h ≡ leadingZeros 25 map → Next map h
+next map h l z e =
+    let t = leading-top 25 map (pos-of-ne-zero z) l in
+    let j : t .0 ≡ 24 - h = omega (arith, t .1) in
+    let a = rw j at (t .2) in
+    let b = rw j at (t .3) in
+    record { inside = omega (arith, t .1); above = a; under = omega (arith, pow-suc 2 (24 - h)) }
+
+module _ {map h : ℕ} (t : Next map h) where
+  whole : 1 * 2 ^ (24 - h) + (map - 2 ^ (24 - h)) ≡ map
+  whole = omega (arith, t .above)
+
+  here : hourBits map ≡ replicate h 0 ++ (1 ∷ bits (24 - h) (map - 2 ^ (24 - h)))
+  unfolding hourBits
+  here = ap (bits 25) (sym whole) ∙ bits-first h 25 (24 - h) (map - 2 ^ (24 - h)) (omega (arith, t .inside)) (t .under)
+
+  gone : hourBits (map - 2 ^ (24 - h)) ≡ replicate h 0 ++ (0 ∷ bits (24 - h) (map - 2 ^ (24 - h)))
+  unfolding hourBits
+  gone = bits-after h 25 (24 - h) (map - 2 ^ (24 - h)) (omega (arith, t .inside)) (t .under)
+
+  pub less : map - 2 ^ (24 - h) < map
+  less = omega (arith, t .above, pow-pos (24 - h))
+
+  -- one named hour less
+  pub count-next : setBits map ≡ suc (setBits (map - 2 ^ (24 - h)))
+  unfolding setBits sum
+  count-next = rw (here, gone, sum-zeros) (omega (arith, sum-zeros h (0 ∷ bits (24 - h) (map - 2 ^ (24 - h)))))
+
+  pub fill-next : (f : List ℕ → ℕ) (n : ℕ) (bs es : List ℕ) → h < length es
+      → fillSlots f n (hourBits map) bs es ≡ fillSlots f n (hourBits (map - 2 ^ (24 - h))) (drop n bs) (set es h (f bs))
+  fill-next f n bs es l = rw (here, gone) (fill-first f n h (bits (24 - h) (map - 2 ^ (24 - h))) bs es l)
+
+-- A loop over the named hours of a message
+
+module _ (bytes : List ℕ) (x : Bool) (map : ℕ) where
+  -- what f finds in the slots of the message
+  abbrev pub Slots : (List ℕ → ℕ) → List ℕ
+  Slots f = readSlots f (slotWidth energyWidth x) (hourBits map) (drop headWidth (bitsOf bytes))
+
+  -- the same, of a list that is filled but for the hours of `rest`, whose slots begin at bit `at`
+  abbrev pub Filled : (List ℕ → ℕ) → List ℕ → ℕ → ℕ → Type 0
+  Filled f es at rest = fillSlots f (slotWidth energyWidth x) (hourBits rest) (drop at (bitsOf bytes)) es ≡ Slots f
+
+  pub record Filling (energies prices : List ℕ) (at rest : ℕ) : Type 0 where
+    pub small : rest < 2 ^ 25
+    pub energies-long : length energies ≡ 25
+    pub prices-long : length prices ≡ 25
+    pub room : at + setBits rest * slotWidth energyWidth x ≤ 8 * length bytes
+    pub near : at + setBits rest * slotWidth energyWidth x ≤ 864
+    pub energies-so : Filled (field 0 energyWidth) energies at rest
+    pub prices-so : Filled (field energyWidth (priceWidth x)) prices at rest
+
+  blank : (f : List ℕ → ℕ) → Filled f (replicate 25 0) headWidth map
+  unfolding hourBits
+  blank f = rw (length-bits 25 map) at (fill-blank f (slotWidth energyWidth x) (hourBits map) (drop headWidth (bitsOf bytes)))
+
+  pub filling-start : map < 2 ^ 25 → headWidth + setBits map * slotWidth energyWidth x ≤ 8 * length bytes
+      → Filling (replicate 25 0) (replicate 25 0) headWidth map
+  filling-start s r = record {
+    small = s;
+    energies-long = refl;
+    prices-long = refl;
+    room = r;
+    near = end-le x map;
+    energies-so = blank (field 0 energyWidth);
+    prices-so = blank (field energyWidth (priceWidth x));
+  }
+
+  module _ {energies prices : List ℕ} {at rest : ℕ} (i : Filling energies prices at rest) where
+    full : (f : List ℕ → ℕ) (es : List ℕ) → rest ≡ 0 → Filled f es at rest → es ≡ Slots f
+    unfolding hourBits
+    full f es z e = sym (rw (z, bits-zero) (fill-zeros f (slotWidth energyWidth x) 25 (drop at (bitsOf bytes)) es)) ∙ e
+
+    pub filling-end : rest ≡ 0 → (energies ≡ Slots (field 0 energyWidth)) × (prices ≡ Slots (field energyWidth (priceWidth x)))
+    filling-end z = (full (field 0 energyWidth) energies z (i .energies-so), full (field energyWidth (priceWidth x)) prices z (i .prices-so))
+
+    module _ (h : ℕ) (t : Next rest h) where
+      -- the bits of the next slot are there
+      pub room-next : (at + energyWidth + priceWidth x ≤ 8 * length bytes) × (at + energyWidth + priceWidth x ≤ 864)
+      unfolding slotWidth
+      room-next = (
+        omega (arith, rw (count-next t, suc-mul) at (i .room)),
+        omega (arith, rw (count-next t, suc-mul) at (i .near)),
+      )
+
+      pub filling-next : Filling (set energies h (field at energyWidth (bitsOf bytes)))
+          (set prices h (field (at + energyWidth) (priceWidth x) (bitsOf bytes)))
+          (at + energyWidth + priceWidth x)
+          (rest - 2 ^ (24 - h))
+      unfolding slotWidth field
+      filling-next =
+          let n = energyWidth + priceWidth x in
+          let bs = drop at (bitsOf bytes) in
+          let q : at + n ≡ at + energyWidth + priceWidth x = omega arith in
+          let e : drop n bs ≡ drop (at + energyWidth + priceWidth x) (bitsOf bytes) = rw (drop-drop n at (bitsOf bytes), q) in
+          let p : field energyWidth (priceWidth x) bs ≡ field (at + energyWidth) (priceWidth x) (bitsOf bytes) = field-drop at energyWidth (priceWidth x) (bitsOf bytes) in
+          record {
+            small = omega (arith, i .small);
+            energies-long = length-set energies h _ ∙ i .energies-long;
+            prices-long = length-set prices h _ ∙ i .prices-long;
+            room = omega (arith, rw (count-next t, suc-mul) at (i .room));
+            near = omega (arith, rw (count-next t, suc-mul) at (i .near));
+            energies-so = rw (← e) (sym (fill-next t (field 0 energyWidth) n bs energies (omega (arith, t .inside, i .energies-long))) ∙ i .energies-so);
+            prices-so = rw (← e, ← p) (sym (fill-next t (field energyWidth (priceWidth x)) n bs prices (omega (arith, t .inside, i .prices-long))) ∙ i .prices-so);
+          }

@@ -1,0 +1,51 @@
+use native.Mathlib.Omega.{arith}
+use Rattle.reader.specs.Bits.{wordAt}
+use Rattle.reader.proofs.WordLaws.{word-past}
+use Rattle.reader.proofs.bits.word_at.Statement.{statement}
+use Rattle.reader.proofs.bits.word_at.Tie as tie
+
+returns : tie.Need-returns
+returns c = (word-past _ _ (omega arith), omega arith)
+
+byte-at-requires : tie.Need-byte-at-requires
+byte-at-requires c κs = tt
+
+add-byte-at : tie.Need-add-byte-at
+add-byte-at c = omega arith
+
+byte-at-requires-2 : tie.Need-byte-at-requires-2
+byte-at-requires-2 c κs = tt
+
+add-byte-at-2 : tie.Need-add-byte-at-2
+add-byte-at-2 c = omega arith
+
+byte-at-requires-3 : tie.Need-byte-at-requires-3
+byte-at-requires-3 c κs = tt
+
+add-byte-at-3 : tie.Need-add-byte-at-3
+add-byte-at-3 c = omega arith
+
+byte-at-requires-4 : tie.Need-byte-at-requires-4
+byte-at-requires-4 c κs = tt
+
+joined-requires : tie.Need-joined-requires
+joined-requires c κs = tt
+
+returns-2 : tie.Need-returns-2
+unfolding wordAt
+returns-2 c = rw (← (c .before .before .before .before .byte-at .ensures), ← (c .before .before .before .byte-at2 .ensures), ← (c .before .before .byte-at3 .ensures), ← (c .before .byte-at4 .ensures)) (c .joined .ensures)
+
+pub word-at-spec : {M : Type 1} → statement M
+word-at-spec =
+    tie.close
+    (tie.spec
+    returns
+    byte-at-requires
+    add-byte-at
+    byte-at-requires-2
+    add-byte-at-2
+    byte-at-requires-3
+    add-byte-at-3
+    byte-at-requires-4
+    joined-requires
+    returns-2)

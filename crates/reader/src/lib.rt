@@ -1,0 +1,159 @@
+// Reading a lodging message.
+mod bits;
+
+use bits::word_at;
+use message::Fields;
+use message::Reading;
+use message::blank;
+use message::form::length_for;
+use message::form::price_width;
+use message::form::slots_end;
+use message::judge::bad_fields;
+use message::judge::bad_map;
+ghost use mathlib.Core.Path.{_≡_};
+ghost use mathlib.Core.Bool.{false};
+ghost use Prim.Native.Nat.{_+_, _*_, _^_, _<_, _≤_};
+ghost use lib.Count.{leadingZeros};
+ghost use lib.ListN.{length, drop};
+ghost use Rattle.rules.specs.Message.{
+  energyWidth,
+  priceWidth,
+  headWidth,
+  slotWidth,
+  setBits,
+  hourBits,
+  bitsOf,
+  field,
+  readSlots,
+  decode,
+  badForm,
+  read as reading,
+};
+ghost use Rattle.message.specs.View.{fieldsIn, readingAs, noFields};
+
+// 2 to the power k.
+fn power(k: usize) -> u32
+    requires { ⌜ k < 32 ⌝ }
+    ensures { λ r. ⌜ r ≡ 2 ^ k ⌝ }
+{
+    1u32 << k
+}
+
+// The number in `width` bits from bit `at` on.
+fn field_at(s: &[u8], at: usize, width: usize) -> u32
+    requires { ⌜ (width ≤ 25) × (at + width ≤ 8 * length (now s)) ⌝ }
+    ensures { λ r. ⌜ (r ≡ field at width (bitsOf (now (s .entry)))) × (r < 2 ^ width) ⌝ }
+{
+    let below = 32 - at % 8 - width;
+    let word = word_at(s, at / 8) >> below;
+    word as u32 % power(width)
+}
+
+// 3: wrong length, form, kind or filling.
+fn bad_form(s: &[u8]) -> bool
+    ensures { λ r. ⌜ r ≡ badForm energyWidth (now (s .entry)) ⌝ }
+{
+    if s.len() < 8 {
+        return true;
+    }
+    let kind = field_at(s, 4, 2);
+    let map = field_at(s, 39, 25);
+    if s.len() != length_for(kind == 1, map) {
+        return true;
+    }
+    if field_at(s, 0, 4) != 1 {
+        return true;
+    }
+    if 1 < kind {
+        return true;
+    }
+    let end = slots_end(kind == 1, map);
+    field_at(s, end, s.len() * 8 - end) != 0
+}
+
+// The hours before the first that the map names.
+fn next_hour(map: u32) -> usize
+    requires { ⌜ map < 2 ^ 25 ⌝ }
+    ensures { λ r. ⌜ r ≡ leadingZeros 25 map ⌝ }
+{
+    (u32::leading_zeros(map) - 7) as usize
+}
+
+struct Slots {
+    energies: [u32; 25],
+    prices: [u32; 25],
+}
+
+// The energy and the price of each named hour, 0 in the others.
+fn slots_of(s: &[u8], execution: bool, map: u32) -> Slots
+    requires { ⌜ (map < 2 ^ 25) × (headWidth + setBits map * slotWidth energyWidth execution ≤ 8 * length (now s)) ⌝ }
+    ensures { λ r. ⌜ (r .energies ≡ readSlots (field 0 energyWidth) (slotWidth energyWidth execution) (hourBits map) (drop headWidth (bitsOf (now (s .entry)))))
+        × (r .prices ≡ readSlots (field energyWidth (priceWidth execution)) (slotWidth energyWidth execution) (hourBits map) (drop headWidth (bitsOf (now (s .entry))))) ⌝ }
+{
+    let price = price_width(execution);
+    let mut energies = [0u32; 25];
+    let mut prices = [0u32; 25];
+    let mut at: usize = 64;
+    let mut rest = map;
+    while rest != 0 {
+        let h = next_hour(rest);
+        energies[h] = field_at(s, at, 17);
+        prices[h] = field_at(s, at + 17, price);
+        at = at + 17 + price;
+        rest = rest - power(24 - h);
+    }
+    Slots { energies, prices }
+}
+
+// What a message says, after its form was found right.
+fn fields_of(s: &[u8]) -> Fields
+    requires { ⌜ badForm energyWidth (now s) ≡ false ⌝ }
+    ensures { λ r. ⌜ fieldsIn r ≡ decode energyWidth (now (s .entry)) ⌝ }
+{
+    let execution = field_at(s, 4, 2) == 1;
+    let default = field_at(s, 6, 1) == 1;
+    let unit = field_at(s, 7, 16);
+    let contract = field_at(s, 23, 16);
+    let map = field_at(s, 39, 25);
+    let slots = slots_of(s, execution, map);
+    let energies = slots.energies;
+    let prices = slots.prices;
+    Fields {
+        execution,
+        default,
+        unit,
+        contract,
+        map,
+        energies,
+        prices,
+    }
+}
+
+fn refused(n: u32) -> Reading
+    ensures { λ r. ⌜ r ≡ record { refusal = n; fields = noFields } ⌝ }
+{
+    Reading {
+        refusal: n,
+        fields: blank(),
+    }
+}
+
+// A message's fields, or the refusal: 3, 4, 5 in the table's order.
+pub fn read(s: &[u8]) -> Reading
+    ensures { λ r. ⌜ r ≡ readingAs (reading (now (s .entry))) ⌝ }
+{
+    if bad_form(s) {
+        return refused(3);
+    }
+    let m = fields_of(s);
+    if bad_map(m.map) {
+        return refused(4);
+    }
+    if bad_fields(m) {
+        return refused(5);
+    }
+    Reading {
+        refusal: 0,
+        fields: m,
+    }
+}

@@ -1,0 +1,57 @@
+-- Writing hour after hour.
+use Prim.Native.Nat.{ℕ, _+_, _-_, _^_, _<_}
+use mathlib.Core.Path.{_≡_, refl, ap, sym, _∙_}
+use mathlib.Core.List.{List, _++_, append-assoc}
+use native.Mathlib.Omega.{arith}
+use lib.Pow.{pow-pos}
+use lib.ListN.{length, getD, length-append}
+use Rattle.rules.specs.Message.{Fields, bits, slotWidth}
+use Rattle.writer.specs.declared.Pen.{Pen}
+use Rattle.writer.specs.Pens.{completed, Appended, Room, InRanges, FirstHour, SlotWord, slotsOf}
+use Rattle.rules.proofs.BitLaws.{length-bits}
+use Rattle.writer.proofs.SlotLaws.{map-fits, slotAt, slotsOf-next, slotsOf-none}
+use Rattle.writer.proofs.PenLaws.{room-after}
+
+pub first-less : (map i rest : ℕ) → FirstHour map i rest → rest < map
+first-less map i rest f = omega (arith, f .first, pow-pos (24 - i))
+
+-- the hours of `rest` are still to be written: once they are, the buffer holds the slots of the whole map
+pub record Midway (m : Fields) (old : List ℕ) (start : Pen) (buf : List ℕ) (p : Pen) (rest : ℕ) : Type 0 where
+  pub map : rest < 2 ^ 25
+  pub kept : length buf ≡ length old
+  pub room : Room buf p (length (slotsOf m rest))
+  pub moved : p .pos + length (slotsOf m rest) ≡ start .pos + length (slotsOf m (m .map))
+  pub same : (after : List ℕ) → completed buf p (slotsOf m rest ++ after) ≡ completed old start (slotsOf m (m .map) ++ after)
+
+module _ (m : Fields) (old : List ℕ) (start : Pen) where
+  pub midway-start : InRanges m → Room old start (length (slotsOf m (m .map))) → Midway m old start old start (m .map)
+  midway-start h r = record { map = map-fits (m .map) (h .map) .1; kept = refl; room = r; moved = refl; same = λ after. refl }
+
+  pub midway-end : {buf : List ℕ} {p : Pen} {rest : ℕ} → Midway m old start buf p rest → rest ≡ 0 → Appended old start (slotsOf m (m .map)) buf p
+  midway-end {buf} {p} {rest} h e = record {
+    moved = omega (arith, h .moved, ap length (slotsOf-none m rest e));
+    byte = h .room .byte;
+    same = λ after. ap (λ l. completed buf p (l ++ after)) (sym (slotsOf-none m rest e)) ∙ h .same after;
+  }
+
+  -- hour i is next, and v the number of its slot of w bits
+  module _ {buf : List ℕ} {p : Pen} {rest : ℕ} (h : Midway m old start buf p rest) {i rest′ w v : ℕ} (f : FirstHour rest i rest′)
+      (e : w ≡ slotWidth 17 (m .execution)) (s : SlotWord (m .execution) (getD (m .energies) i 0) (getD (m .prices) i 0) v) where
+    next-bits : slotsOf m rest ≡ bits w v ++ slotsOf m rest′
+    unfolding slotAt
+    next-bits = rw (slotsOf-next m rest i rest′ f, e, s .bits)
+
+    next-length : length (slotsOf m rest) ≡ w + length (slotsOf m rest′)
+    next-length = ap length next-bits ∙ length-append (bits w v) (slotsOf m rest′) ∙ rw (length-bits w v)
+
+    pub midway-room : Room buf p w
+    midway-room = record { byte = h .room .byte; within = omega (arith, h .room .within, next-length); small = omega (arith, h .room .small, next-length) }
+
+    pub midway-next : {new : List ℕ} {r : Pen} → Appended buf p (bits w v) new r → length new ≡ length buf → Midway m old start new r rest′
+    midway-next a k = record {
+      map = omega (arith, h .map, first-less rest i rest′ f);
+      kept = k ∙ h .kept;
+      room = room-after (length (slotsOf m rest′)) a k (rw (length-bits w v, ← next-length) (h .room));
+      moved = omega (arith, h .moved, a .moved, next-length, length-bits w v);
+      same = λ after. a .same (slotsOf m rest′ ++ after) ∙ ap (completed buf p) (sym (append-assoc (bits w v) (slotsOf m rest′) after) ∙ ap (λ l. l ++ after) (sym next-bits)) ∙ h .same after;
+    }

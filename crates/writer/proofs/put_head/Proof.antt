@@ -1,0 +1,59 @@
+use Rattle.writer.proofs.PenLaws.{appended-append, room-after}
+use Rattle.writer.proofs.SlotLaws.{map-fits}
+use Rattle.rules.proofs.BitLaws.{length-bits}
+use Rattle.rules.specs.Message.{hourBits}
+use native.Mathlib.Omega.{arith}
+use borrow.Author.Needs.{needs}
+use Rattle.writer.proofs.put_head.Statement.{statement}
+use Rattle.writer.proofs.put_head.Tie as tie
+use Rattle.writer.proofs.put_head.Reads as reads
+use Rattle.writer.proofs.put_head.Lts as lts
+use Rattle.writer.proofs.head_word.Reads as head-word-reads
+use Rattle.writer.proofs.put_bits.Reads as put-bits-reads
+
+-- src/write.rt:88:43
+head-word-requires : tie.Need-head-word-requires
+head-word-requires c κs = search needs
+
+-- src/write.rt:88:9
+put-bits-requires : tie.Need-put-bits-requires
+put-bits-requires c κs = search needs
+
+-- src/write.rt:89:31
+cast-put-bits : tie.Need-cast-put-bits
+cast-put-bits c = search needs
+
+-- src/write.rt:89:5
+put-bits-requires-2 : tie.Need-put-bits-requires-2
+put-bits-requires-2 c κs = (
+  room-after 25 (c .before .before .before .before .put-bits .ensures) (c .before .before .before .before .put-bits .kept .0) (record {
+    byte = omega arith;
+    within = omega (arith, length-bits 39 (c .before .before .before .before .before .head-word .result));
+    small = omega (arith, length-bits 39 (c .before .before .before .before .before .head-word .result));
+  }),
+  omega arith,
+  map-fits _ (c .before .before .before .before .before .before .before .before .pre .0 .map) .1,
+)
+
+-- src/write.rt:83:1
+same-length : tie.Need-same-length
+same-length c = search needs
+
+-- src/write.rt:83:1
+returns : tie.Need-returns
+unfolding hourBits
+returns c = (
+  omega (arith, c .before .before .before .before .before .before .before .put-bits .ensures .moved, c .before .before .put-bits2 .ensures .moved, length-bits 39 (c .before .before .before .before .before .before .before .before .head-word .result), length-bits 25 (c .before .before .before .before .before .before .before .before .before .before .before .args .m .map)),
+  rw (c .before .before .before .before .before .before .before .before .head-word .ensures .1) at (appended-append (c .before .before .before .before .before .before .before .put-bits .ensures) (c .before .before .put-bits2 .ensures)),
+)
+
+pub put-head-spec : {M : Type 1} → statement M
+put-head-spec =
+    tie.close
+    (tie.spec
+    head-word-requires
+    put-bits-requires
+    cast-put-bits
+    put-bits-requires-2
+    same-length
+    returns)
