@@ -1,3 +1,4 @@
-pub mod NumberLaws
 pub mod PlaceLaws
+pub mod NumberLaws
 pub mod SliceLaws
+pub mod SortLaws

@@ -1,14 +1,15 @@
 -- Laws of places: one turn of a loop and its end, and what a written array holds.
-use Prim.Native.Nat.{ℕ, zero, suc, _+_, _-_, _≤_, _<_}
+use Prim.Native.Nat.{ℕ, zero, suc, _+_, _*_, _-_, _≤_, _<_}
 use mathlib.Core.Path.{_≡_, refl, ap, ap₂, sym, _∙_}
+use mathlib.Core.Bool.{Bool, true, false, cond}
 use mathlib.Core.List.{List, [], _∷_, map}
-use mathlib.Core.Logic.{⊎-elim}
+use mathlib.Core.Logic.{_⊎_, ⊎-elim}
 use native.Mathlib.Nat.{eq-or-lt-of-le}
 use native.Mathlib.Numerals.{add-one}
 use native.Mathlib.Omega.{arith}
 use lib.Dec.{eqb}
-use lib.ListN.{getD, set, length, length-set, replicate}
-use lib.Seq.{getD-set-same, getD-set-other}
+use lib.ListN.{getD, set, length, length-set, replicate, take, drop}
+use lib.Seq.{getD-set-same, getD-set-other, drop-cons}
 use borrow.Author.Tests.{eqb-true, eqb-false}
 use Rattle.rules.specs.Lists.{All, none, more, sum, from}
 use Rattle.rules.proofs.BoolLaws.{by-bool}
@@ -36,6 +37,13 @@ pub from-all : (P : ℕ → Type 0) (i n : ℕ) → ((j : ℕ) → i ≤ j → j
 unfolding from
 from-all P i zero f = none
 from-all P i (suc n) f = more (f i (omega arith) (omega arith)) (from-all P (suc i) n (λ j h k. f j (omega arith) (omega arith)))
+
+-- what holds along a range, at one place of it
+pub all-at : {A : Type 0} {P : A → Type 0} (f : ℕ → A) (a d : ℕ) → All P (map f (from a d)) → (i : ℕ) → a ≤ i → i < a + d → P (f i)
+unfolding from
+all-at f a zero h i l k = absurd (omega arith)
+all-at f a (suc d) (more h t) i l k =
+    ⊎-elim (λ q. rw (← q) h) (λ z. all-at f (suc a) d t i z (omega arith)) (eq-or-lt-of-le l)
 
 -- two maps that agree at each element
 pub map-all : {A B : Type 0} (f g : A → B) {xs : List A} → All (λ x. f x ≡ g x) xs → map f xs ≡ map g xs
@@ -65,6 +73,16 @@ total-next a i n h = rw (vals-next a i n h)
 pub total-end : (a : List ℕ) (i n : ℕ) → n ≤ i → sum (vals a i n) ≡ 0
 unfolding sum
 total-end a i n h = rw (vals-end a i n h)
+
+-- the values from place 0 on are the first of the array
+vals-drop : (a : List ℕ) (i n : ℕ) → i + n ≤ length a → map (λ j. getD a j 0) (from i n) ≡ take n (drop i a)
+unfolding from
+vals-drop a i zero h = refl
+vals-drop a i (suc n) h = rw (drop-cons a i 0 (omega arith)) (ap (λ (l : List ℕ). getD a i 0 ∷ l) (vals-drop a (suc i) n (omega arith)))
+
+pub vals-take : (a : List ℕ) (n : ℕ) → n ≤ length a → vals a 0 n ≡ take n a
+unfolding vals
+vals-take a n h = rw (none-off n) (vals-drop a 0 n (omega arith))
 
 -- at places where two arrays agree they have the same values
 pub vals-agree : (a b : List ℕ) (n : ℕ) → ((j : ℕ) → j < n → getD a j 0 ≡ getD b j 0) → vals a 0 n ≡ vals b 0 n

@@ -1,9 +1,11 @@
 // Numbers and arrays by place: what every room uses, with no word of the market.
 ghost use mathlib.Core.Path.{_≡_};
 ghost use Prim.Native.Nat.{ℕ, _+_, _-_, _*_, _/_, _≤_, _<_, min, max};
-ghost use lib.ListN.{getD};
+ghost use mathlib.Core.List.{List, _∷_};
+ghost use lib.ListN.{getD, take, length};
 ghost use Rattle.rules.specs.Lists.{sum};
 ghost use Rattle.arrays.specs.Places.{vals};
+ghost use Rattle.arrays.specs.Sorting.{sort};
 
 pub fn lower(a: u32, b: u32) -> u32
     ensures { λ r. ⌜ r ≡ min a b ⌝ }
@@ -58,4 +60,18 @@ pub fn total(a: &[u32; 128], n: usize) -> u32
         s += a[i];
     }
     s
+}
+
+// x among the first k numbers of an array, which are sorted.
+pub fn insert(a: &mut [u32; 128], k: usize, x: u32)
+    requires { ⌜ (k < 128) × (length (now a) ≡ 128) ⌝ }
+    ensures { λ _. ⌜ (length (now (a .exit)) ≡ 128) × ((xs : List ℕ) → take k (now (a .entry)) ≡ sort xs → take (k + 1) (now (a .exit)) ≡ sort (x ∷ xs)) ⌝ }
+{
+    let mut c = x;
+    for j in 0..k {
+        let y = a[j];
+        a[j] = lower(c, y);
+        c = higher(c, y);
+    }
+    a[k] = c;
 }

@@ -1,0 +1,4 @@
+pub mod ViewLaws
+pub mod OrderLaws
+pub mod WalkLaws
+pub mod MatchLaws
