@@ -1,4 +1,4 @@
--- The hours that a map names: their count, their slots and their ranges.
+-- The hours that a map names: their slots, one after the other, and their ranges.
 use Prim.Native.Nat.{ℕ, zero, suc, _+_, _*_, _-_, _%_, _^_, _≤_, _<_}
 use mathlib.Core.Bool.{Bool, true, false, not, cond, _||_, true≢false, false≢true}
 use mathlib.Core.Logic.{_⊎_, inl, inr}

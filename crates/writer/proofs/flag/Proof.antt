@@ -3,15 +3,11 @@ use native.Mathlib.Omega.{arith}
 use Rattle.rules.specs.Message.{bit}
 use Rattle.writer.proofs.flag.Statement.{statement}
 use Rattle.writer.proofs.flag.Tie as tie
-use Rattle.writer.proofs.flag.Reads as reads
-use Rattle.writer.proofs.flag.Lts as lts
 
--- src/write.rt:68:9
 returns : tie.Need-returns
 unfolding bit
 returns c = rw (c .if1 .taken) (refl, omega arith)
 
--- src/write.rt:64:1
 returns-2 : tie.Need-returns-2
 unfolding bit
 returns-2 c = rw (c .if1 .left) (refl, omega arith)

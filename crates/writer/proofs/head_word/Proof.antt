@@ -1,57 +1,42 @@
-use Rattle.writer.proofs.HeadLaws.{head-fits, head-word}
 use native.Mathlib.Omega.{arith}
 use borrow.Author.Needs.{needs}
+use Rattle.writer.proofs.HeadLaws.{head-fits, head-word}
 use Rattle.writer.proofs.head_word.Statement.{statement}
 use Rattle.writer.proofs.head_word.Tie as tie
-use Rattle.writer.proofs.head_word.Reads as reads
-use Rattle.writer.proofs.head_word.Lts as lts
-use Rattle.writer.proofs.flag.Reads as flag-reads
 
--- src/write.rt:78:20
 flag-requires : tie.Need-flag-requires
 flag-requires c κs = search needs
 
--- src/write.rt:78:16
 add-kind : tie.Need-add-kind
 add-kind c = omega arith
 
--- src/write.rt:79:18
 mul-marked : tie.Need-mul-marked
 mul-marked c = omega arith
 
--- src/write.rt:79:29
 flag-requires-2 : tie.Need-flag-requires-2
 flag-requires-2 c κs = search needs
 
--- src/write.rt:79:18
 add-marked : tie.Need-add-marked
 add-marked c = omega arith
 
--- src/write.rt:80:16
 mul-unit : tie.Need-mul-unit
 mul-unit c = omega arith
 
--- src/write.rt:80:33
 cast-unit : tie.Need-cast-unit
 cast-unit c = search needs
 
--- src/write.rt:80:16
 add-unit : tie.Need-add-unit
 add-unit c = omega (arith, head-fits _ (c .before .before .before .pre .values))
 
--- src/write.rt:81:5
 mul-result : tie.Need-mul-result
 mul-result c = omega (arith, head-fits _ (c .before .before .before .pre .values))
 
--- src/write.rt:81:20
 cast-result : tie.Need-cast-result
 cast-result c = search needs
 
--- src/write.rt:81:5
 add-result : tie.Need-add-result
 add-result c = omega (arith, head-fits _ (c .before .before .before .before .pre .values))
 
--- src/write.rt:74:1
 returns : tie.Need-returns
 returns c = (
   omega (arith, head-fits _ (c .before .before .before .before .pre .values)),

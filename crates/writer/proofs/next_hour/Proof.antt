@@ -1,34 +1,26 @@
-use Rattle.writer.proofs.SlotLaws.{leading, one-shifted, first-hour}
 use lib.Count.{leadingZeros}
 use Prim.Native.Nat.{_-_}
 use native.Mathlib.Omega.{arith}
 use borrow.Author.Needs.{needs}
+use Rattle.writer.proofs.SlotLaws.{leading, one-shifted, first-hour}
 use Rattle.writer.proofs.next_hour.Statement.{statement}
 use Rattle.writer.proofs.next_hour.Tie as tie
-use Rattle.writer.proofs.next_hour.Reads as reads
-use Rattle.writer.proofs.next_hour.Lts as lts
 
--- src/write.rt:125:16
 sub-t3 : tie.Need-sub-t3
 sub-t3 c = omega (arith, leading (c .args .map) (c .pre .0) (c .pre .1))
 
--- src/write.rt:125:15
 cast-t4 : tie.Need-cast-t4
 cast-t4 c = omega (arith, leading (c .args .map) (c .pre .0) (c .pre .1))
 
--- src/write.rt:126:28
 sub-t5 : tie.Need-sub-t5
 sub-t5 c = omega (arith, leading (c .args .map) (c .pre .0) (c .pre .1))
 
--- src/write.rt:126:22
 shl-t6 : tie.Need-shl-t6
 shl-t6 c = search needs
 
--- src/write.rt:126:15
 sub-t7 : tie.Need-sub-t7
 sub-t7 c = let l = leading (c .args .map) (c .pre .0) (c .pre .1) in omega (arith, one-shifted (31 - leadingZeros 32 (c .args .map)) (omega arith))
 
--- src/write.rt:119:1
 returns : tie.Need-returns
 returns c = let l = leading (c .args .map) (c .pre .0) (c .pre .1) in
     first-hour _ _ _ (l .0) (l .1) (l .2) (l .3) (one-shifted (31 - leadingZeros 32 (c .args .map)) (omega arith))

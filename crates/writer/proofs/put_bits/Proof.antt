@@ -1,41 +1,30 @@
-use Rattle.writer.proofs.PenLaws.{shift-whole, shift-fits, put-appended}
 use native.Mathlib.Omega.{arith}
 use borrow.Author.Needs.{needs}
+use Rattle.writer.proofs.PenLaws.{shift-whole, shift-fits, put-appended}
 use Rattle.writer.proofs.put_bits.Statement.{statement}
 use Rattle.writer.proofs.put_bits.Tie as tie
-use Rattle.writer.proofs.put_bits.Reads as reads
-use Rattle.writer.proofs.put_bits.Lts as lts
-use Rattle.writer.proofs.put_bytes.Reads as put-bytes-reads
 
--- src/write.rt:41:16
 shl-all : tie.Need-shl-all
 shl-all c = search needs
 
--- src/write.rt:41:15
 add-all : tie.Need-add-all
 add-all c = record { fits = shift-fits _ _ _ (c .before .before .pre .0 .byte) (c .before .before .pre .1) (c .before .before .pre .2) }
 
--- src/write.rt:42:13
 add-n : tie.Need-add-n
 add-n c = search needs
 
--- src/write.rt:43:29
 shr-put-bytes : tie.Need-shr-put-bytes
 shr-put-bytes c = search needs
 
--- src/write.rt:43:5
 put-bytes-requires : tie.Need-put-bytes-requires
 put-bytes-requires c κs = search needs
 
--- src/write.rt:45:14
 add-t10 : tie.Need-add-t10
 add-t10 c = omega (arith, c .before .before .before .before .before .before .pre .0)
 
--- src/write.rt:36:1
 same-length : tie.Need-same-length
 same-length c = search needs
 
--- src/write.rt:36:1
 returns : tie.Need-returns
 returns c = put-appended _ (c .before .before .before .before .before .before .args .p) (c .before .before .before .before .before .before .args .v) (c .before .before .before .before .before .before .args .w) _ (c .before .before .before .before .before .before .pre .2) (shift-whole _ _ (c .before .before .before .before .before .before .pre .0 .byte) (c .before .before .before .before .before .before .pre .1)) _ (c .before .before .put-bytes .ensures)
 

@@ -1,29 +1,21 @@
-use Rattle.writer.proofs.PenLaws.{appended-append, room-after}
-use Rattle.writer.proofs.SlotLaws.{map-fits}
-use Rattle.rules.proofs.BitLaws.{length-bits}
-use Rattle.rules.specs.Message.{hourBits}
 use native.Mathlib.Omega.{arith}
 use borrow.Author.Needs.{needs}
+use Rattle.rules.proofs.BitLaws.{length-bits}
+use Rattle.rules.specs.Message.{hourBits}
+use Rattle.writer.proofs.PenLaws.{appended-append, room-after}
+use Rattle.writer.proofs.SlotLaws.{map-fits}
 use Rattle.writer.proofs.put_head.Statement.{statement}
 use Rattle.writer.proofs.put_head.Tie as tie
-use Rattle.writer.proofs.put_head.Reads as reads
-use Rattle.writer.proofs.put_head.Lts as lts
-use Rattle.writer.proofs.head_word.Reads as head-word-reads
-use Rattle.writer.proofs.put_bits.Reads as put-bits-reads
 
--- src/write.rt:88:43
 head-word-requires : tie.Need-head-word-requires
 head-word-requires c κs = search needs
 
--- src/write.rt:88:9
 put-bits-requires : tie.Need-put-bits-requires
 put-bits-requires c κs = search needs
 
--- src/write.rt:89:31
 cast-put-bits : tie.Need-cast-put-bits
 cast-put-bits c = search needs
 
--- src/write.rt:89:5
 put-bits-requires-2 : tie.Need-put-bits-requires-2
 put-bits-requires-2 c κs = (
   room-after 25 (c .before .before .before .before .put-bits .ensures) (c .before .before .before .before .put-bits .kept .0) (record {
@@ -35,11 +27,9 @@ put-bits-requires-2 c κs = (
   map-fits _ (c .before .before .before .before .before .before .before .before .pre .0 .map) .1,
 )
 
--- src/write.rt:83:1
 same-length : tie.Need-same-length
 same-length c = search needs
 
--- src/write.rt:83:1
 returns : tie.Need-returns
 unfolding hourBits
 returns c = (

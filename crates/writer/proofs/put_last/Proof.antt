@@ -1,35 +1,26 @@
-use Rattle.writer.proofs.PenLaws.{last-whole, last-part}
 use borrow.Author.Needs.{needs}
+use Rattle.writer.proofs.PenLaws.{last-whole, last-part}
 use Rattle.writer.proofs.put_last.Statement.{statement}
 use Rattle.writer.proofs.put_last.Tie as tie
-use Rattle.writer.proofs.put_last.Reads as reads
-use Rattle.writer.proofs.put_last.Lts as lts
 
--- src/write.rt:58:9
 returns : tie.Need-returns
 returns c = last-whole _ (c .before .before .before .args .p) (c .if1 .taken)
 
--- src/write.rt:60:27
 sub-buf : tie.Need-sub-buf
 sub-buf c = search needs
 
--- src/write.rt:60:17
 shl-buf : tie.Need-shl-buf
 shl-buf c = search needs
 
--- src/write.rt:60:15
 cast-buf : tie.Need-cast-buf
 cast-buf c = search needs
 
--- src/write.rt:60:5
 slice-write-buf : tie.Need-slice-write-buf
 slice-write-buf c = search needs
 
--- src/write.rt:51:1
 same-length : tie.Need-same-length
 same-length c = search needs
 
--- src/write.rt:51:1
 returns-2 : tie.Need-returns-2
 returns-2 c = last-part _ (c .before .before .before .before .args .p) (c .before .before .before .before .pre .byte) (c .before .if1 .left)
 

@@ -1,32 +1,24 @@
-use Rattle.writer.proofs.WriteLaws.{number-4, number-5, number-14, number-0}
-use Rattle.message.specs.View.{fieldsIn}
 use borrow.Author.Needs.{needs}
+use Rattle.message.specs.View.{fieldsIn}
+use Rattle.writer.proofs.WriteLaws.{number-4, number-5, number-14, number-0}
 use Rattle.writer.proofs.refusal.Statement.{statement}
 use Rattle.writer.proofs.refusal.Tie as tie
-use Rattle.writer.proofs.refusal.Reads as reads
-use Rattle.writer.proofs.refusal.Lts as lts
 
--- src/write.rt:146:9
 bad-fields-requires : tie.Need-bad-fields-requires
 bad-fields-requires c κs = search needs
 
--- src/write.rt:148:8
 bad-map-requires : tie.Need-bad-map-requires
 bad-map-requires c κs = search needs
 
--- src/write.rt:149:9
 returns : tie.Need-returns
 returns c = number-4 _ (fieldsIn (c .before .before .before .args .m)) (c .before .bad-map .ensures) (c .before .before .bad-fields .ensures) (c .if1 .taken)
 
--- src/write.rt:152:9
 returns-2 : tie.Need-returns-2
 returns-2 c = number-5 _ (fieldsIn (c .before .before .before .before .args .m)) (c .before .before .bad-map .ensures) (c .before .before .before .bad-fields .ensures) (c .before .if1 .left) (c .if2 .taken)
 
--- src/write.rt:155:9
 returns-3 : tie.Need-returns-3
 returns-3 c = number-14 (c .before .before .before .before .before .args .room) (fieldsIn (c .before .before .before .before .before .args .m)) (c .before .before .before .bad-map .ensures) (c .before .before .before .before .bad-fields .ensures) (c .before .before .before .before .before .pre) (c .before .before .if1 .left) (c .before .if2 .left) (c .if3 .taken)
 
--- src/write.rt:142:1
 returns-4 : tie.Need-returns-4
 returns-4 c = number-0 (c .before .before .before .before .before .args .room) (fieldsIn (c .before .before .before .before .before .args .m)) (c .before .before .before .bad-map .ensures) (c .before .before .before .before .bad-fields .ensures) (c .before .before .before .before .before .pre) (c .before .before .if1 .left) (c .before .if2 .left) (c .if3 .left)
 
