@@ -17,6 +17,7 @@ pub mod DirectionLaws
 pub mod WithdrawalLaws
 pub mod ProgressLaws
 pub mod EndLaws
+pub mod RepeatLaws
 pub mod BorderLaws
 pub mod HourLaws
 pub mod SoundLaws
