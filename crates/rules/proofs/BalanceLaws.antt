@@ -13,6 +13,7 @@ use Rattle.rules.specs.Match.{Offer}
 use Rattle.rules.specs.Borders.{Directed, Execution, flow, marketBalance, executionBalance, toward, positive}
 use Rattle.rules.specs.Withdrawal.{excessOf}
 use Rattle.rules.specs.Executions.{bilateralMaximum, bilateralExcess}
+unfoldable pub use Rattle.rules.specs.Demands.{crossing}
 use Rattle.rules.proofs.BoolLaws.{by-bool}
 use Rattle.rules.proofs.SplitLaws.{neg-sub, positive-sub, toward-balance}
 
@@ -94,10 +95,6 @@ pub execution-toward : (border : ℕ) (export : Bool) (xs : List Execution)
     → toward export (executionBalance border xs) ≡ subℕ (executionFlow border export xs) (executionFlow border (not export) xs)
 unfolding executionBalance
 execution-toward border export xs = toward-balance (λ x. x .holder) (λ x. x .energy) border export xs
-
--- "Market plus bilateral balance at each border", seen in a direction: "negated for import"
-unfoldable pub crossing : Directed → List Offer → List Execution → ℤ
-crossing c os xs = toward (c .export) (marketBalance (c .border) os +ℤ executionBalance (c .border) xs)
 
 -- a sum of balances seen in a direction
 toward-add : (export : Bool) (m k : ℤ) → toward export (m +ℤ k) ≡ toward export m +ℤ toward export k

@@ -2,48 +2,26 @@
 -- exactly when the sum with none cut passes it, and the cut sum then stands at it.
 use Prim.Native.Nat.{ℕ, _+_, _-_, _≤_, _<_}
 use mathlib.Core.Path.{_≡_, refl, ap, ap₂, _∙_}
-use mathlib.Core.Logic.{_↔_}
 use mathlib.Core.Bool.{Bool, true, false, cond, not, Bool·not-not}
 use mathlib.Core.List.{List, [], _∷_, map}
 use native.Mathlib.Omega.{arith}
 use native.Mathlib.Nat.{le-refl}
 use lib.Dec.{ltb}
-use lib.IntN.{pos}
-use lib.Signed.{_≤ℤ_, _<ℤ_}
 use borrow.Author.Tests.{ltb-true, ltb-false}
 use Rattle.rules.specs.Lists.{All, none, more, keep, any, sum, sumOf, addEach}
-use Rattle.rules.specs.Share.{share}
 use Rattle.rules.specs.Match.{Offer}
 use Rattle.rules.specs.Borders.{Directed, Execution, runs, flow}
 use Rattle.rules.specs.Executions.{bilateralExcess, cuts, allCuts, lessEach, cutAll}
+pub use Rattle.rules.specs.Demands.{CutDown, SomeCut, this, another, amountsOn, Kept}
+unfoldable pub use Rattle.rules.specs.Demands.{lost}
 use Rattle.rules.proofs.BoolLaws.{by-bool, not-both, of-not}
 use Rattle.rules.proofs.ElementLaws.{all-both, empty, ahead, Each, each0, each, each-refl}
 use Rattle.rules.proofs.ShareLaws.{Under, under0, under, each-sum, share-sum, share-under}
 use Rattle.rules.proofs.SumLaws.{sum-zeros, cond-le, masked, zeros-under, masked-sum, under-add, passing, passing-self, passing-none, passing-add, passing-le, add-zeros}
-use Rattle.rules.proofs.BalanceLaws.{marketFlow, executionFlow, crossing, crossing-flows, bilateral-flows, passes-excess, sub-le, sub-at}
+use Rattle.rules.proofs.BalanceLaws.{marketFlow, executionFlow, crossing-flows, bilateral-flows, passes-excess, sub-le, sub-at}
 use Rattle.rules.proofs.DirectionLaws.{sameDirection, same-parts, Once, runs-one, runs-none}
 
 -- What a cut leaves
-
--- An execution against what it was before the cut: the same holder, and no more energy.
-pub record CutDown (before after : Execution) : Type 0 where
-  pub holder : after .holder ≡ before .holder
-  pub energy : after .energy ≤ before .energy
-
--- "Some execution there in a direction is cut": it has less energy after than before
-pub data SomeCut (c : Directed) : List Execution → List Execution → Type 0 where
-  this : {x y : Execution} {xs ys : List Execution} → runs (c .border) (c .export) (x .holder) ≡ true → y .energy < x .energy → SomeCut c (x ∷ xs) (y ∷ ys)
-  another : {x y : Execution} {xs ys : List Execution} → SomeCut c xs ys → SomeCut c (x ∷ xs) (y ∷ ys)
-
--- the executions' energies in a direction, 0 for the others
-abbrev pub amountsOn : Directed → List Execution → List ℕ
-amountsOn c xs = masked (λ x. runs (c .border) (c .export) (x .holder)) (λ x. x .energy) xs
-
--- what each execution in a direction loses, 0 for the others
-unfoldable pub lost : Directed → List Execution → List Execution → List ℕ
-lost c [] ys = []
-lost c (x ∷ xs) [] = []
-lost c (x ∷ xs) (y ∷ ys) = cond (runs (c .border) (c .export) (x .holder)) (x .energy - y .energy) 0 ∷ lost c xs ys
 
 -- an execution runs in a direction
 abbrev on : Directed → Execution → Bool
@@ -198,18 +176,6 @@ module _ (os : List Offer) (xs : List Execution) where
         sum-zeros xs,
         passing-bound d t fs,
       ))
-
--- What holds at a border in a direction with a capacity, of the final offers, the executions, and the executions after cuts.
-pub record Kept (c : Directed) (os : List Offer) (before after : List Execution) : Type 0 where
-  -- "Market plus bilateral balance at each border keeps within each published capacity."
-  pub within : crossing c os after ≤ℤ pos (c .energy)
-  -- "Some execution there in a direction is cut [..] exactly when the sum with none cut would pass that direction's capacity"
-  pub cut : SomeCut c before after ↔ (pos (c .energy) <ℤ crossing c os before)
-  -- "and the cut sum then stands at it"
-  pub stands : pos (c .energy) <ℤ crossing c os before → crossing c os after ≡ pos (c .energy)
-  -- "by the papers' Share": R is at most G, and each loses what Share takes from it
-  pub enough : bilateralExcess os before c ≤ sum (amountsOn c before)
-  pub shared : lost c before after ≡ share (bilateralExcess os before c) (amountsOn c before)
 
 module _ (os : List Offer) (xs : List Execution) {cs : List Directed} (once : Once cs) (fits : All (Fits os xs) cs) where
   -- the executions after cuts

@@ -1,8 +1,9 @@
 -- Laws of a list's elements: one that is found, each against the later ones, and two lists place by place.
 use mathlib.Core.Path.{_≡_}
 use mathlib.Core.Bool.{Bool, true, false, cond, false≢true}
-use mathlib.Core.List.{List, [], _∷_, _++_, map}
+use mathlib.Core.List.{List, [], _∷_, _++_, map, reverseAux}
 use Rattle.rules.specs.Lists.{All, none, more, keep, any}
+pub use Rattle.rules.specs.Lists.{Pairwise, empty, ahead, Each, each0, each}
 use Rattle.rules.proofs.BoolLaws.{by-bool}
 use Rattle.rules.proofs.ListLaws.{all-map, all-append, all-keep, all-mapped}
 
@@ -47,11 +48,6 @@ any-true p (x ∷ xs) h = by-bool (p x) (λ e. here e) (λ e. there (any-true p 
 
 -- Each element against the later ones
 
--- each stands in R to every later one
-pub data Pairwise {A : Type 0} (R : A → A → Type 0) : List A → Type 0 where
-  empty : Pairwise R []
-  ahead : {x : A} {xs : List A} → All (R x) xs → Pairwise R xs → Pairwise R (x ∷ xs)
-
 module _ {A : Type 0} {R : A → A → Type 0} where
   -- so does either of two lists
   pairwise-cond : (b : Bool) {xs ys : List A} → Pairwise R xs → Pairwise R ys → Pairwise R (cond b xs ys)
@@ -74,12 +70,40 @@ pub pairwise-append : {A : Type 0} {R : A → A → Type 0} {xs ys : List A} →
 pairwise-append none empty k = k
 pairwise-append (more a u) (ahead h t) k = ahead (all-append h a) (pairwise-append u t k)
 
--- Two lists place by place
+-- one more element of which it holds
+pub all-last : {A : Type 0} {P : A → Type 0} {xs : List A} {y : A} → All P xs → P y → All P (xs ++ (y ∷ []))
+all-last h k = all-append h (more k none)
 
--- as long as each other, and in R at each place
-pub data Each {A B : Type 0} (R : A → B → Type 0) : List A → List B → Type 0 where
-  each0 : Each R [] []
-  each : {x : A} {y : B} {xs : List A} {ys : List B} → R x y → Each R xs ys → Each R (x ∷ xs) (y ∷ ys)
+-- one more element that stands in R to each before
+pub pairwise-last : {A : Type 0} {R : A → A → Type 0} {xs : List A} {y : A} → Pairwise R xs → All (λ x. R x y) xs → Pairwise R (xs ++ (y ∷ []))
+pairwise-last h k = pairwise-append (all-map (λ x r. more r none) k) h (ahead none empty)
+
+module _ {A : Type 0} {R : A → A → Type 0} where
+  -- each with the later ones: what follows from it
+  pub pairwise-weaken : {S : A → A → Type 0} {xs : List A} → ((x y : A) → R x y → S x y) → Pairwise R xs → Pairwise S xs
+  pairwise-weaken f empty = empty
+  pairwise-weaken f (ahead {x} h t) = ahead (all-map (f x) h) (pairwise-weaken f t)
+
+  module _ (turn : (x y : A) → R x y → R y x) where
+    -- two parts of a list that share no element
+    pub pairwise-apart : (p q : A → Bool) → ((x : A) → p x ≡ true → q x ≡ false) → {xs : List A} → Pairwise R xs → All (λ x. All (R x) (keep q xs)) (keep p xs)
+    unfolding keep
+    pairwise-apart p q f empty = none
+    pairwise-apart p q f (ahead {x} {xs} a t) =
+        by-bool (p x) (λ e. rw (e, f x e) (more (all-keep q a) (pairwise-apart p q f t)))
+        (λ e. rw e (by-bool (q x) (λ d. rw d (all-both (λ z r s. more (turn x z r) s) (all-keep p a) (pairwise-apart p q f t))) (λ d. rw d (pairwise-apart p q f t))))
+
+-- a list turned round
+pub pairwise-reversed : {A : Type 0} {R S : A → A → Type 0} → ((x y : A) → R x y → S y x) → {xs ys : List A} → Pairwise R xs → Pairwise S ys → All (λ x. All (S x) ys) xs → Pairwise S (reverseAux xs ys)
+pairwise-reversed turn empty k none = k
+pairwise-reversed turn (ahead {x} a t) k (more h u) = pairwise-reversed turn t (ahead h k) (all-both (λ z r s. more (turn x z r) s) a u)
+
+-- each of one list against all of another
+pub across : {A : Type 0} {P Q : A → Type 0} {R : A → A → Type 0} {xs ys : List A} → ((x y : A) → P x → Q y → R x y) → All P xs → All Q ys → All (λ x. All (R x) ys) xs
+across f none k = none
+across f (more {x} h t) k = more (all-map (λ y. f x y h) k) (across f t k)
+
+-- Two lists place by place
 
 -- a list against its images
 pub each-map : {A B : Type 0} {R : A → B → Type 0} (f : A → B) {xs : List A} → All (λ x. R x (f x)) xs → Each R xs (map f xs)

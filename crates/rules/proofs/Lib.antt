@@ -6,6 +6,7 @@ pub mod LowestLaws
 pub mod HoursLaws
 pub mod SumLaws
 pub mod RefusalLaws
+pub mod LimitLaws
 pub mod CeilingLaws
 pub mod BitLaws
 pub mod MessageLaws
@@ -21,3 +22,7 @@ pub mod RepeatLaws
 pub mod BorderLaws
 pub mod HourLaws
 pub mod SoundLaws
+pub mod BookLaws
+pub mod OrderLaws
+pub mod ClosingLaws
+pub mod DemandLaws

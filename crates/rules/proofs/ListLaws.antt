@@ -2,15 +2,15 @@
 use Prim.Native.Nat.{ℕ, zero, suc, _+_, _-_, _≤_, _<_}
 use mathlib.Core.Path.{_≡_, refl, ap, ap₂, subst, _∙_}
 use mathlib.Core.Logic.{⊎-elim}
-use mathlib.Core.Bool.{Bool, true, false, cond, not, false≢true}
-use mathlib.Core.List.{List, [], _∷_, _++_, map}
+use mathlib.Core.Bool.{Bool, true, false, cond, not, _&&_, false≢true}
+use mathlib.Core.List.{List, [], _∷_, _++_, map, reverseAux}
 use native.Mathlib.Omega.{arith}
 use native.Mathlib.Nat.{not-suc-le-zero, le-of-suc-le-suc, eq-or-lt-of-le}
 use lib.Dec.{eqb}
 use lib.ListN.{length, take, drop, getD, replicate, List·getD-eq-default}
 use borrow.Author.Tests.{eqb-true, not-false}
 use Rattle.rules.specs.Lists.{All, none, more, keep, any, first, from, hourly}
-use Rattle.rules.proofs.BoolLaws.{by-bool, neither, of-neither}
+use Rattle.rules.proofs.BoolLaws.{by-bool, not-both, neither, of-neither}
 
 -- every number of the list is below n: `Under 2` is a list of bits, `Under 256` a list of bytes
 abbrev pub Under : ℕ → List ℕ → Type 0
@@ -144,6 +144,82 @@ pub of-all-zero : (n : ℕ) → any (λ x. not (eqb x 0)) (replicate n 0) ≡ fa
 unfolding any
 of-all-zero zero = refl
 of-all-zero (suc n) = of-all-zero n
+
+module _ {A : Type 0} where
+  -- those that pass a test do pass it
+  pub keep-passes : (p : A → Bool) (xs : List A) → All (λ x. p x ≡ true) (keep p xs)
+  unfolding keep
+  keep-passes p [] = none
+  keep-passes p (x ∷ xs) = by-bool (p x) (λ e. rw e (more e (keep-passes p xs))) (λ e. rw e (keep-passes p xs))
+
+  -- none does
+  pub keep-none : (p : A → Bool) {xs : List A} → All (λ x. p x ≡ false) xs → keep p xs ≡ []
+  unfolding keep
+  keep-none p none = refl
+  keep-none p (more h t) = rw h (keep-none p t)
+
+  -- they are no more than all
+  pub length-keep : (p : A → Bool) (xs : List A) → length (keep p xs) ≤ length xs
+  unfolding keep
+  length-keep p [] = omega arith
+  length-keep p (x ∷ xs) = by-bool (p x) (λ e. rw e (omega (arith, length-keep p xs))) (λ e. rw e (omega (arith, length-keep p xs)))
+
+  -- and fewer without one that is there
+  pub length-drop-one : (p : A → Bool) (xs : List A) → any p xs ≡ true → length (keep (λ x. not (p x)) xs) < length xs
+  unfolding keep any
+  length-drop-one p [] h = absurd (false≢true h)
+  length-drop-one p (x ∷ xs) h =
+      by-bool (p x) (λ e. rw e (omega (arith, length-keep (λ x. not (p x)) xs)))
+      (λ e. rw e (omega (arith, length-drop-one p xs (rw e at h))))
+
+  -- those that pass two tests
+  pub keep-keep : (p q : A → Bool) (xs : List A) → keep q (keep p xs) ≡ keep (λ x. p x && q x) xs
+  unfolding keep
+  keep-keep p q [] = refl
+  keep-keep p q (x ∷ xs) =
+      by-bool (p x) (λ e. rw e (by-bool (q x) (λ d. rw (d, keep-keep p q xs)) (λ d. rw (d, keep-keep p q xs)))) (λ e. rw e (keep-keep p q xs))
+
+  -- tests that agree on each
+  pub keep-same : (p q : A → Bool) {xs : List A} → All (λ x. p x ≡ q x) xs → keep p xs ≡ keep q xs
+  unfolding keep
+  keep-same p q none = refl
+  keep-same p q (more {x} {xs} h t) = rw (h, keep-same p q t)
+
+  -- one that passes a test is still there in a longer list
+  pub any-longer : (p : A → Bool) (xs ys : List A) → any p xs ≡ true → any p (xs ++ ys) ≡ true
+  unfolding any
+  any-longer p [] ys h = absurd (false≢true h)
+  any-longer p (x ∷ xs) ys h = by-bool (p x) (λ e. rw e) (λ e. rw e (any-longer p xs ys (rw e at h)))
+
+  -- and the first one is the same
+  pub first-longer : (p : A → Bool) (d : A) (xs ys : List A) → any p xs ≡ true → first p d (xs ++ ys) ≡ first p d xs
+  unfolding any first
+  first-longer p d [] ys h = absurd (false≢true h)
+  first-longer p d (x ∷ xs) ys h = by-bool (p x) (λ e. rw e) (λ e. rw e (first-longer p d xs ys (rw e at h)))
+
+module _ {A : Type 0} {P : A → Type 0} where
+  -- what holds of a list turned round holds of the list
+  pub all-unreversed : (xs : List A) {ys : List A} → All P (reverseAux xs ys) → All P xs × All P ys
+  all-unreversed [] h = (none, h)
+  all-unreversed (x ∷ xs) {ys} h = let k = all-unreversed xs {ys = x ∷ ys} h in (more (all-head (k .1)) (k .0), all-tail (k .1))
+
+  -- and the other way
+  pub all-reversed : {xs ys : List A} → All P xs → All P ys → All P (reverseAux xs ys)
+  all-reversed none k = k
+  all-reversed (more h t) k = all-reversed t (more h k)
+
+  -- what holds of two lists one after the other holds of each
+  pub all-parts : (xs : List A) {ys : List A} → All P (xs ++ ys) → All P xs × All P ys
+  all-parts [] h = (none, h)
+  all-parts (x ∷ xs) (more h t) = let k = all-parts xs t in (more h (k .0), k .1)
+
+  -- what holds of those that pass a test holds of each, if it passes
+  pub all-unkept : (p : A → Bool) (xs : List A) → All P (keep p xs) → All (λ x. p x ≡ true → P x) xs
+  unfolding keep
+  all-unkept p [] h = none
+  all-unkept p (x ∷ xs) h =
+      by-bool (p x) (λ e. let k : All P (x ∷ keep p xs) = rw e at h in more (λ q. all-head k) (all-unkept p xs (all-tail k)))
+      (λ e. more (λ q. not-both q e) (all-unkept p xs (rw e at h)))
 
 -- Numbers in a row, and hours
 

@@ -11,6 +11,7 @@ use lib.Seq.{length-take-le}
 use borrow.Author.Tests.{eq-eqb, ne-eqb}
 use Rattle.rules.specs.Lists.{All, none, more, keep, sum, sumOf}
 use Rattle.rules.specs.Match.{Offer, withEnergies, standsBefore, insertBy, sortBy, ordered, Place, placeOf, layOut, places, meeting, volume, placesOf, matchedOf, matchAll, Match·all}
+unfoldable pub use Rattle.rules.specs.Demands.{matchedOn}
 use Rattle.rules.proofs.BoolLaws.{by-bool, beq-true, eqb-sym}
 use Rattle.rules.proofs.ListLaws.{all-map, all-append, all-take, all-replicate, all-cond, all-mapped, keep-map}
 use Rattle.rules.proofs.ElementLaws.{all-both, Pairwise, empty, ahead, pairwise-keep}
@@ -27,10 +28,6 @@ Within os = All (λ o. o .matched ≤ o .offered) os
 -- an offer is on a side
 abbrev onSide : Bool → Offer → Bool
 onSide side o = Bool·beq (o .holder .purchase) side
-
--- what is matched on a side: "matched sales" (false), "matched purchases" (true)
-unfoldable pub matchedOn : Bool → List Offer → ℕ
-matchedOn side os = sumOf (λ o. o .matched) (keep (λ o. Bool·beq (o .holder .purchase) side) os)
 
 -- What is matched on a side
 

@@ -1,7 +1,8 @@
 -- Laws of the table's rows: a value is given exactly where no row applies.
 use mathlib.Core.Path.{_≡_, refl}
-use mathlib.Core.Bool.{false}
+use mathlib.Core.Bool.{Bool, true, false, cond, false≢true}
 use mathlib.Core.List.{List, [], _∷_}
+use mathlib.Core.Option.{some, none as nothing}
 use Prim.Native.Nat.{ℕ}
 use native.Mathlib.Omega.{arith}
 use Rattle.rules.specs.Lists.{All, none, more}
@@ -21,3 +22,17 @@ no-row [] a b h = (none, cc)
 no-row (r ∷ rows) a b h =
     by-bool (r .applies) (λ e. let k = rw e at h in let z : _≡_ {A = ℕ} 0 1 = cc in absurd (omega arith))
     (λ e. let k = no-row rows a b (rw e at h) in (more e (k .0), k .1))
+
+-- an accepted call: no row applies
+pub accepted-rows : (rows : List Row) → firstRow rows ≡ nothing → All (λ r. r .applies ≡ false) rows
+unfolding outcome unless
+accepted-rows rows h = no-row {A = ℕ} rows 0 0 (rw h) .0
+
+-- a row in front that applies is given
+pub given-row : (x r : Row) (rows : List Row) → x .applies ≡ true → firstRow (x ∷ rows) ≡ some r → x ≡ r
+unfolding firstRow
+given-row x r rows e h = go (x .applies) e h
+  where
+    go : (t : Bool) → t ≡ true → cond t (some x) (firstRow rows) ≡ some r → x ≡ r
+    go true e h = cc
+    go false e h = absurd (false≢true e)

@@ -13,22 +13,14 @@ use Rattle.rules.specs.Lodging.{Lodgement}
 use Rattle.rules.specs.Book.{Book}
 use Rattle.rules.specs.Closing.{acceptedAt}
 use Rattle.rules.specs.Borders.{Directed}
+pub use Rattle.rules.specs.Sound.{Numbered}
 use Rattle.rules.specs.Clearing.{holderOf, offerAt, published, borderCapacities, capacitiesAt, hourOfDay, figuresAt}
 use Rattle.rules.proofs.ListLaws.{all-map, all-append}
-use Rattle.rules.proofs.ElementLaws.{Pairwise, empty, ahead, pairwise-keep, pairwise-map, pairwise-append}
+use Rattle.rules.proofs.ElementLaws.{empty, ahead, pairwise-keep, pairwise-map, pairwise-append, across}
 use Rattle.rules.proofs.DirectionLaws.{sameDirection, Once}
 use Rattle.rules.proofs.HourLaws.{Sound, Cleared, hour-cleared}
 
--- lodgements by rising number
-abbrev pub Numbered : List Lodgement → Type 0
-Numbered ls = Pairwise (λ k l. k .number < l .number) ls
-
 -- Capacities: each border and direction at most once
-
--- each of one list against all of another
-across : {A : Type 0} {P Q : A → Type 0} {R : A → A → Type 0} {xs ys : List A} → ((x y : A) → P x → Q y → R x y) → All P xs → All Q ys → All (λ x. All (R x) ys) xs
-across f none k = none
-across f (more {x} h t) k = more (all-map (λ y. f x y h) k) (across f t k)
 
 module _ (h border : ℕ) (export : Bool) where
   -- one direction stands at most once

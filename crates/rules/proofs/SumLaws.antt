@@ -1,11 +1,11 @@
 -- Laws of sums, and of lists of losses laid over a list: `masked` amounts, and the losses of those that pass a test.
 use Prim.Native.Nat.{ℕ, _+_, _≤_, zero-le}
 use mathlib.Core.Path.{_≡_, refl, ap, ap₂}
-use mathlib.Core.Bool.{Bool, true, false, cond, _||_}
-use mathlib.Core.List.{List, [], _∷_, map}
+use mathlib.Core.Bool.{Bool, true, false, cond, not, _||_}
+use mathlib.Core.List.{List, [], _∷_, _++_, map, reverseAux}
 use native.Mathlib.Omega.{arith}
 use native.Mathlib.Nat.{le-refl}
-use Rattle.rules.specs.Lists.{keep, sum, sumOf, addEach}
+use Rattle.rules.specs.Lists.{All, none, more, keep, sum, sumOf, addEach}
 use Rattle.rules.proofs.BoolLaws.{by-bool}
 use Rattle.rules.proofs.ElementLaws.{Each, each0, each}
 use Rattle.rules.proofs.ShareLaws.{Under, under0, under}
@@ -42,6 +42,70 @@ each-le p f g u (each {x} {y} h t) =
 pub cond-le : (b : Bool) (n : ℕ) → cond b n 0 ≤ n
 cond-le true n = le-refl n
 cond-le false n = zero-le
+
+-- Sums of those that pass a test
+
+module _ {A : Type 0} (f : A → ℕ) where
+  -- the sum of those of a list that pass a test
+  abbrev pub sumWhere : (A → Bool) → List A → ℕ
+  sumWhere p xs = sumOf f (keep p xs)
+
+  -- one more
+  pub sum-keep : (p : A → Bool) (x : A) (xs : List A) → sumOf f (keep p (x ∷ xs)) ≡ cond (p x) (f x) 0 + sumOf f (keep p xs)
+  unfolding sumOf sum keep
+  sum-keep p x xs = by-bool (p x) (λ e. rw e) (λ e. rw e (omega arith))
+
+  -- one more, or not
+  pub sum-cond : (p : A → Bool) (t : Bool) (x : A) (xs : List A) → sumWhere p (cond t (x ∷ xs) xs) ≡ cond t (cond (p x) (f x) 0) 0 + sumWhere p xs
+  sum-cond p true x xs = sum-keep p x xs
+  sum-cond p false x xs = omega arith
+
+  -- one more, of those that pass another
+  pub sum-keep-keep : (p q : A → Bool) (x : A) (xs : List A) → sumWhere p (keep q (x ∷ xs)) ≡ cond (q x) (cond (p x) (f x) 0) 0 + sumWhere p (keep q xs)
+  unfolding keep
+  sum-keep-keep p q x xs = sum-cond p (q x) x (keep q xs)
+
+  -- a list turned round
+  pub sum-reversed : (p : A → Bool) (xs ys : List A) → sumWhere p (reverseAux xs ys) ≡ sumWhere p xs + sumWhere p ys
+  unfolding keep sumOf sum
+  sum-reversed p [] ys = omega arith
+  sum-reversed p (x ∷ xs) ys = omega (arith, sum-reversed p xs (x ∷ ys), sum-keep p x ys, sum-keep p x xs)
+
+  -- two lists one after the other
+  pub sum-append : (p : A → Bool) (xs ys : List A) → sumWhere p (xs ++ ys) ≡ sumWhere p xs + sumWhere p ys
+  unfolding keep sumOf sum
+  sum-append p [] ys = omega arith
+  sum-append p (x ∷ xs) ys = omega (arith, sum-append p xs ys, sum-keep p x (xs ++ ys), sum-keep p x xs)
+
+  -- without some that do not pass
+  pub sum-without : (p q : A → Bool) {xs : List A} → All (λ x. q x ≡ false → p x ≡ false) xs → sumWhere p (keep q xs) ≡ sumWhere p xs
+  unfolding keep
+  sum-without p q none = refl
+  sum-without p q (more {x} {xs} h t) =
+      omega (arith, sum-keep p x xs, sum-keep-keep p q x xs, inner-cond (q x) (p x) (f x) h, sum-without p q t)
+    where
+      inner-cond : (t s : Bool) (n : ℕ) → (t ≡ false → s ≡ false) → cond t (cond s n 0) 0 ≡ cond s n 0
+      inner-cond true s n h = refl
+      inner-cond false s n h = rw (h refl)
+
+  -- of some only
+  pub sum-some : (p q : A → Bool) (xs : List A) → sumWhere p (keep q xs) ≤ sumWhere p xs
+  unfolding keep
+  sum-some p q [] = le-refl _
+  sum-some p q (x ∷ xs) = omega (arith, sum-keep p x xs, sum-keep-keep p q x xs, cond-le (q x) (cond (p x) (f x) 0), sum-some p q xs)
+
+  -- of those that pass another test, and of those that do not
+  pub sum-two : (p q : A → Bool) (xs : List A) → sumWhere p (keep (λ x. not (q x)) xs) + sumWhere p (keep q xs) ≡ sumWhere p xs
+  unfolding keep sumOf sum
+  sum-two p q [] = refl
+  sum-two p q (x ∷ xs) =
+      omega (arith, sum-keep p x xs, sum-keep-keep p q x xs, sum-keep-keep p (λ x. not (q x)) x xs, two-conds (q x) (cond (p x) (f x) 0), sum-two p q xs)
+    where
+      two-conds : (t : Bool) (n : ℕ) → cond (not t) n 0 + cond t n 0 ≡ n
+      two-conds true n = omega arith
+      two-conds false n = omega arith
+
+-- Losses
 
 -- the amounts of those that pass a test, 0 for the others
 abbrev pub masked : {A : Type 0} → (A → Bool) → (A → ℕ) → List A → List ℕ

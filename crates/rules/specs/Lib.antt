@@ -15,4 +15,6 @@ pub mod Executions
 pub mod Clearing
 pub mod Queries
 pub mod DayBook
+pub mod Sound
+pub mod Demands
 pub mod Figures

@@ -9,6 +9,16 @@ pub data All {A : Type 0} (P : A → Type 0) : List A → Type 0 where
   none : All P []
   more : {x : A} {xs : List A} → P x → All P xs → All P (x ∷ xs)
 
+-- what holds of each element with every later one
+pub data Pairwise {A : Type 0} (R : A → A → Type 0) : List A → Type 0 where
+  empty : Pairwise R []
+  ahead : {x : A} {xs : List A} → All (R x) xs → Pairwise R xs → Pairwise R (x ∷ xs)
+
+-- two lists place by place: as long as each other, and in R at each place
+pub data Each {A B : Type 0} (R : A → B → Type 0) : List A → List B → Type 0 where
+  each0 : Each R [] []
+  each : {x : A} {y : B} {xs : List A} {ys : List B} → R x y → Each R xs ys → Each R (x ∷ xs) (y ∷ ys)
+
 -- those of a list that pass a test, in their order
 unfoldable pub keep : {A : Type 0} → (A → Bool) → List A → List A
 keep p [] = []

@@ -1,0 +1,117 @@
+-- Flows from arrays: one turn of the loop and its end, and that they are the rules' flows of the lists.
+use Prim.Native.Nat.{ℕ, _+_, _≤_, _<_}
+use mathlib.Core.Path.{_≡_, refl, ap, sym, _∙_}
+use mathlib.Core.Bool.{Bool, true, false, cond, not, _&&_}
+use mathlib.Core.List.{List, [], _∷_, map}
+use native.Mathlib.Omega.{arith}
+use native.Mathlib.Nat.{le-trans}
+use lib.Dec.{eqb}
+use lib.ListN.{getD, set, length}
+use lib.Seq.{getD-set-same, getD-set-other}
+use borrow.Author.Tests.{eqb-true, eqb-false}
+use Rattle.rules.specs.Lists.{keep, sum, sumOf, from}
+use Rattle.rules.specs.Match.{Offer}
+use Rattle.rules.specs.Borders.{Execution, runs, flow}
+use Rattle.rules.specs.Split.{legacyFlow}
+use Rattle.rules.proofs.BoolLaws.{by-bool}
+use Rattle.arrays.proofs.PlaceLaws.{from-next, from-end, none-off, set-small}
+use Rattle.matching.specs.declared.Offers.{Offers}
+use Rattle.matching.specs.View.{offerAt, offersOf}
+use Rattle.borders.specs.declared.Executions.{Executions}
+use Rattle.borders.specs.Ways.{wayOf}
+use Rattle.borders.specs.Flows.{countedFor, addsTo, flowFrom, ByWay, MarketFlows, LegacyFlows, ExecutionFlows}
+use Rattle.borders.specs.View.{executionAt, executionsOf}
+use Rattle.borders.proofs.WayLaws.{runs-way}
+
+-- The loop
+
+module _ (only : Bool) (bs : List ℕ) (ps ls : List Bool) (es : List ℕ) where
+  from-here : (i n w : ℕ) → i < n → flowFrom only bs ps ls es i n w ≡ addsTo only bs ps ls es w i + flowFrom only bs ps ls es (i + 1) n w
+  unfolding flowFrom sumOf sum
+  from-here i n w h = rw (from-next n i h)
+
+  pub flow-end : (i n w : ℕ) → n ≤ i → flowFrom only bs ps ls es i n w ≡ 0
+  unfolding flowFrom sumOf sum
+  flow-end i n w h = rw (from-end n i h)
+
+  -- an energy added at its way v
+  pub flow-next : (f : List ℕ) (i n v x : ℕ) → i < n → v ≡ wayOf (getD bs i 0) (getD ps i false) → v < length f
+      → x ≡ countedFor only (getD ls i false) (getD es i 0) → (w : ℕ)
+      → getD (set f v (getD f v 0 + x)) w 0 + flowFrom only bs ps ls es (i + 1) n w ≡ getD f w 0 + flowFrom only bs ps ls es i n w
+  unfolding addsTo
+  flow-next f i n v x h p l q w =
+      let k = from-here i n w h in
+      by-bool (eqb v w)
+      (λ e. let z = eqb-true v w e in
+      let g = getD-set-same f v (getD f v 0 + x) 0 l in
+      rw (← z) (omega (arith, g, q, rw (← p, e) at k, ap (λ u. flowFrom only bs ps ls es (i + 1) n u) z, ap (λ u. flowFrom only bs ps ls es i n u) z)))
+      (λ e. let g = getD-set-other f v w (getD f v 0 + x) 0 (λ z. eqb-false v w e (sym z)) in
+      omega (arith, g, rw (← p, e) at k))
+
+-- and it stays in range
+pub set-more : (b c v x : ℕ) (f : List ℕ) → ((w : ℕ) → getD f w 0 ≤ b) → x ≤ c → b ≤ c → (w : ℕ) → getD (set f v x) w 0 ≤ c
+set-more b c v x f h k l w = set-small c f v x k (λ j. le-trans (h j) l) w
+
+-- The rules' lists
+
+-- a list by index: the energy of those that pass a test
+kept-sum : {A : Type 0} (energy : A → ℕ) (p : A → Bool) (at : ℕ → A) (g : ℕ → ℕ) → ((i : ℕ) → g i ≡ cond (p (at i)) (energy (at i)) 0)
+    → (is : List ℕ) → sumOf g is ≡ sumOf energy (keep p (map at is))
+unfolding sumOf sum keep
+kept-sum energy p at g h [] = refl
+kept-sum energy p at g h (i ∷ is) =
+    by-bool (p (at i)) (λ t. rw t (omega (arith, kept-sum energy p at g h is, rw t at (h i))))
+    (λ t. rw t (omega (arith, kept-sum energy p at g h is, rw t at (h i))))
+
+-- those that pass two tests
+keep-both : {A : Type 0} (p q : A → Bool) (xs : List A) → keep p (keep q xs) ≡ keep (λ x. q x && p x) xs
+unfolding keep
+keep-both p q [] = refl
+keep-both p q (x ∷ xs) =
+    by-bool (q x) (λ t. rw t (by-bool (p x) (λ u. rw u (ap (λ l. x ∷ l) (keep-both p q xs))) (λ u. rw u (keep-both p q xs))))
+    (λ t. rw t (keep-both p q xs))
+
+-- a legacy holder's energy counts, another's does not
+legacy-counted : (l r : Bool) (e : ℕ) → cond r (countedFor true l e) 0 ≡ cond (l && r) e 0
+unfolding countedFor
+legacy-counted true r e = refl
+legacy-counted false true e = refl
+legacy-counted false false e = refl
+
+module _ (h : Offers) (offered matched : List ℕ) {f : List ℕ} where
+  -- the market flows
+  pub market-flows : ByWay false (h .border) (h .purchase) (h .legacy) matched (h .count) f
+      → MarketFlows f (offersOf h offered matched)
+  unfolding flowFrom flow offersOf addsTo countedFor
+  market-flows k b e l =
+      k .sums (wayOf b e)
+      ∙ ap (λ n. sumOf (addsTo false (h .border) (h .purchase) (h .legacy) matched (wayOf b e)) (from 0 n)) (none-off (h .count))
+      ∙ kept-sum (λ (o : Offer). o .matched) (λ o. runs b e (o .holder)) (offerAt h offered matched)
+      (addsTo false (h .border) (h .purchase) (h .legacy) matched (wayOf b e))
+      (λ i. rw (runs-way b e (offerAt h offered matched i .holder))) (from 0 (h .count))
+
+  -- the matched legacy flows
+  pub legacy-flows : ByWay true (h .border) (h .purchase) (h .legacy) matched (h .count) f
+      → LegacyFlows f (offersOf h offered matched)
+  unfolding flowFrom flow legacyFlow offersOf addsTo
+  legacy-flows k b e l =
+      k .sums (wayOf b e)
+      ∙ ap (λ n. sumOf (addsTo true (h .border) (h .purchase) (h .legacy) matched (wayOf b e)) (from 0 n)) (none-off (h .count))
+      ∙ kept-sum (λ (o : Offer). o .matched) (λ o. o .holder .legacy && runs b e (o .holder)) (offerAt h offered matched)
+      (addsTo true (h .border) (h .purchase) (h .legacy) matched (wayOf b e))
+      (λ i. rw (runs-way b e (offerAt h offered matched i .holder))
+      (legacy-counted (getD (h .legacy) i false) (eqb (wayOf (getD (h .border) i 0) (getD (h .purchase) i false)) (wayOf b e)) (getD matched i 0)))
+      (from 0 (h .count))
+      ∙ ap (sumOf (λ (o : Offer). o .matched)) (sym (keep-both (λ (o : Offer). runs b e (o .holder)) (λ o. o .holder .legacy) (offersOf h offered matched)))
+
+-- the executions' flows
+pub execution-flows : (x : Executions) (energy : List ℕ) {f : List ℕ}
+    → ByWay false (x .border) (x .purchase) (x .legacy) energy (x .count) f
+    → ExecutionFlows f (executionsOf x energy)
+unfolding flowFrom flow executionsOf addsTo countedFor
+execution-flows x energy k b e l =
+    k .sums (wayOf b e)
+    ∙ ap (λ n. sumOf (addsTo false (x .border) (x .purchase) (x .legacy) energy (wayOf b e)) (from 0 n)) (none-off (x .count))
+    ∙ kept-sum (λ (y : Execution). y .energy) (λ y. runs b e (y .holder)) (executionAt x energy)
+    (addsTo false (x .border) (x .purchase) (x .legacy) energy (wayOf b e))
+    (λ i. rw (runs-way b e (executionAt x energy i .holder))) (from 0 (x .count))

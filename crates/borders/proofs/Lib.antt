@@ -1,0 +1,4 @@
+pub mod WayLaws
+pub mod FlowLaws
+pub mod LimitLaws
+pub mod CutLaws

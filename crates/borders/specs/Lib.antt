@@ -1,0 +1,5 @@
+pub mod Ways
+pub mod Flows
+pub mod View
+pub mod Limits
+pub mod Cuts

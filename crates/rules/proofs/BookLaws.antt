@@ -1,0 +1,507 @@
+-- What holds of the book after every list of calls.
+use Prim.Native.Nat.{ℕ, zero, suc, _+_, _≤_, _<_}
+use mathlib.Core.Path.{_≡_, refl, ap, sym, _∙_}
+use mathlib.Core.Logic.{_⊎_, inl, inr, ⊎-elim}
+use mathlib.Core.Bool.{Bool, true, false, cond, not, _&&_, _||_, Bool·beq, false≢true, and-true}
+use mathlib.Core.List.{List, [], _∷_, _++_, map}
+use mathlib.Core.Option.{Option, some, none as nothing}
+use native.Mathlib.Omega.{arith}
+use lib.Dec.{leb, ltb, eqb}
+use lib.ListN.{length, length-append, length-map}
+use borrow.Author.Tests.{leb-false, ltb-true, ltb-false, eqb-true, eqb-false, eq-eqb, lt-ltb, not-false, not-true}
+use Rattle.rules.specs.Lists.{All, none, more, empty, keep, any, first, from, hourly}
+use Rattle.rules.specs.Refusals.{Row, row, firstRow}
+use Rattle.rules.specs.Hours.{Hours·all, Date, isDate, dateRow}
+use Rattle.rules.specs.Units.{TradingUnit, Registered, Published, Capacities, maxEnergy, domestic, badUnit, badNumber, badEnergies, badPublished, notOfHours, sameBorderSide, hasNumber, isRegistered, unitOf, nobody}
+use Rattle.rules.specs.Message.{Fields, energyWidth, names, decode, badForm, badMap, badFields}
+use Rattle.rules.specs.Lodging.{Key, Lodgement, keyOf, energyAt, sameKey, stands, without, namesBeyond, badKey}
+use Rattle.rules.specs.Book.{Book, hours, fresh}
+use Rattle.rules.specs.Closing.{Judged, isAccepted, closingOrder, judge, judgeEach, judgements, verdictAmong, acceptedAt}
+use Rattle.rules.specs.Clearing.{hourOfDay, clearHour, figuresAt}
+use Rattle.rules.specs.DayBook.{Call, register, capacity, available, lodge, annul, close, clear, changeRow, unregistered, badHolder, isSecond, unitsFull, full, lodgeRows, rowsOf, withUnits, withCapacities, withStanding, withStage, notify, entry, applied, turned, turn, after, openedWith, opening}
+use Rattle.rules.specs.Sound.{OfDay, absent, energies, UnitsSound, HasUnit, Lodged, StandingSound, Sound, WellTyped}
+use Rattle.rules.specs.Demands.{ClosedIn}
+use Rattle.rules.proofs.BoolLaws.{by-bool, not-both, of-not, neither, both, of-both, beq-true, of-beq}
+use Rattle.rules.proofs.ListLaws.{keep-passes, length-keep, length-drop-one, any-longer, first-longer, all-map, all-head, all-tail, all-keep, all-mapped, all-replicate, all-from, any-false, hourly-beyond}
+use Rattle.rules.proofs.ElementLaws.{all-last, pairwise-last, all-both, pairwise-keep, pairwise-map}
+use Rattle.rules.proofs.RefusalLaws.{accepted-rows}
+use Rattle.rules.proofs.MessageLaws.{Good, good, of-reads, decode-lengths}
+
+-- Notices
+
+-- energies that are not refused
+energies-good : (es : List ℕ) → badEnergies es ≡ false → All (λ e. e ≤ maxEnergy) es
+unfolding badEnergies
+energies-good es h = all-map (λ e k. ltb-false maxEnergy e k) (any-false _ es h)
+
+-- a direction that is not refused
+published-good : (H : ℕ) (p : Published) → notOfHours H p ≡ false → badPublished p ≡ false → OfDay H p
+unfolding notOfHours badPublished
+published-good H nothing h k = absent
+published-good H (some es) h k = energies (eqb-true _ _ (not-false _ h)) (energies-good es k)
+
+-- a capacity notice that is not refused
+notice-good : (H : ℕ) (cs : Capacities) → any (notOfHours H) cs ≡ false → any badPublished cs ≡ false → All (OfDay H) cs
+notice-good H cs h k = all-both (published-good H) (any-false (notOfHours H) cs h) (any-false badPublished cs k)
+
+-- Units
+
+-- an agent's border and side: the order does not matter
+second-sym : (u v : TradingUnit) → sameBorderSide u v ≡ false → sameBorderSide v u ≡ false
+unfolding sameBorderSide domestic
+second-sym u v h =
+    of-not (sameBorderSide v u) (λ k.
+    let a = both (not (domestic v) && eqb (v .agent) (u .agent) && eqb (v .border) (u .border)) (Bool·beq (v .purchase) (u .purchase)) k in
+    let b = both (not (domestic v) && eqb (v .agent) (u .agent)) (eqb (v .border) (u .border)) (a .0) in
+    let c = both (not (domestic v)) (eqb (v .agent) (u .agent)) (b .0) in
+    let border : v .border ≡ u .border = eqb-true _ _ (b .1) in
+    let d : not (eqb (u .border) 0) ≡ true = rw (← border) (c .0) in
+    not-both (of-both (of-both (of-both d (eq-eqb (u .agent) (v .agent) (sym (eqb-true _ _ (c .1))))) (eq-eqb (u .border) (v .border) (sym border)))
+    (of-beq (u .purchase) (v .purchase) (sym (beq-true _ _ (a .1))))) h)
+
+-- a unit that is registered: its row 7 and 8 do not apply
+register-sound : (H : ℕ) (us : List Registered) (u : TradingUnit) → UnitsSound H us → badUnit u ≡ false → isRegistered us (u .number) ≡ false
+    → any (λ r. sameBorderSide u (r .unit)) us ≡ false → length us < 64 → UnitsSound H (us ++ (record { unit = u; available = nothing } ∷ []))
+unfolding isRegistered hasNumber
+register-sound H us u s good new second room =
+    record {
+      room = rw length-append (omega arith);
+      distinct = pairwise-last (s .distinct) (all-map (λ r e. eqb-false (r .unit .number) (u .number) e) (any-false (hasNumber (u .number)) us new));
+      single = pairwise-last (s .single) (all-map (λ r e. second-sym u (r .unit) e) (any-false (λ r. sameBorderSide u (r .unit)) us second));
+      ranges = all-last (s .ranges) good;
+      notices = all-last (s .notices) absent;
+    }
+
+-- the unit of a key stays registered beside a new one
+unit-longer : (us vs : List Registered) (k : Key) → HasUnit us k → HasUnit (us ++ vs) k
+unfolding isRegistered unitOf
+unit-longer us vs k h =
+    record {
+      registered = any-longer (hasNumber (k .unit)) us vs (h .registered);
+      border = rw (first-longer (hasNumber (k .unit)) nobody us vs (h .registered)) (h .border);
+    }
+
+module _ (n : ℕ) (es : List ℕ) where
+  -- a notice registers nobody
+  notify-registered : (m : ℕ) (us : List Registered) → isRegistered (map (notify n es) us) m ≡ isRegistered us m
+  unfolding isRegistered any notify hasNumber
+  notify-registered m [] = refl
+  notify-registered m (r ∷ us) = ap (λ b. eqb (r .unit .number) m || b) (notify-registered m us)
+
+  -- and changes no unit
+  notify-unit : (m : ℕ) (us : List Registered) → unitOf (map (notify n es) us) m .unit ≡ unitOf us m .unit
+  unfolding unitOf first notify hasNumber
+  notify-unit m [] = refl
+  notify-unit m (r ∷ us) = by-bool (eqb (r .unit .number) m) (λ e. rw e) (λ e. rw e (notify-unit m us))
+
+  -- nor whose it is
+  notify-holder : (us : List Registered) (k : Key) → HasUnit us k → HasUnit (map (notify n es) us) k
+  notify-holder us k h =
+      record { registered = notify-registered (k .unit) us ∙ h .registered; border = rw (notify-unit (k .unit) us) (h .border) }
+
+  -- its energies are of the day
+  notify-sound : (H : ℕ) (us : List Registered) → UnitsSound H us → length es ≡ H → All (λ e. e ≤ maxEnergy) es → UnitsSound H (map (notify n es) us)
+  unfolding notify
+  notify-sound H us s l good =
+      record {
+        room = rw (length-map us (notify n es)) (s .room);
+        distinct = pairwise-map (notify n es) (λ q r h. h) (s .distinct);
+        single = pairwise-map (notify n es) (λ q r h. h) (s .single);
+        ranges = all-mapped (notify n es) (s .ranges);
+        notices = all-mapped (notify n es) (all-map (λ r h. chosen (hasNumber n r) h) (s .notices));
+      }
+    where
+      chosen : (b : Bool) {p : Published} → OfDay H p → OfDay H (cond b (some es) p)
+      chosen true h = energies l good
+      chosen false h = h
+
+-- Lodgements
+
+-- what is not refused of a message, by the rows of lodging
+pub record Admitted (b : Book) (bytes : List ℕ) : Type 0 where
+  pub form : badForm energyWidth bytes ≡ false
+  pub map : badMap (decode energyWidth bytes .map) ≡ false
+  pub day : namesBeyond (hours b) (decode energyWidth bytes .map) ≡ false
+  pub fields : badFields (decode energyWidth bytes) ≡ false
+  pub holder : badHolder b (keyOf (decode energyWidth bytes)) ≡ false
+  pub room : full b (keyOf (decode energyWidth bytes)) ≡ false
+
+-- a message that is accepted has it
+pub admitted : (b : Book) (bytes : List ℕ) → firstRow (rowsOf b (lodge bytes)) ≡ nothing → Admitted b bytes
+unfolding rowsOf lodgeRows row
+admitted b bytes h =
+    let r2 = all-tail (accepted-rows (lodgeRows b bytes) h) in
+    let r3 = all-tail r2 in
+    let r4 = all-tail r3 in
+    let r5 = all-tail r4 in
+    let m = neither _ _ (all-head r3) in
+    record { form = all-head r2; map = m .0; day = m .1; fields = all-head r4; holder = all-head r5; room = all-head (all-tail r5) }
+
+-- a message that names no hour beyond H has no energy there
+energy-beyond : (H : ℕ) (m : Fields) → Good m → namesBeyond H (m .map) ≡ false → (h : ℕ) → H < h → hourly (m .energies) h ≡ 0
+unfolding namesBeyond
+energy-beyond H m g d zero l = absurd (omega arith)
+energy-beyond H m g d (suc i) l =
+    by-bool (ltb i 25) (λ k.
+    let in-range : suc i < 1 + 25 = omega (arith, ltb-true i 25 k) in
+    let n : (ltb H (suc i) && names (m .map) (suc i)) ≡ false = all-from 1 25 (suc i) (any-false (λ h. ltb H h && names (m .map) h) (from 1 25) d) (omega arith) in-range in
+    eqb-true _ _ (not-false _ (sym (g .each (suc i) .named-by) ∙ (rw (lt-ltb H (suc i) l) at n))))
+    (λ k. hourly-beyond (m .energies) i (omega (arith, ltb-false i 25 k, g .energyCount)))
+
+-- an hour without energy has no price
+price-unnamed : (m : Fields) → Good m → (h : ℕ) → hourly (m .energies) h ≡ 0 → hourly (m .prices) h ≡ 0
+price-unnamed m g h e = g .each h .unnamed (g .each h .named-by ∙ rw e)
+
+-- an entered lodgement is what its message says
+lodged : (b : Book) (bytes : List ℕ) (n : ℕ) → Admitted b bytes → Lodged (hours b) (entry (decode energyWidth bytes) n)
+unfolding entry keyOf energyAt badKey badFields
+lodged b bytes n a =
+    let m = decode energyWidth bytes in
+    let c = decode-lengths energyWidth bytes in
+    let g : Good m = good m (a .map) (a .fields) (c .0) (c .1) in
+    record {
+      bytes = bytes;
+      fields = m;
+      reads = of-reads bytes m (record { form = a .form; map = a .map; fields = a .fields; same = refl });
+      entered = refl;
+      day = a .day;
+      key = neither _ _ (a .fields) .0;
+      energyCount = c .0;
+      priceCount = c .1;
+      energy = λ h. g .each h .energy-le;
+      beyond = energy-beyond (hours b) m g (a .day);
+      named = λ h. g .each h .named-by;
+      price = λ h. g .each h .price-le;
+      unnamed = price-unnamed m g;
+    }
+
+-- its unit is registered, and no domestic one for an execution
+holder-good : (b : Book) (k : Key) → badHolder b k ≡ false → HasUnit (b .units) k
+unfolding badHolder unregistered
+holder-good b k h = let a = neither _ _ h in record { registered = not-false _ (a .0); border = a .1 }
+
+-- a lodgement that is not refused as 9 has a number
+number-left : (b : Book) (k : Key) → full b k ≡ false → b .last < 65535
+unfolding full
+number-left b k h = leb-false 65535 (b .last) (neither (leb 128 (length (b .standing)) && not (stands (b .standing) k)) (leb 65535 (b .last)) h .1)
+
+-- and a place
+place-left : (b : Book) (k : Key) → full b k ≡ false → length (b .standing) ≤ 128 → length (without k (b .standing)) < 128
+unfolding full without stands
+place-left b k h r =
+    let there = any (λ l. sameKey (l .key) k) (b .standing) in
+    by-bool there (λ e. omega (arith, length-drop-one (λ l. sameKey (l .key) k) (b .standing) e))
+    (λ e. omega (
+      arith,
+      leb-false 128 (length (b .standing)) (sym (and-true (leb 128 (length (b .standing)))) ∙ (rw e at (neither (leb 128 (length (b .standing)) && not there) (leb 65535 (b .last)) h .0))),
+      length-keep (λ l. not (sameKey (l .key) k)) (b .standing),
+    ))
+
+-- without a key's lodgement
+without-sound : (H : ℕ) (us : List Registered) (k : Key) {ls : List Lodgement} {last : ℕ} → StandingSound H us ls last → StandingSound H us (without k ls) last
+unfolding without
+without-sound H us k {ls} s =
+    record {
+      room = omega (arith, s .room, length-keep (λ l. not (sameKey (l .key) k)) ls);
+      counted = s .counted;
+      rising = pairwise-keep _ (s .rising);
+      from-one = all-keep _ (s .from-one);
+      to-last = all-keep _ (s .to-last);
+      keys = pairwise-keep _ (s .keys);
+      holders = all-keep _ (s .holders);
+      messages = all-keep _ (s .messages);
+    }
+
+-- no lodgement of the key is left
+without-key : (k : Key) (ls : List Lodgement) → All (λ l. sameKey (l .key) k ≡ false) (without k ls)
+unfolding without
+without-key k ls = all-map (λ l e. not-true _ e) (keep-passes (λ l. not (sameKey (l .key) k)) ls)
+
+-- with a new lodgement under the next number
+with-sound : (H : ℕ) (us : List Registered) {ls : List Lodgement} {last : ℕ} (l : Lodgement) → StandingSound H us ls last → length ls < 128 → last < 65535
+    → l .number ≡ suc last → All (λ k. sameKey (k .key) (l .key) ≡ false) ls → HasUnit us (l .key) → Lodged H l → StandingSound H us (ls ++ (l ∷ [])) (suc last)
+with-sound H us l s room left number key unit message =
+    record {
+      room = rw length-append (omega arith);
+      counted = left;
+      rising = pairwise-last (s .rising) (all-map (λ k h. omega arith) (s .to-last));
+      from-one = all-last (s .from-one) (omega arith);
+      to-last = all-last (all-map (λ k h. omega arith) (s .to-last)) (omega arith);
+      keys = pairwise-last (s .keys) key;
+      holders = all-last (s .holders) unit;
+      messages = all-last (s .messages) message;
+    }
+
+-- lodgements whose units are still registered
+holders-sound : (H : ℕ) {us vs : List Registered} {ls : List Lodgement} {last : ℕ} → ((k : Key) → HasUnit us k → HasUnit vs k) → StandingSound H us ls last → StandingSound H vs ls last
+holders-sound H f s =
+    record {
+      room = s .room;
+      counted = s .counted;
+      rising = s .rising;
+      from-one = s .from-one;
+      to-last = s .to-last;
+      keys = s .keys;
+      holders = all-map (λ l h. f (l .key) h) (s .holders);
+      messages = s .messages;
+    }
+
+-- Calls
+
+-- an accepted call leaves a sound book
+applied-sound : (b : Book) (c : Call) → firstRow (rowsOf b c) ≡ nothing → Sound b → Sound (applied b c)
+unfolding applied rowsOf row changeRow unregistered isSecond unitsFull withUnits withCapacities withStanding withStage hours entry keyOf
+applied-sound b (register u) h s =
+    let r5 = all-tail (accepted-rows (rowsOf b (register u)) h) in
+    let r7 = all-tail r5 in
+    let r8 = all-tail r7 in
+    record {
+      date = s .date;
+      units = register-sound (hours b) (b .units) u (s .units) (all-head r5) (all-head r7) (all-head r8) (leb-false 64 (length (b .units)) (all-head (all-tail r8)));
+      capacities = s .capacities;
+      standing = holders-sound (hours b) (unit-longer (b .units) (record { unit = u; available = nothing } ∷ [])) (s .standing);
+      stage = s .stage;
+    }
+applied-sound b (capacity cs) h s =
+    let r4 = all-tail (accepted-rows (rowsOf b (capacity cs)) h) in
+    record {
+      date = s .date;
+      units = s .units;
+      capacities = notice-good (hours b) cs (all-head r4) (all-head (all-tail r4));
+      standing = s .standing;
+      stage = s .stage;
+    }
+applied-sound b (available n es) h s =
+    let r4 = all-tail (accepted-rows (rowsOf b (available n es)) h) in
+    record {
+      date = s .date;
+      units = notify-sound n es (hours b) (b .units) (s .units) (eqb-true _ _ (not-false _ (all-head r4))) (energies-good es (neither (badNumber n) (badEnergies es) (all-head (all-tail r4)) .1));
+      capacities = s .capacities;
+      standing = holders-sound (hours b) (notify-holder n es (b .units)) (s .standing);
+      stage = s .stage;
+    }
+applied-sound b (lodge bytes) h s =
+    let m = decode energyWidth bytes in
+    let a = admitted b bytes h in
+    record {
+      date = s .date;
+      units = s .units;
+      capacities = s .capacities;
+      standing = with-sound (hours b) (b .units) (entry m (suc (b .last))) (without-sound (hours b) (b .units) (keyOf m) (s .standing))
+          (place-left b (keyOf m) (a .room) (s .standing .room)) (number-left b (keyOf m) (a .room)) refl (without-key (keyOf m) (b .standing))
+          (holder-good b (keyOf m) (a .holder)) (lodged b bytes (suc (b .last)) a);
+      stage = s .stage;
+    }
+applied-sound b (annul k) h s =
+    record { date = s .date; units = s .units; capacities = s .capacities; standing = without-sound (hours b) (b .units) k (s .standing); stage = s .stage }
+applied-sound b close h s =
+    record { date = s .date; units = s .units; capacities = s .capacities; standing = s .standing; stage = λ e. refl }
+applied-sound b clear h s =
+    record {
+      date = s .date;
+      units = s .units;
+      capacities = s .capacities;
+      standing = s .standing;
+      stage = λ e. not-false _ (neither _ _ (all-head (accepted-rows (rowsOf b clear) h)) .0);
+    }
+
+-- so does any call: a refused one changes nothing
+pub turn-sound : (b : Book) (c : Call) → Sound b → Sound (turn b c .book)
+unfolding turn turned
+turn-sound b c s = go (firstRow (rowsOf b c)) refl
+  where
+    go : (o : Option Row) → firstRow (rowsOf b c) ≡ o → Sound (turned b c o .book)
+    go nothing e = applied-sound b c e s
+    go (some r) e = s
+
+-- so do all calls
+pub calls-sound : (b : Book) (cs : List Call) → Sound b → Sound (after b cs)
+unfolding after
+calls-sound b [] s = s
+calls-sound b (c ∷ cs) s = calls-sound (turn b c .book) cs (turn-sound b c s)
+
+-- a fresh book of a date is sound
+fresh-sound : (d : Date) → isDate d ≡ true → Sound (fresh d)
+unfolding fresh
+fresh-sound d e =
+    record {
+      date = e;
+      units = record { room = omega arith; distinct = empty; single = empty; ranges = none; notices = none };
+      capacities = all-replicate 8 nothing absent;
+      standing = record { room = omega arith; counted = omega arith; rising = empty; from-one = none; to-last = none; keys = empty; holders = none; messages = none };
+      stage = λ k. absurd (false≢true k);
+    }
+
+-- "the fresh session of 2002-01-01"
+first-day : isDate (record { year = 2002; month = 1; day = 1 }) ≡ true
+unfolding Hours·all
+first-day = refl
+
+-- opening leaves the fresh book of a date in the range, of a refused date too
+opening-fresh : (d : Date) → (e : Date) × (isDate e ≡ true) × (opening d .book ≡ fresh e)
+unfolding opening openedWith dateRow row
+opening-fresh d = go (firstRow (dateRow d ∷ [])) refl
+  where
+    go : (o : Option Row) → firstRow (dateRow d ∷ []) ≡ o → (e : Date) × (isDate e ≡ true) × (openedWith d o .book ≡ fresh e)
+    go nothing e = (d, not-false _ (all-head (accepted-rows (dateRow d ∷ []) e)), refl)
+    go (some r) e = (record { year = 2002; month = 1; day = 1 }, first-day, refl)
+
+-- so it leaves a sound book
+pub opening-sound : (d : Date) → Sound (opening d .book)
+opening-sound d = let k = opening-fresh d in rw (k .2) (fresh-sound (k .0) (k .1))
+
+-- an open one
+pub opening-open : (d : Date) → opening d .book .closed ≡ false
+unfolding fresh
+opening-open d = rw (opening-fresh d .2)
+
+-- and one with 8 directions, all absent
+opening-directions : (d : Date) → length (opening d .book .capacities) ≡ 8
+unfolding fresh
+opening-directions d = rw (opening-fresh d .2)
+
+-- the book is sound after every list of calls
+pub sound-after : (d : Date) (cs : List Call) → Sound (after (opening d .book) cs)
+sound-after d cs = calls-sound (opening d .book) cs (opening-sound d)
+
+-- Eight directions
+
+-- an accepted call leaves a notice of 8 directions
+applied-directions : (b : Book) (c : Call) → WellTyped c → length (b .capacities) ≡ 8 → length (applied b c .capacities) ≡ 8
+unfolding applied withUnits withCapacities withStanding withStage
+applied-directions b (register u) w h = h
+applied-directions b (capacity cs) w h = w .directions cs refl
+applied-directions b (available n es) w h = h
+applied-directions b (lodge bytes) w h = h
+applied-directions b (annul k) w h = h
+applied-directions b close w h = h
+applied-directions b clear w h = h
+
+-- so do all calls
+calls-directions : (b : Book) {cs : List Call} → All WellTyped cs → length (b .capacities) ≡ 8 → length (after b cs .capacities) ≡ 8
+unfolding after turn turned
+calls-directions b none h = h
+calls-directions b (more {x = c} w t) h = calls-directions (turn b c .book) t (go (firstRow (rowsOf b c)))
+  where
+    go : (o : Option Row) → length (turned b c o .book .capacities) ≡ 8
+    go nothing = applied-directions b c w h
+    go (some r) = h
+
+-- where each capacity notice has its 8 directions, so has the book's
+pub directions-after : (d : Date) {cs : List Call} → All WellTyped cs → length (after (opening d .book) cs .capacities) ≡ 8
+directions-after d w = calls-directions (opening d .book) w (opening-directions d)
+
+-- After closing
+
+-- a closed book, written by its stage
+closed-stage : (b k : Book) → b .closed ≡ true → k ≡ b → k ≡ withStage b true (k .cleared)
+unfolding withStage
+closed-stage b k h e = e ∙ ap (λ x. withStage b x (b .cleared)) h ∙ ap (λ (j : Book). withStage b true (j .cleared)) (sym e)
+
+-- a change after closing is refused
+change-refused : (b : Book) (c : Call) (rows : List Row) → b .closed ≡ true → rowsOf b c ≡ changeRow b ∷ rows → turn b c .book ≡ b
+unfolding turn turned changeRow row firstRow
+change-refused b c rows h e = rw (e, h)
+
+-- clearing it is said in it
+clear-closed : (b : Book) → b .closed ≡ true → turn b clear .book ≡ withStage b true (turn b clear .book .cleared)
+unfolding turn turned applied withStage
+clear-closed b h = go (firstRow (rowsOf b clear))
+  where
+    go : (o : Option Row) → turned b clear o .book ≡ withStage b true (turned b clear o .book .cleared)
+    go nothing = ap (λ x. withStage b x true) h
+    go (some r) = closed-stage b b h refl
+
+-- a call on a closed book changes at most whether it is cleared
+turn-closed : (b : Book) (c : Call) → b .closed ≡ true → turn b c .book ≡ withStage b true (turn b c .book .cleared)
+unfolding rowsOf lodgeRows
+turn-closed b (register u) h = closed-stage b _ h (change-refused b (register u) _ h refl)
+turn-closed b (capacity cs) h = closed-stage b _ h (change-refused b (capacity cs) _ h refl)
+turn-closed b (available n es) h = closed-stage b _ h (change-refused b (available n es) _ h refl)
+turn-closed b (lodge bytes) h = closed-stage b _ h (change-refused b (lodge bytes) _ h refl)
+turn-closed b (annul k) h = closed-stage b _ h (change-refused b (annul k) _ h refl)
+turn-closed b close h = closed-stage b _ h (change-refused b close _ h refl)
+turn-closed b clear h = clear-closed b h
+
+-- the book is as it was at closing, but for whether it is cleared
+pub after-closed : (b : Book) (cs : List Call) → b .closed ≡ true → after b cs ≡ withStage b true (after b cs .cleared)
+unfolding after withStage
+after-closed b [] h = closed-stage b b h refl
+after-closed b (c ∷ cs) h =
+    let e = turn-closed b c h in
+    after-closed (turn b c .book) cs (ap (λ (k : Book). k .closed) e) ∙ ap (λ (k : Book). withStage k true (after (turn b c .book) cs .cleared)) e
+
+module _ (b : Book) (x y : Bool) where
+  -- the stage of a book changes nothing that is judged
+  judgeEach-stage : (before ls : List Lodgement) → judgeEach (withStage b x y) before ls ≡ judgeEach b before ls
+  unfolding judgeEach judge withStage hours
+  judgeEach-stage before [] = refl
+  judgeEach-stage before (l ∷ ls) = ap {B = List Judged} (λ js. record { lodgement = l; verdict = judge b before l } ∷ js) (judgeEach-stage (cond (isAccepted (judge b before l)) (l ∷ before) before) ls)
+
+  -- and so no verdict
+  stage-judgements : judgements (withStage b x y) ≡ judgements b
+  unfolding judgements withStage
+  stage-judgements = judgeEach-stage [] (closingOrder (b .standing))
+
+  -- and changes no figure
+  stage-figures : (h : ℕ) → figuresAt (withStage b x y) h ≡ figuresAt b h
+  unfolding figuresAt acceptedAt hourOfDay withStage
+  stage-figures h = ap (λ js. clearHour (hourOfDay b (keep (λ l. isAccepted (verdictAmong js (l .number))) (b .standing)) h)) stage-judgements
+
+-- every verdict is that of the book at closing, whatever is called afterwards
+pub verdicts-kept : (b : Book) (cs : List Call) → b .closed ≡ true → judgements (after b cs) ≡ judgements b
+verdicts-kept b cs h = ap judgements (after-closed b cs h) ∙ stage-judgements b true (after b cs .cleared)
+
+-- and so is every figure
+pub figures-kept : (b : Book) (cs : List Call) (h : ℕ) → b .closed ≡ true → figuresAt (after b cs) h ≡ figuresAt b h
+figures-kept b cs h e = ap (λ (k : Book). figuresAt k h) (after-closed b cs e) ∙ stage-figures b true (after b cs .cleared) h
+
+-- The call that closed it
+
+-- closing an open book is accepted
+close-open : (b : Book) → b .closed ≡ false → turn b close .book ≡ withStage b true (b .cleared)
+unfolding turn turned rowsOf changeRow row firstRow applied
+close-open b h = rw h
+
+-- no other call closes one
+closes : (b : Book) (c : Call) → (c ≡ close) ⊎ (applied b c .closed ≡ b .closed)
+unfolding applied withUnits withCapacities withStanding withStage
+closes b (register u) = inr refl
+closes b (capacity cs) = inr refl
+closes b (available n es) = inr refl
+closes b (lodge bytes) = inr refl
+closes b (annul k) = inr refl
+closes b close = inl refl
+closes b clear = inr refl
+
+-- nor does a refused one
+turn-closes : (b : Book) (c : Call) → (c ≡ close) ⊎ (turn b c .book .closed ≡ b .closed)
+unfolding turn turned
+turn-closes b c = go (firstRow (rowsOf b c))
+  where
+    go : (o : Option Row) → (c ≡ close) ⊎ (turned b c o .book .closed ≡ b .closed)
+    go nothing = closes b c
+    go (some r) = inr refl
+
+-- the first call closes the book
+closed-here : (b : Book) (c : Call) (cs : List Call) → b .closed ≡ false → c ≡ close → ClosedIn b (c ∷ cs)
+unfolding after withStage
+closed-here b c cs h e =
+    rw e (record {
+      earlier = [];
+      rest = cs;
+      calls = refl;
+      found = h;
+      same = after-closed (turn b close .book) cs (ap (λ (k : Book). k .closed) (close-open b h)) ∙ ap (λ (k : Book). withStage k true (after (turn b close .book) cs .cleared)) (close-open b h);
+    })
+
+-- or a later one does
+closed-later : (b : Book) (c : Call) (cs : List Call) → ClosedIn (turn b c .book) cs → ClosedIn b (c ∷ cs)
+unfolding after
+closed-later b c cs k = record { earlier = c ∷ k .earlier; rest = k .rest; calls = ap {B = List Call} (λ ds. c ∷ ds) (k .calls); found = k .found; same = k .same }
+
+-- a book that is closed was closed by one of the calls, and holds what that call found
+pub closed-in : (b : Book) (cs : List Call) → b .closed ≡ false → after b cs .closed ≡ true → ClosedIn b cs
+unfolding after
+closed-in b [] h k = not-both k h
+closed-in b (c ∷ cs) h k = ⊎-elim (λ e. closed-here b c cs h e) (λ e. closed-later b c cs (closed-in (turn b c .book) cs (e ∙ h) k)) (turn-closes b c)

@@ -1,0 +1,133 @@
+-- Demand 3, proved of the book after every list of calls.
+use Prim.Native.Nat.{ℕ, zero, suc, _+_, _≤_}
+use mathlib.Core.Path.{_≡_, refl, ap}
+use mathlib.Core.Bool.{Bool, true, false, cond, not}
+use mathlib.Core.List.{List, map}
+use mathlib.Core.Option.{some}
+use native.Mathlib.Omega.{arith}
+use lib.Dec.{ltb, eqb}
+use borrow.Author.Tests.{eqb-true}
+use Rattle.rules.specs.Lists.{All, none, more, keep, sum, sumOf, hourly}
+use Rattle.rules.specs.Hours.{Date}
+use Rattle.rules.specs.Units.{Registered, Capacities, capacityOf, ceiling, hasNumber, nobody, unitOf, isRegistered}
+use Rattle.rules.specs.Lodging.{Lodgement, energyAt}
+use Rattle.rules.specs.Book.{Book, hours}
+use Rattle.rules.specs.Closing.{acceptedAt}
+use Rattle.rules.specs.Borders.{Directed}
+use Rattle.rules.specs.Clearing.{holderOf, offerAt, executionAt, published, borderCapacities, capacitiesAt, hourOfDay}
+use Rattle.rules.specs.Queries.{matchedAt, executedAt}
+use Rattle.rules.specs.DayBook.{Call, after, opening}
+use Rattle.rules.specs.Sound.{Sound}
+use Rattle.rules.specs.Demands.{Cleared, ClosedIn, Demand3}
+use Rattle.rules.proofs.ListLaws.{all-map, all-head, all-keep, first-passes, all-parts}
+use Rattle.rules.proofs.SumLaws.{sum-keep, sum-some, sum-two}
+use Rattle.rules.proofs.HourLaws.{unit-energy}
+use Rattle.rules.proofs.SoundLaws.{figures-cleared}
+use Rattle.rules.proofs.BookLaws.{sound-after, closed-in, opening-open}
+use Rattle.rules.proofs.ClosingLaws.{energyOn, closing-exactly, accepted-within}
+
+-- Ceilings
+
+-- a registered unit's entry has its number
+unit-number : (us : List Registered) (n : ℕ) → isRegistered us n ≡ true → unitOf us n .unit .number ≡ n
+unfolding isRegistered unitOf hasNumber
+unit-number us n h = eqb-true _ _ (first-passes (hasNumber n) nobody us h)
+
+-- what a unit has of a list made from lodgements, each with its unit and energy
+sum-made : {A : Type 0} (made : Lodgement → A) (unit energy : A → ℕ) (u h : ℕ) {ls : List Lodgement}
+    → All (λ l. (unit (made l) ≡ l .key .unit) × (energy (made l) ≡ energyAt l h)) ls
+    → sumOf energy (keep (λ x. eqb (unit x) u) (map made ls)) ≡ energyOn u h ls
+unfolding keep sumOf sum
+sum-made made unit energy u h none = refl
+sum-made made unit energy u h (more {x = l} {xs = ls} k t) =
+    omega (
+      arith,
+      sum-keep energy (λ x. eqb (unit x) u) (made l) (map made ls),
+      sum-keep (λ l. energyAt l h) (λ l. eqb (l .key .unit) u) l ls,
+      ap (λ v. cond (eqb v u) (energy (made l)) 0) (k .0),
+      ap (λ e. cond (eqb (l .key .unit) u) e 0) (k .1),
+      sum-made made unit energy u h t,
+    )
+
+module _ (b : Book) (s : Sound b) where
+  -- accepted lodgements have registered units
+  accepted-units : All (λ l. unitOf (b .units) (l .key .unit) .unit .number ≡ l .key .unit) (acceptedAt b)
+  unfolding acceptedAt
+  accepted-units = all-keep _ (all-map (λ l k. unit-number (b .units) (l .key .unit) (k .registered)) (s .standing .holders))
+
+  -- what an hour is cleared from holds no more of a unit than its accepted lodgements
+  hour-energy : (u h : ℕ) → sumOf (λ o. o .offered) (keep (λ o. eqb (o .holder .unit) u) (hourOfDay b (acceptedAt b) h .offers))
+      + sumOf (λ e. e .energy) (keep (λ e. eqb (e .holder .unit) u) (hourOfDay b (acceptedAt b) h .executions))
+      ≤ energyOn u h (acceptedAt b)
+  unfolding hourOfDay offerAt executionAt holderOf
+  hour-energy u h =
+      let named : List Lodgement = keep (λ l. ltb 0 (energyAt l h)) (acceptedAt b) in
+      let units : All (λ l. unitOf (b .units) (l .key .unit) .unit .number ≡ l .key .unit) named = all-keep (λ l. ltb 0 (energyAt l h)) accepted-units in
+      omega (
+        arith,
+        sum-made (offerAt (b .units) h) (λ o. o .holder .unit) (λ o. o .offered) u h (all-keep (λ l. not (l .key .execution)) (all-map (λ l e. (e, refl)) units)),
+        sum-made (executionAt (b .units) h) (λ x. x .holder .unit) (λ x. x .energy) u h (all-keep (λ l. l .key .execution) (all-map (λ l e. (e, refl)) units)),
+        sum-two (λ l. energyAt l h) (λ l. eqb (l .key .unit) u) (λ l. l .key .execution) named,
+        sum-some (λ l. energyAt l h) (λ l. eqb (l .key .unit) u) (λ l. ltb 0 (energyAt l h)) (acceptedAt b),
+      )
+
+  -- "no unit's energy passes its ceiling"
+  pub ceilings-kept : (u h : ℕ) → 1 ≤ h → h ≤ hours b → matchedAt b u h + executedAt b u h ≤ ceiling (b .capacities) (unitOf (b .units) u) h
+  unfolding matchedAt executedAt
+  ceilings-kept u h low high =
+      omega (arith, unit-energy (figures-cleared b h (s .standing .rising)) u, hour-energy u h, accepted-within b (s .standing .rising) u h low high)
+
+-- Borders
+
+module _ {P : Directed → Type 0} (cs : Capacities) (h : ℕ) where
+  -- a published direction is among its border's
+  of-border : (border : ℕ) (export : Bool) (es : List ℕ) → capacityOf cs border export ≡ some es → All P (borderCapacities cs h border)
+      → P (record { border = border; export = export; energy = hourly es h })
+  unfolding borderCapacities published
+  of-border border true es e a = all-head (rw e at (all-parts (published h border true (capacityOf cs border true)) a .0))
+  of-border border false es e a = all-head (rw e at (all-parts (published h border true (capacityOf cs border true)) a .1))
+
+  -- and its border among the four
+  of-capacities : (border : ℕ) (export : Bool) (es : List ℕ) → 1 ≤ border → border ≤ 4 → capacityOf cs border export ≡ some es → All P (capacitiesAt cs h)
+      → P (record { border = border; export = export; energy = hourly es h })
+  unfolding capacitiesAt
+  of-capacities border export es low high e a =
+      let a1 = all-parts (borderCapacities cs h 1) a in
+      let a2 = all-parts (borderCapacities cs h 2) (a1 .1) in
+      let a3 = all-parts (borderCapacities cs h 3) (a2 .1) in
+      of-border border export es e (go border low high (a1 .0) (a2 .0) (a3 .0) (a3 .1))
+    where
+      go : (border : ℕ) → 1 ≤ border → border ≤ 4 → All P (borderCapacities cs h 1) → All P (borderCapacities cs h 2) → All P (borderCapacities cs h 3)
+          → All P (borderCapacities cs h 4) → All P (borderCapacities cs h border)
+      go zero low high a1 a2 a3 a4 = absurd (omega arith)
+      go (suc zero) low high a1 a2 a3 a4 = a1
+      go (suc (suc zero)) low high a1 a2 a3 a4 = a2
+      go (suc (suc (suc zero))) low high a1 a2 a3 a4 = a3
+      go (suc (suc (suc (suc zero)))) low high a1 a2 a3 a4 = a4
+      go (suc (suc (suc (suc (suc n))))) low high a1 a2 a3 a4 = absurd (omega arith)
+
+-- Demand 3
+
+-- of an hour of a sound book
+pub hour-demanded : (b : Book) → Sound b → (h : ℕ) → 1 ≤ h → h ≤ hours b → Cleared b h
+unfolding hourOfDay
+hour-demanded b s h low high =
+    let k = figures-cleared b h (s .standing .rising) in
+    record {
+      balanced = k .balanced;
+      ceilings = λ u. ceilings-kept b s u h low high;
+      executions = k .executions;
+      borders = λ border export es l u e. of-capacities (b .capacities) h border export es l u e (k .borders);
+    }
+
+-- of a sound book
+pub demanded : (b : Book) → Sound b → Demand3 b
+demanded b s = record { closing = λ e. closing-exactly b (s .standing .rising); clearing = λ e h low high. hour-demanded b s h low high }
+
+-- if closing was accepted one of the calls closed the book, and the book still holds what that call found
+pub closing-found : (d : Date) (cs : List Call) → after (opening d .book) cs .closed ≡ true → ClosedIn (opening d .book) cs
+closing-found d cs h = closed-in (opening d .book) cs (opening-open d) h
+
+-- of the book after every list of calls
+pub demand-3 : (d : Date) (cs : List Call) → Demand3 (after (opening d .book) cs)
+demand-3 d cs = demanded (after (opening d .book) cs) (sound-after d cs)

@@ -1,0 +1,150 @@
+-- Demand 3: what is claimed of the book after every list of calls.
+use Prim.Native.Nat.{ℕ, _+_, _-_, _≤_, _<_}
+use mathlib.Core.Path.{_≡_}
+use mathlib.Core.Logic.{_↔_}
+use mathlib.Core.Bool.{Bool, true, false, cond, _&&_, _||_, Bool·beq}
+use mathlib.Core.List.{List, [], _∷_, _++_, map}
+use mathlib.Core.Option.{some}
+use lib.Dec.{ltb, eqb}
+use lib.IntN.{ℤ, pos, _+ℤ_}
+use lib.Signed.{_≤ℤ_, _<ℤ_}
+use Rattle.rules.specs.Lists.{All, Each, keep, sum, sumOf, hourly}
+use Rattle.rules.specs.Units.{Limit, capacityOf, ceiling, limits, unitOf}
+use Rattle.rules.specs.Lodging.{Lodgement, energyAt, isHidden, passedAt}
+use Rattle.rules.specs.Book.{Book, hours}
+use Rattle.rules.specs.Closing.{Verdict, hidden, limit, isAccepted, judgements, verdictAmong, acceptedAt}
+use Rattle.rules.specs.Share.{share}
+use Rattle.rules.specs.Match.{Offer}
+use Rattle.rules.specs.Borders.{Directed, Execution, runs, marketBalance, executionBalance, toward}
+use Rattle.rules.specs.Executions.{bilateralExcess}
+use Rattle.rules.specs.Clearing.{hourOfDay, figuresAt}
+use Rattle.rules.specs.Queries.{matchedAt, executedAt}
+use Rattle.rules.specs.DayBook.{Call, close, withStage, after}
+
+-- Closing
+
+-- a standing lodgement's verdict
+unfoldable pub verdictOf : Book → Lodgement → Verdict
+verdictOf b l = verdictAmong (judgements b) (l .number)
+
+-- "normal executions, default executions, offers"
+unfoldable pub turnOf : Lodgement → ℕ
+turnOf l = cond (l .key .execution) (cond (l .key .default) 1 0) 2
+
+-- "Unhidden lodgements are taken in this order: normal executions, default executions, offers; within each, latest number first"
+unfoldable pub takenBefore : Lodgement → Lodgement → Bool
+takenBefore k l = ltb (turnOf k) (turnOf l) || (eqb (turnOf k) (turnOf l) && ltb (l .number) (k .number))
+
+-- "that accepted before it on its unit": of those accepted at closing the ones of its unit that are taken before it
+unfoldable pub acceptedBefore : Book → Lodgement → List Lodgement
+acceptedBefore b l = keep (λ k. eqb (k .key .unit) (l .key .unit) && takenBefore k l) (acceptedAt b)
+
+-- "its energy with that accepted before it on its unit"
+unfoldable pub energyWith : Book → Lodgement → ℕ → ℕ
+energyWith b l h = energyAt l h + sumOf (λ k. energyAt k h) (acceptedBefore b l)
+
+-- "in an hour it names, its energy with that accepted before it on its unit passes the ceiling"
+pub record Passes (b : Book) (l : Lodgement) (h : ℕ) : Type 0 where
+  pub first : 1 ≤ h
+  pub last : h ≤ hours b
+  pub named : 0 < energyAt l h
+  pub over : ceiling (b .capacities) (unitOf (b .units) (l .key .unit)) h < energyWith b l h
+
+-- "The lowest applicable number is given, and for 10 to 12 the lowest hour in which that limit is passed": of some limits
+-- n is the number of the first that is passed in an hour of 1 to H, and h the lowest such hour
+pub data Chosen (H : ℕ) (passed : Limit → ℕ → Bool) (n h : ℕ) : List Limit → Type 0 where
+  first-passed : {l : Limit} {ls : List Limit} → l .number ≡ n → 1 ≤ h → h ≤ H → passed l h ≡ true
+      → ((k : ℕ) → 1 ≤ k → k < h → passed l k ≡ false) → Chosen H passed n h (l ∷ ls)
+  later : {l : Limit} {ls : List Limit} → ((k : ℕ) → 1 ≤ k → k ≤ H → passed l k ≡ false)
+      → Chosen H passed n h ls → Chosen H passed n h (l ∷ ls)
+
+-- the limit and hour of a lodgement refused at closing
+abbrev pub ChosenAt : Book → Lodgement → ℕ → ℕ → Type 0
+ChosenAt b l n h =
+    Chosen (hours b) (passedAt (l .energies) (energyWith b l)) n h (limits (b .capacities) (unitOf (b .units) (l .key .unit)))
+
+-- What closing gives a standing lodgement.
+pub record Judgement (b : Book) (l : Lodgement) : Type 0 where
+  -- "an unhidden lodgement standing at closing was refused there exactly when, in an hour it names, its energy with that
+  -- accepted before it on its unit passes the ceiling"
+  pub exactly : isHidden (b .standing) l ≡ false → (isAccepted (verdictOf b l) ≡ false) ↔ ((h : ℕ) × Passes b l h)
+  -- it is then refused by the first limit passed, in the lowest hour in which that limit is
+  pub chosen : (n h : ℕ) → verdictOf b l ≡ limit n h → ChosenAt b l n h
+  -- "hidden" is the verdict of the hidden ones, and of no other
+  pub hiding : (verdictOf b l ≡ hidden) ↔ (isHidden (b .standing) l ≡ true)
+
+-- Clearing
+
+-- what is matched on a side: "matched sales" (false), "matched purchases" (true)
+unfoldable pub matchedOn : Bool → List Offer → ℕ
+matchedOn side os = sumOf (λ o. o .matched) (keep (λ o. Bool·beq (o .holder .purchase) side) os)
+
+-- "Market plus bilateral balance at each border", seen in a direction: "negated for import"
+unfoldable pub crossing : Directed → List Offer → List Execution → ℤ
+crossing c os xs = toward (c .export) (marketBalance (c .border) os +ℤ executionBalance (c .border) xs)
+
+-- An execution against what it was before the cut: the same holder, and no more energy.
+pub record CutDown (before after : Execution) : Type 0 where
+  pub holder : after .holder ≡ before .holder
+  pub energy : after .energy ≤ before .energy
+
+-- "Some execution there in a direction is cut": it has less energy after than before
+pub data SomeCut (c : Directed) : List Execution → List Execution → Type 0 where
+  this : {x y : Execution} {xs ys : List Execution} → runs (c .border) (c .export) (x .holder) ≡ true → y .energy < x .energy → SomeCut c (x ∷ xs) (y ∷ ys)
+  another : {x y : Execution} {xs ys : List Execution} → SomeCut c xs ys → SomeCut c (x ∷ xs) (y ∷ ys)
+
+-- the executions' energies in a direction, 0 for the others
+abbrev pub amountsOn : Directed → List Execution → List ℕ
+amountsOn c xs = map (λ x. cond (runs (c .border) (c .export) (x .holder)) (x .energy) 0) xs
+
+-- what each execution in a direction loses, 0 for the others
+unfoldable pub lost : Directed → List Execution → List Execution → List ℕ
+lost c [] ys = []
+lost c (x ∷ xs) [] = []
+lost c (x ∷ xs) (y ∷ ys) = cond (runs (c .border) (c .export) (x .holder)) (x .energy - y .energy) 0 ∷ lost c xs ys
+
+-- What holds at a border in a direction with a capacity, of the final offers, the executions, and the executions after cuts.
+pub record Kept (c : Directed) (os : List Offer) (before after : List Execution) : Type 0 where
+  -- "Market plus bilateral balance at each border keeps within each published capacity."
+  pub within : crossing c os after ≤ℤ pos (c .energy)
+  -- "Some execution there in a direction is cut [..] exactly when the sum with none cut would pass that direction's capacity"
+  pub cut : SomeCut c before after ↔ (pos (c .energy) <ℤ crossing c os before)
+  -- "and the cut sum then stands at it"
+  pub stands : pos (c .energy) <ℤ crossing c os before → crossing c os after ≡ pos (c .energy)
+  -- "by the papers' Share": R is at most G, and each loses what Share takes from it
+  pub enough : bilateralExcess os before c ≤ sum (amountsOn c before)
+  pub shared : lost c before after ≡ share (bilateralExcess os before c) (amountsOn c before)
+
+-- the executions accepted at closing, in an hour, "with none cut"
+abbrev pub executionsAt : Book → ℕ → List Execution
+executionsAt b h = hourOfDay b (acceptedAt b) h .executions
+
+-- What holds in an hour after clearing.
+pub record Cleared (b : Book) (h : ℕ) : Type 0 where
+  -- "Matched sales equal matched purchases"
+  pub balanced : matchedOn false (figuresAt b h .offers) ≡ matchedOn true (figuresAt b h .offers)
+  -- "and no unit's energy passes its ceiling": "A unit's energy is matched plus executed, after cuts."
+  pub ceilings : (u : ℕ) → matchedAt b u h + executedAt b u h ≤ ceiling (b .capacities) (unitOf (b .units) u) h
+  -- no execution gains by the cut
+  pub executions : Each CutDown (executionsAt b h) (figuresAt b h .executions)
+  -- "Market plus bilateral balance at each border keeps within each published capacity", and what is cut there: at each of
+  -- the 4 borders in each direction for which the notice has energies es
+  pub borders : (border : ℕ) (export : Bool) (es : List ℕ) → 1 ≤ border → border ≤ 4 → capacityOf (b .capacities) border export ≡ some es
+      → Kept (record { border = border; export = export; energy = hourly es h }) (figuresAt b h .offers) (executionsAt b h) (figuresAt b h .executions)
+
+-- "Demand 3's ceilings and published capacities [..] are by the book's notices at closing; the lodgements it has then are those
+-- standing at closing": one of the calls found the book open and closed it, and the book at the list's end holds what that
+-- call found, units, notices, standing lodgements and last number.
+pub record ClosedIn (start : Book) (cs : List Call) : Type 0 where
+  pub earlier : List Call
+  pub rest : List Call
+  pub calls : cs ≡ earlier ++ (close ∷ rest)
+  pub found : after start earlier .closed ≡ false
+  pub same : after start cs ≡ withStage (after start earlier) true (after start cs .cleared)
+
+-- Demand 3, of the book at a list's end.
+pub record Demand3 (b : Book) : Type 0 where
+  -- "If closing was accepted"
+  pub closing : b .closed ≡ true → All (Judgement b) (b .standing)
+  -- "If clearing was accepted too, all that follows holds in each hour."
+  pub clearing : b .cleared ≡ true → (h : ℕ) → 1 ≤ h → h ≤ hours b → Cleared b h

@@ -1,0 +1,123 @@
+-- By place and by the rules: which offers run in a direction passed, what they keep, and which give way.
+use Prim.Native.Nat.{ℕ, _≤_, _<_}
+use mathlib.Core.Path.{_≡_, refl, ap, sym, _∙_}
+use mathlib.Core.Bool.{Bool, true, false, cond, not, _&&_}
+use mathlib.Core.List.{List, [], _∷_, map}
+use mathlib.Core.Logic.{⊎-elim}
+use native.Mathlib.Nat.{eq-or-lt-of-le}
+use native.Mathlib.Omega.{arith}
+use lib.Dec.{ltb, eqb}
+use lib.ListN.{getD, length}
+use borrow.Author.Tests.{ne-eqb, eqb-true, eqb-false, lt-ltb}
+use Rattle.rules.specs.Lists.{any}
+use Rattle.rules.specs.Match.{Offer, withEnergies}
+use Rattle.rules.specs.Borders.{Directed}
+use Rattle.rules.specs.Withdrawal.{runsIn, runsAmong, keepMatched, Group as GroupOf, inGroup, givesWay}
+use Rattle.rules.proofs.BoolLaws.{by-bool, not-both}
+use Rattle.arrays.specs.Places.{layOn}
+use Rattle.arrays.proofs.PlaceLaws.{lay-at}
+use Rattle.matching.specs.declared.Offers.{Offers}
+use Rattle.matching.specs.View.{offerAt, offersOf}
+use Rattle.matching.proofs.ViewLaws.{offers-mapped}
+use Rattle.borders.specs.Ways.{wayOf, directed, overIn}
+use Rattle.borders.proofs.WayLaws.{runs-directed, among-ways, among-none}
+use Rattle.withdrawal.specs.declared.Group.{Group}
+use Rattle.withdrawal.specs.Given.{runsOver, keptOf, keptAt, groupIn, inside, givenOf}
+
+above : {n : ℕ} → (n ≡ 0 → ⊥) → 0 < n
+above {n} d = ⊎-elim (λ q. absurd (d (sym q))) (λ q. q) (eq-or-lt-of-le (let m : 0 ≤ n = omega arith in m))
+
+-- an offer runs in one of the directions passed
+pub among : (over : List ℕ) (o : Offer) → o .holder .border < 5 → runsAmong (overIn over) o ≡ runsOver over (o .holder .border) (o .holder .purchase)
+unfolding runsAmong runsIn overIn runsOver
+among over o h =
+    by-bool (eqb (o .holder .border) 0)
+    (λ t. rw t (among-none over (λ w. ltb 0 (getD over w 0)) (o .holder) (eqb-true (o .holder .border) 0 t)))
+    (λ t. rw t (among-ways over (λ w. ltb 0 (getD over w 0)) (o .holder) (above (eqb-false (o .holder .border) 0 t)) h))
+
+-- energies written anew at each place are the offers with their energies changed
+pub offers-anew : (h : Offers) (e m : List ℕ) (f : ℕ → ℕ → ℕ) (g : Offer → Offer) → h .count ≤ length e
+    → ((i : ℕ) → i < h .count → withEnergies (f i (getD e i 0)) (getD m i 0) (offerAt h e m i) ≡ g (offerAt h e m i))
+    → offersOf h (layOn f (h .count) 0 e) m ≡ map g (offersOf h e m)
+unfolding withEnergies
+offers-anew h e m f g l q =
+    offers-mapped h g e m (layOn f (h .count) 0 e) m
+    (λ i k. ap (λ x. withEnergies x (getD m i 0) (offerAt h e m i)) (lay-at f (h .count) 0 i e (omega arith) (omega arith) (omega arith)) ∙ q i k)
+
+-- 1. "offers in that direction, not legacy, keep only what is matched"
+pub kept-offers : (h : Offers) (over e m : List ℕ) → h .count ≤ length e → ((i : ℕ) → i < h .count → getD (h .border) i 0 < 5)
+    → offersOf h (layOn (keptAt over (h .border) (h .purchase) (h .legacy) m) (h .count) 0 e) m ≡ map (keepMatched (overIn over)) (offersOf h e m)
+unfolding keepMatched keptAt keptOf
+kept-offers h over e m l b =
+    offers-anew h e m (keptAt over (h .border) (h .purchase) (h .legacy) m) (keepMatched (overIn over)) l (λ i k. rw (among over (offerAt h e m i) (b i k)))
+
+-- the group
+pub in-group : (g : Group) (o : Offer) → inGroup (groupIn g) o ≡ inside g (o .holder .purchase) (o .holder .legacy) (o .price)
+unfolding groupIn inGroup inside
+in-group g o = by-bool (g .legacy) (λ e. rw e) (λ e. rw e)
+
+-- Who gives way
+
+inner : (b : ℕ) (p : Bool) (w : ℕ) → wayOf b p ≡ w → 2 ≤ w → b ≡ 0 → ⊥
+unfolding wayOf
+inner b true w q h z = absurd (omega arith)
+inner b false w q h z = absurd (omega arith)
+
+border-of : (b : ℕ) (p : Bool) → wayOf b p ≡ 0 → b ≡ 0
+unfolding wayOf
+border-of b true q = omega arith
+border-of b false q = omega arith
+
+module _ (over : List ℕ) (b : ℕ) (p : Bool) where
+  -- a direction passed is not of border 0
+  runs-here : (w : ℕ) → wayOf b p ≡ w → 2 ≤ w → 0 < getD over w 0 → runsOver over b p ≡ true
+  unfolding runsOver
+  runs-here w q h k = rw (ne-eqb b 0 (inner b p w q h), q) (lt-ltb 0 (getD over w 0) k)
+
+  -- and so has a place above 0
+  way-above : runsOver over b p ≡ true → eqb (wayOf b p) 0 ≡ false
+  unfolding runsOver
+  way-above t = by-bool (eqb b 0) (λ z. not-both t (rw z)) (λ z. ne-eqb (wayOf b p) 0 (λ q. eqb-false b 0 z (border-of b p q)))
+
+pick-way : (r i : Bool) (v w : ℕ) → (eqb v w ≡ true → r ≡ true) → 0 < w → eqb (cond (r && i) v 0) w ≡ (eqb v w && i)
+pick-way true true v w f h = by-bool (eqb v w) (λ e. rw e) (λ e. rw e)
+pick-way true false v w f h = by-bool (eqb v w) (λ e. rw e (ne-eqb 0 w (λ z. absurd (omega arith)))) (λ e. rw e (ne-eqb 0 w (λ z. absurd (omega arith))))
+pick-way false i v w f h = by-bool (eqb v w) (λ e. not-both (f e) refl) (λ e. rw e (ne-eqb 0 w (λ z. absurd (omega arith))))
+
+-- in the direction passed at place w
+pub gives-at : (over : List ℕ) (g : Group) (o : Offer) (w : ℕ) → 2 ≤ w → 0 < getD over w 0
+    → givesWay (groupIn g) (directed over w) o ≡ eqb (givenOf over g (o .holder .border) (o .holder .purchase) (o .holder .legacy) (o .price)) w
+unfolding givesWay runsIn givenOf
+gives-at over g o w h k =
+    let b = o .holder .border in
+    let p = o .holder .purchase in
+    rw (runs-directed over w (o .holder), in-group g o)
+    (sym (pick-way (runsOver over b p) (inside g p (o .holder .legacy) (o .price)) (wayOf b p) w
+    (λ t. runs-here over b p w (eqb-true (wayOf b p) w t) h k) (omega arith)))
+
+any-and : (G : GroupOf) (o : Offer) (ds : List Directed) → any (λ d. givesWay G d o) ds ≡ (runsAmong ds o && inGroup G o)
+unfolding any givesWay runsAmong
+any-and G o [] = refl
+any-and G o (d ∷ ds) =
+    by-bool (runsIn d o)
+    (λ e. by-bool (inGroup G o) (λ t. rw (e, t)) (λ t. rw (e, any-and G o ds, t) (and-false (any (λ d. runsIn d o) ds))))
+    (λ e. rw e (any-and G o ds))
+  where
+    and-false : (b : Bool) → (b && false) ≡ false
+    and-false true = refl
+    and-false false = refl
+
+pick-none : (r i : Bool) (v : ℕ) → (r ≡ true → eqb v 0 ≡ false) → eqb (cond (r && i) v 0) 0 ≡ not (r && i)
+pick-none true true v f = f refl
+pick-none true false v f = refl
+pick-none false i v f = refl
+
+-- in none of them
+pub gives-none : (over : List ℕ) (g : Group) (o : Offer) → o .holder .border < 5
+    → eqb (givenOf over g (o .holder .border) (o .holder .purchase) (o .holder .legacy) (o .price)) 0 ≡ not (any (λ d. givesWay (groupIn g) d o) (overIn over))
+unfolding givenOf
+gives-none over g o h =
+    let b = o .holder .border in
+    let p = o .holder .purchase in
+    pick-none (runsOver over b p) (inside g p (o .holder .legacy) (o .price)) (wayOf b p) (way-above over b p)
+    ∙ sym (rw (any-and (groupIn g) o (overIn over), among over o h, in-group g o))
