@@ -45,7 +45,7 @@ struct Ended {
     volume: u32,
 }
 
-// "while a market balance passes its maximum": at most `bound` steps, which no hour needs all.
+// "while a market balance passes its maximum": `bound` is never what ends it (`withdraw-ends` of the rules).
 fn withdraw<'a>(
     offered: &mut [u32; 128],
     matched: &mut [u32; 128],
