@@ -1,0 +1,61 @@
+-- The ways out of a call.
+use Prim.Native.Nat.{ℕ}
+use mathlib.Core.Path.{_≡_, refl, sym, ap, _∙_}
+use mathlib.Core.Bool.{true, false, false≢true}
+use mathlib.Core.Option.{Option, some, none}
+use mathlib.Core.List.{List, [], _∷_}
+use native.Mathlib.Omega.{arith}
+use Rattle.rules.specs.Lists as L
+use Rattle.rules.specs.Lists.{All}
+use Rattle.rules.proofs.BoolLaws.{by-bool}
+use Rattle.rules.specs.Refusals.{Row, firstRow}
+use Rattle.rules.specs.Book.{Book}
+use Rattle.rules.specs.DayBook as D
+use Rattle.session.specs.Image.{image}
+use Rattle.session.specs.Steps.{said, Met, As}
+use Rattle.session.specs.Parts.{within, told, Judges, Entered, refusedWith}
+use Rattle.session.specs.declared.Session.{Session}
+use Rattle.session.specs.declared.Turn.{Turn}
+use Rattle.session.specs.declared.Answer.the-variants.{Refused}
+use Rattle.session.specs.declared.Judged.the-variants.{No, Clear}
+use Rattle.session.proofs.ImageLaws.{image-within}
+
+refused-as : (b : Book) (c : D.Call) (s : Session) (n h : ℕ) (o : Option Row) → No n h ≡ told o → s ≡ image b → As (D.turned b c o) (Refused n h) s
+unfolding said D.turned
+refused-as b c s n h none q e = let z : _≡_ {A = ℕ} 0 1 = cc in absurd (omega arith)
+refused-as b c s n h (some r) q e =
+    record { answer = let a : n ≡ r .number = cc in let d : h ≡ r .hour = cc in rw (a, d); session = e }
+
+-- refused: the judgement is the book's
+pub out-refused : (s : Session) (c : D.Call) (n h : ℕ) (r : Turn) → r ≡ refusedWith s n h → Judges s c (No n h) → Met s c r
+unfolding D.turn
+out-refused s c n h r q j =
+    rw q (record { book = λ b sound e. refused-as b c s n h (firstRow (D.rowsOf b c)) (j b e) e; kept = λ _. refl })
+
+-- not a session that calls leave
+pub out-unsound : (s : Session) (c : D.Call) (n h : ℕ) (r : Turn) → r ≡ refusedWith s n h → within s ≡ false → Met s c r
+out-unsound s c n h r q w =
+    rw q (record { book = λ b sound e. absurd (false≢true (sym w ∙ (ap within e ∙ image-within b sound))); kept = λ _. refl })
+
+clear-none : (o : Option Row) → Clear ≡ told o → o ≡ none
+clear-none none q = refl
+clear-none (some r) q = let z : _≡_ {A = ℕ} 0 1 = cc in absurd (omega arith)
+
+-- accepted
+pub out-entered : (s : Session) (c : D.Call) (r : Turn) → Judges s c Clear → Entered s c r → Met s c r
+unfolding D.turn D.turned
+out-entered s c r j n = record {
+  book = λ b sound e. let o = clear-none (firstRow (D.rowsOf b c)) (j b e) in rw o (n .book b sound o e);
+  kept = λ y. absurd (false≢true (sym (n .fine) ∙ y));
+}
+
+pub not-clear : {C : Type 0} (n h : ℕ) → No n h ≡ Clear → C
+not-clear n h q = let z : _≡_ {A = ℕ} 0 1 = cc in absurd (omega arith)
+
+-- no row is told: none applies
+pub none-applies : (rows : List Row) → firstRow rows ≡ none → All (λ r. r .applies ≡ false) rows
+unfolding firstRow
+none-applies [] h = L.none
+none-applies (r ∷ rows) h =
+    by-bool (r .applies) (λ e. let k = rw e at h in let z : _≡_ {A = ℕ} 0 1 = cc in absurd (omega arith))
+    (λ e. L.more e (none-applies rows (rw e at h)))

@@ -1,0 +1,14 @@
+use Rattle.session.specs.Parts.{keptAs}
+use borrow.Author.Needs.{needs}
+use Rattle.session.proofs.notices.kept_notice.Statement.{statement}
+use Rattle.session.proofs.notices.kept_notice.Tie as tie
+
+front-requires : tie.Need-front-requires
+front-requires c κs = search needs
+
+returns : tie.Need-returns
+unfolding keptAs
+returns c = rw (c .front .ensures)
+
+pub kept-notice-spec : {M : Type 1} → statement M
+kept-notice-spec = tie.close (tie.spec front-requires returns)

@@ -1,0 +1,4 @@
+pub mod Laid
+pub mod Image
+pub mod Steps
+pub mod Parts

@@ -1,0 +1,87 @@
+-- What the parts of a call promise to each other: of use inside this crate only.
+use Prim.Native.Nat.{ℕ, _≤_}
+use mathlib.Core.Path.{_≡_}
+use mathlib.Core.Bool.{Bool, true, false, cond, _&&_}
+use mathlib.Core.List.{List, [], _∷_}
+use mathlib.Core.Option.{Option, some, none}
+use lib.Dec.{leb, eqb}
+use lib.ListN.{take}
+use Rattle.rules.specs.Refusals.{Row, firstRow}
+use Rattle.rules.specs.Units as U
+use Rattle.rules.specs.Book.{Book}
+use Rattle.rules.specs.DayBook as D
+use Rattle.session.specs.Laid.{pad}
+use Rattle.session.specs.Image.{image, Sound, unitIn, publishedIn, noNotice}
+use Rattle.session.specs.Steps.{As, isRefusal}
+use Rattle.session.specs.declared.Unit.{Unit}
+use Rattle.session.specs.declared.Notice.{Notice}
+use Rattle.session.specs.declared.Published.{Published}
+use Rattle.session.specs.declared.Session.{Session}
+use Rattle.session.specs.declared.Answer.the-variants.{Refused}
+use Rattle.session.specs.declared.Judged.{Judged}
+use Rattle.session.specs.declared.Judged.the-variants.{No, Clear}
+use Rattle.session.specs.declared.Turn.{Turn}
+
+-- Guard, judgement, entry
+
+abbrev pub refusedWith : Session → ℕ → ℕ → Turn
+refusedWith s n h = record { session = s; answer = Refused n h }
+
+abbrev pub told : Option Row → Judged
+told none = Clear
+told (some r) = No (r .number) (r .hour)
+
+-- a judgement is the first row of the table that applies
+abbrev pub Judges : Session → D.Call → Judged → Type 0
+Judges s c j = (b : Book) → s ≡ image b → j ≡ told (firstRow (D.rowsOf b c))
+
+-- what a call that no row refuses makes of a session
+pub record Entered (s : Session) (c : D.Call) (r : Turn) : Type 0 where
+  pub book : (b : Book) → Sound b → firstRow (D.rowsOf b c) ≡ none → s ≡ image b → As (record { book = D.applied b c; answer = D.reply b c }) (r .answer) (r .session)
+  pub fine : isRefusal (r .answer) ≡ false
+
+-- The guard: counts that fit their arrays
+
+pub record Within (s : Session) : Type 0 where
+  pub hours : s .hours ≤ 25
+  pub enrolled : s .enrolled ≤ 64
+  pub standing : s .standing ≤ 128
+  pub last : s .last ≤ 65535
+
+abbrev pub within : Session → Bool
+within s = leb (s .hours) 25 && (leb (s .enrolled) 64 && (leb (s .standing) 128 && leb (s .last) 65535))
+
+-- What the code makes of a notice
+
+-- energies that are kept: those of the count, 0 behind
+unfoldable pub keptAs : ℕ → List ℕ → Notice
+keptAs count es = record { given = true; energies = pad 25 0 (take count es) }
+
+unfoldable pub directionAs : Published → Notice
+directionAs p = cond (p .published) (keptAs (p .count) (p .energies)) noNotice
+
+-- the notices of units, x in the place of each unit with number n
+unfoldable pub noted : ℕ → Notice → List Unit → List Notice → List Notice
+noted n x [] ns = ns
+noted n x (u ∷ us) [] = []
+noted n x (u ∷ us) (m ∷ ns) = cond (eqb (u .number) n) x m ∷ noted n x us ns
+
+-- Searches among units
+
+abbrev pub numberIs : ℕ → Unit → Bool
+numberIs n u = eqb (u .number) n
+
+abbrev pub besideUnit : Unit → Unit → Bool
+besideUnit u v = U.sameBorderSide (unitIn u) (unitIn v)
+
+-- Searches among directions
+
+abbrev pub offHours : ℕ → Published → Bool
+offHours H p = U.notOfHours H (publishedIn p)
+
+abbrev pub offRange : Published → Bool
+offRange p = U.badPublished (publishedIn p)
+
+-- an element that is read beyond an array
+abbrev pub barePublished : Published
+barePublished = record { published = false; count = 0; energies = [] }

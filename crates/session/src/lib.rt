@@ -1,0 +1,246 @@
+// The session by value: the day book laid into arrays, and the calls on it.
+ghost use mathlib.Core.Path.{_≡_};
+ghost use Rattle.rules.specs.Book.{fresh};
+ghost use Rattle.calendar.specs.View.{dateIn};
+ghost use Rattle.session.specs.Image.{image, noUnit, noNotice, noLodgement, noEnergies};
+ghost use Rattle.session.specs.Steps.{Opens};
+ghost use Rattle.session.specs.Parts.{within, refusedWith};
+use calendar::Date;
+
+mod capacities;
+mod notices;
+mod units;
+
+// Number and agent are 1 to 65,535; border is 0 domestic, 1 France, 2 Andorra, 3 Portugal, 4 Morocco.
+pub struct Unit {
+    pub number: u32,
+    pub agent: u32,
+    pub border: u32,
+    pub purchase: bool,
+    pub maximum: u32,
+    pub legacy: bool,
+}
+
+// A notice that the session keeps: energies by hour, 0 behind the last hour.
+pub struct Notice {
+    pub given: bool,
+    pub energies: [u32; 25],
+}
+
+// A direction of a capacity notice: absent, or `count` energies.
+pub struct Published {
+    pub published: bool,
+    pub count: usize,
+    pub energies: [u32; 25],
+}
+
+pub struct Key {
+    pub execution: bool,
+    pub default: bool,
+    pub unit: u32,
+    pub contract: u32,
+}
+
+pub struct Lodgement {
+    pub key: Key,
+    pub number: u32,
+}
+
+// Energies and prices of a lodgement by hour.
+pub struct Energies {
+    pub energies: [u32; 25],
+    pub prices: [u32; 25],
+}
+
+// `enrolled` units stand in front of their array, and `standing` lodgements of theirs, in the order of their numbers.
+// `capacities` are export and import of border 1, of 2, of 3, of 4.
+pub struct Session {
+    pub date: Date,
+    pub hours: u32,
+    pub enrolled: usize,
+    pub units: [Unit; 64],
+    pub notices: [Notice; 64],
+    pub capacities: [Notice; 8],
+    pub standing: usize,
+    pub lodgements: [Lodgement; 128],
+    pub energies: [Energies; 128],
+    pub last: u32,
+    pub closed: bool,
+    pub cleared: bool,
+}
+
+// What the gate says: a refusal has the table's number and an hour, 0 where the table gives none.
+pub enum Answer {
+    Refused(u32, u32),
+    Done,
+    Numbered(u32),
+    Steps(u32),
+}
+
+// The first row of the refusal table that applies to a call, or none.
+enum Judged {
+    No(u32, u32),
+    Clear,
+}
+
+pub struct Turn {
+    pub session: Session,
+    pub answer: Answer,
+}
+
+pub struct Opened {
+    pub answer: Answer,
+    pub session: Session,
+}
+
+// The refusal table's numbers.
+const DATE: u32 = 1;
+
+const GATE: u32 = 2;
+
+const HOUR: u32 = 4;
+
+const RANGE: u32 = 5;
+
+const NO_UNIT: u32 = 6;
+
+const TAKEN: u32 = 7;
+
+const SECOND: u32 = 8;
+
+const FULL: u32 = 9;
+
+// What stands in an empty place.
+fn no_unit() -> Unit
+    ensures { λ r. ⌜ r ≡ noUnit ⌝ }
+{
+    Unit {
+        number: 0,
+        agent: 0,
+        border: 0,
+        purchase: false,
+        maximum: 0,
+        legacy: false,
+    }
+}
+
+fn no_notice() -> Notice
+    ensures { λ r. ⌜ r ≡ noNotice ⌝ }
+{
+    Notice {
+        given: false,
+        energies: [0u32; 25],
+    }
+}
+
+fn no_lodgement() -> Lodgement
+    ensures { λ r. ⌜ r ≡ noLodgement ⌝ }
+{
+    let key = Key {
+        execution: false,
+        default: false,
+        unit: 0,
+        contract: 0,
+    };
+    Lodgement {
+        key: key,
+        number: 0,
+    }
+}
+
+fn no_energies() -> Energies
+    ensures { λ r. ⌜ r ≡ noEnergies ⌝ }
+{
+    Energies {
+        energies: [0u32; 25],
+        prices: [0u32; 25],
+    }
+}
+
+impl Session {
+    pub const MAX_UNITS: usize = 64;
+
+    pub const MAX_LODGEMENTS: usize = 128;
+
+    pub const MAX_ENERGY: u32 = 99_999;
+
+    pub const MAX_NUMBER: u32 = 65_535;
+
+    // "A fresh session follows from the date only: no units, no notices, no lodgements."
+    pub fn fresh(date: Date) -> Session
+        ensures { λ r. ⌜ r ≡ image (fresh (dateIn date)) ⌝ }
+    {
+        let unit = no_unit();
+        let notice = no_notice();
+        let lodgement = no_lodgement();
+        let none = no_energies();
+        let units = [unit; 64];
+        let notices = [notice; 64];
+        let capacities = [notice; 8];
+        let lodgements = [lodgement; 128];
+        let energies = [none; 128];
+        let hours = calendar::hours_of(date);
+        Session {
+            date: date,
+            hours: hours,
+            enrolled: 0,
+            units: units,
+            notices: notices,
+            capacities: capacities,
+            standing: 0,
+            lodgements: lodgements,
+            energies: energies,
+            last: 0,
+            closed: false,
+            cleared: false,
+        }
+    }
+
+    // The guard: counts that fit their arrays.
+    fn sound(self) -> bool
+        ensures { λ r. ⌜ r ≡ within self ⌝ }
+    {
+        if 25 < self.hours {
+            return false;
+        }
+        if Self::MAX_UNITS < self.enrolled {
+            return false;
+        }
+        if Self::MAX_LODGEMENTS < self.standing {
+            return false;
+        }
+        self.last <= Self::MAX_NUMBER
+    }
+
+    // A refused call hands the session back.
+    fn refused(self, number: u32, hour: u32) -> Turn
+        ensures { λ r. ⌜ r ≡ refusedWith self number hour ⌝ }
+    {
+        let session = self;
+        Turn {
+            session: session,
+            answer: Answer::Refused(number, hour),
+        }
+    }
+}
+
+// "Beside a refused date stands the fresh session of 2002-01-01."
+pub fn open(date: Date) -> Opened
+    ensures { λ r. ⌜ Opens (dateIn date) r ⌝ }
+{
+    if !calendar::is_date(date) {
+        let first = Date {
+            year: 2002,
+            month: 1,
+            day: 1,
+        };
+        return Opened {
+            answer: Answer::Refused(DATE, 0),
+            session: Session::fresh(first),
+        };
+    }
+    Opened {
+        answer: Answer::Done,
+        session: Session::fresh(date),
+    }
+}
