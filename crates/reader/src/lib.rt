@@ -50,7 +50,7 @@ fn field_at(s: &[u8], at: usize, width: usize) -> u32
 }
 
 // 3: wrong length, form, kind or filling.
-fn bad_form(s: &[u8]) -> bool
+pub fn bad_form(s: &[u8]) -> bool
     ensures { λ r. ⌜ r ≡ badForm energyWidth (now (s .entry)) ⌝ }
 {
     if s.len() < 8 {
@@ -106,7 +106,7 @@ fn slots_of(s: &[u8], execution: bool, map: u32) -> Slots
 }
 
 // What a message says, after its form was found right.
-fn fields_of(s: &[u8]) -> Fields
+pub fn fields_of(s: &[u8]) -> Fields
     requires { ⌜ badForm energyWidth (now s) ≡ false ⌝ }
     ensures { λ r. ⌜ fieldsIn r ≡ decode energyWidth (now (s .entry)) ⌝ }
 {

@@ -356,7 +356,7 @@ unfolding fresh
 opening-open d = rw (opening-fresh d .2)
 
 -- and one with 8 directions, all absent
-opening-directions : (d : Date) → length (opening d .book .capacities) ≡ 8
+pub opening-directions : (d : Date) → length (opening d .book .capacities) ≡ 8
 unfolding fresh
 opening-directions d = rw (opening-fresh d .2)
 
@@ -377,15 +377,20 @@ applied-directions b (annul k) w h = h
 applied-directions b close w h = h
 applied-directions b clear w h = h
 
--- so do all calls
-calls-directions : (b : Book) {cs : List Call} → All WellTyped cs → length (b .capacities) ≡ 8 → length (after b cs .capacities) ≡ 8
-unfolding after turn turned
-calls-directions b none h = h
-calls-directions b (more {x = c} w t) h = calls-directions (turn b c .book) t (go (firstRow (rowsOf b c)))
+-- so does any call
+pub turn-directions : (b : Book) (c : Call) → WellTyped c → length (b .capacities) ≡ 8 → length (turn b c .book .capacities) ≡ 8
+unfolding turn turned
+turn-directions b c w h = go (firstRow (rowsOf b c))
   where
     go : (o : Option Row) → length (turned b c o .book .capacities) ≡ 8
     go nothing = applied-directions b c w h
     go (some r) = h
+
+-- so do all calls
+calls-directions : (b : Book) {cs : List Call} → All WellTyped cs → length (b .capacities) ≡ 8 → length (after b cs .capacities) ≡ 8
+unfolding after
+calls-directions b none h = h
+calls-directions b (more {x = c} w t) h = calls-directions (turn b c .book) t (turn-directions b c w h)
 
 -- where each capacity notice has its 8 directions, so has the book's
 pub directions-after : (d : Date) {cs : List Call} → All WellTyped cs → length (after (opening d .book) cs .capacities) ≡ 8

@@ -14,9 +14,10 @@ use Rattle.rules.specs.Book as B
 use Rattle.rules.specs.DayBook as D
 use Rattle.rules.proofs.BoolLaws.{neither}
 use Rattle.rules.proofs.ListLaws.{all-head, all-tail}
+use Rattle.rules.proofs.RefusalLaws.{accepted-rows}
 use Rattle.rules.proofs.HoursLaws.{hours-most}
 use Rattle.session.specs.Laid.{counted}
-use Rattle.session.specs.Image.{image, publishedIn, capacitiesIn, noticeAs, noNotice}
+use Rattle.session.specs.Image.{image, verdictsIn, hoursIn, publishedIn, capacitiesIn, noticeAs, noNotice}
 use Rattle.session.specs.Steps.{said, isRefusal}
 use Rattle.session.specs.Parts.{keptAs, directionAs, offHours, offRange, Judges, Entered}
 use Rattle.session.specs.declared.Session.{Session}
@@ -26,7 +27,8 @@ use Rattle.session.specs.declared.Judged.the-variants.{No, Clear}
 use Rattle.session.specs.declared.Answer.the-variants.{Done}
 use Rattle.session.proofs.LaidLaws.{length-counted, any-map}
 use Rattle.session.proofs.ImageLaws.{closed-as, hours-as, withRegistry}
-use Rattle.session.proofs.StepLaws.{none-applies}
+use Rattle.session.proofs.StepLaws.{open-row}
+use Rattle.session.proofs.SoundLaws.{open-stage}
 use Rattle.session.proofs.NoticeLaws.{kept-as}
 
 -- Judging
@@ -78,23 +80,24 @@ module _ (H : ℕ) (most : H ≤ 25) where
       let k = neither _ _ h in
       ap₂ (λ (y : Notice) (l : List Notice). y ∷ l) (kept-direction (p .published) (p .count) (p .energies) (k .0)) (directions-as ps (k .1))
 
-capacity-image : (b : B.Book) (cs : U.Capacities) → withCapacities (image b) (map noticeAs cs) ≡ image (D.applied b (D.capacity cs))
-unfolding image D.applied D.withCapacities B.hours
-capacity-image b cs = refl
+capacity-image : (b : B.Book) (cs : U.Capacities) → b .closed ≡ false → b .cleared ≡ false → withCapacities (image b) (map noticeAs cs) ≡ image (D.applied b (D.capacity cs))
+unfolding image verdictsIn hoursIn D.applied D.withCapacities B.hours
+capacity-image b cs k c = rw (k, c)
 
 of-hours : (b : B.Book) (cs : U.Capacities) → firstRow (D.rowsOf b (D.capacity cs)) ≡ none → any (U.notOfHours (B.hours b)) cs ≡ false
 unfolding D.rowsOf row
-of-hours b cs o = all-head (all-tail (none-applies _ o))
+of-hours b cs o = all-head (all-tail (accepted-rows _ o))
 
 hours-fit : (b : B.Book) → B.hours b ≤ 25
 unfolding B.hours
 hours-fit b = hours-most (b .date)
 
 pub capacity-entered : (s : Session) (ps : List Published) (ns : List Notice) → ns ≡ map directionAs ps → Entered s (D.capacity (capacitiesIn ps)) (record { session = withCapacities s ns; answer = Done })
-unfolding said isRefusal D.reply
+unfolding said isRefusal D.reply D.rowsOf
 capacity-entered s ps ns q = record {
   book = λ b sound o e.
       let k = q ∙ directions-as (B.hours b) (hours-fit b) ps (of-hours b (capacitiesIn ps) o) in
-      record { answer = refl; session = rw (k, e) (capacity-image b (capacitiesIn ps)) };
+      let early = open-row b _ o in
+      record { answer = refl; session = rw (k, e) (capacity-image b (capacitiesIn ps) early (open-stage b sound early)) };
   fine = refl;
 }

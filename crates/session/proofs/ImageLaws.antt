@@ -1,10 +1,12 @@
 -- What the image of a book shows of it, and the guard.
-use Prim.Native.Nat.{ℕ}
-use mathlib.Core.Path.{_≡_, refl, sym}
+use Prim.Native.Nat.{ℕ, _<_}
+use mathlib.Core.Path.{_≡_, refl, sym, ap, _∙_}
+use native.Mathlib.Omega.{arith}
 use mathlib.Core.Bool.{true}
 use mathlib.Core.List.{List, map}
 use lib.Dec.{leb}
-use lib.ListN.{length, take, length-map}
+use lib.ListN.{length, take, getD, length-map}
+use lib.Seq.{getD-take}
 use borrow.Author.Tests.{le-leb, leb-true}
 use Rattle.rules.specs.Lists.{any}
 use Rattle.rules.specs.Units as U
@@ -12,12 +14,15 @@ use Rattle.rules.specs.Book as B
 use Rattle.rules.specs.DayBook as D
 use Rattle.rules.proofs.BoolLaws.{both}
 use Rattle.rules.proofs.HoursLaws.{hours-most}
-use Rattle.session.specs.Image.{image, unitIn, unitOf, noUnit, Sound}
-use Rattle.session.specs.Parts.{Within, within, numberIs, besideUnit}
+use Rattle.session.specs.Image.{image, unitIn, unitOf, noticeOf, noticeAs, lodgementAs, energiesAs, noUnit, noNotice, noLodgement, noEnergies, Sound}
+use Rattle.session.specs.Parts.{Within, within, numberIs, placeOf, besideUnit}
 use Rattle.session.specs.declared.Session.{Session}
 use Rattle.session.specs.declared.Unit.{Unit}
 use Rattle.session.specs.declared.Notice.{Notice}
+use Rattle.session.specs.declared.Lodgement.{Lodgement}
+use Rattle.session.specs.declared.Energies.{Energies}
 use Rattle.session.proofs.LaidLaws.{take-pad, any-map}
+use Rattle.session.proofs.PlaceLaws.{place-first, place-map, getD-map}
 
 -- The guard
 
@@ -33,9 +38,9 @@ unfolding image B.hours
 image-within b s =
     rw (
       le-leb (B.hours b) 25 (hours-most (b .date)),
-      le-leb (length (b .units)) 64 (s .units),
-      le-leb (length (b .standing)) 128 (s .standing),
-      le-leb (b .last) 65535 (s .last),
+      le-leb (length (b .units)) 64 (s .ranges .units .room),
+      le-leb (length (b .standing)) 128 (s .ranges .standing .room),
+      le-leb (b .last) 65535 (s .ranges .standing .counted),
     )
 
 -- What a session that is an image shows
@@ -66,6 +71,79 @@ module _ (s : Session) (b : B.Book) (e : s ≡ image b) where
   unfolding D.isSecond
   second-as u = rw units-as (sym (any-map unitOf (besideUnit u) (b .units)))
 
+  pub cleared-as : b .cleared ≡ s .cleared
+  unfolding image
+  cleared-as = rw e refl
+
+  pub last-as : b .last ≡ s .last
+  unfolding image
+  last-as = rw e refl
+
+  pub capacities-as : s .capacities ≡ map noticeAs (b .capacities)
+  unfolding image
+  capacities-as = rw e refl
+
+  pub notices-as : take (s .enrolled) (s .notices) ≡ map noticeOf (b .units)
+  unfolding image
+  notices-as = rw e (take-pad 64 noNotice (map noticeOf (b .units)) (length (b .units)) (sym (length-map (b .units) noticeOf)))
+
+  pub standing-as : length (b .standing) ≡ s .standing
+  unfolding image
+  standing-as = rw e refl
+
+  pub lodgements-as : take (s .standing) (s .lodgements) ≡ map lodgementAs (b .standing)
+  unfolding image
+  lodgements-as = rw e (take-pad 128 noLodgement (map lodgementAs (b .standing)) (length (b .standing)) (sym (length-map (b .standing) lodgementAs)))
+
+  pub energies-as : take (s .standing) (s .energies) ≡ map energiesAs (b .standing)
+  unfolding image
+  energies-as = rw e (take-pad 128 noEnergies (map energiesAs (b .standing)) (length (b .standing)) (sym (length-map (b .standing) energiesAs)))
+
+  -- where the unit with a number stands, and what stands there
+
+  pub place-as : (n : ℕ) → placeOf (U.hasNumber n) (b .units) ≡ placeOf (numberIs n) (take (s .enrolled) (s .units))
+  unfolding U.hasNumber
+  place-as n = rw units-as (sym (place-map unitOf (numberIs n) (b .units)))
+
+  module _ (n p : ℕ) (at : p ≡ placeOf (numberIs n) (take (s .enrolled) (s .units))) (in-list : p < s .enrolled) where
+    here : U.unitOf (b .units) n ≡ getD (b .units) p U.nobody
+    unfolding U.unitOf
+    here = place-first (U.hasNumber n) U.nobody (b .units) ∙ ap (λ k. getD (b .units) k U.nobody) (place-as n ∙ sym at)
+
+    within-list : p < length (b .units)
+    within-list = omega (arith, enrolled-as)
+
+    pub unit-as : (d : Unit) → getD (s .units) p d ≡ unitOf (U.unitOf (b .units) n)
+    unit-as d =
+        sym (getD-take (s .enrolled) (s .units) p d in-list)
+        ∙ (ap (λ (l : List Unit). getD l p d) units-as
+        ∙ (getD-map unitOf U.nobody d (b .units) p within-list ∙ ap unitOf (sym here)))
+
+    pub notice-as : (d : Notice) → getD (s .notices) p d ≡ noticeOf (U.unitOf (b .units) n)
+    notice-as d =
+        sym (getD-take (s .enrolled) (s .notices) p d in-list)
+        ∙ (ap (λ (l : List Notice). getD l p d) notices-as
+        ∙ (getD-map noticeOf U.nobody d (b .units) p within-list ∙ ap noticeOf (sym here)))
+
+-- a session with other lodgements
+abbrev pub withLodgements : Session → ℕ → List Lodgement → List Energies → ℕ → Session
+withLodgements s n ls es last = record {
+  date = s .date;
+  hours = s .hours;
+  enrolled = s .enrolled;
+  units = s .units;
+  notices = s .notices;
+  capacities = s .capacities;
+  standing = n;
+  lodgements = ls;
+  energies = es;
+  last = last;
+  closed = s .closed;
+  cleared = s .cleared;
+  verdicts = s .verdicts;
+  figures = s .figures;
+}
+
 -- a session with other units and notices
 abbrev pub withRegistry : Session → ℕ → List Unit → List Notice → List Notice → Session
 withRegistry s n us ns cs = record {
@@ -81,4 +159,6 @@ withRegistry s n us ns cs = record {
   last = s .last;
   closed = s .closed;
   cleared = s .cleared;
+  verdicts = s .verdicts;
+  figures = s .figures;
 }

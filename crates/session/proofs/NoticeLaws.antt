@@ -15,9 +15,10 @@ use Rattle.rules.specs.Units as U
 use Rattle.rules.specs.Book as B
 use Rattle.rules.specs.DayBook as D
 use Rattle.rules.proofs.ListLaws.{all-head, all-tail}
+use Rattle.rules.proofs.RefusalLaws.{accepted-rows}
 use Rattle.rules.proofs.HoursLaws.{hours-most}
 use Rattle.session.specs.Laid.{pad, counted}
-use Rattle.session.specs.Image.{image, unitOf, noticeOf, noticeAs, noNotice}
+use Rattle.session.specs.Image.{image, verdictsIn, hoursIn, unitOf, noticeOf, noticeAs, noNotice}
 use Rattle.session.specs.Steps.{said, isRefusal}
 use Rattle.session.specs.Parts.{numberIs, keptAs, noted, Judges, Entered}
 use Rattle.session.specs.declared.Session.{Session}
@@ -27,7 +28,8 @@ use Rattle.session.specs.declared.Judged.the-variants.{No, Clear}
 use Rattle.session.specs.declared.Answer.the-variants.{Done}
 use Rattle.session.proofs.LaidLaws.{length-counted, any-counted, pad-counted}
 use Rattle.session.proofs.ImageLaws.{closed-as, hours-as, units-as, registered-as, withRegistry}
-use Rattle.session.proofs.StepLaws.{none-applies}
+use Rattle.session.proofs.StepLaws.{open-row}
+use Rattle.session.proofs.SoundLaws.{open-stage}
 
 -- the energies that a count and an array stand for
 
@@ -141,23 +143,24 @@ module _ (n : ℕ) (es : List ℕ) where
       rw (length-map (map (D.notify n es) rs) noticeOf, length-map rs (D.notify n es), length-map rs noticeOf) (over rs _)
 
   -- a notice in the book is a notice in its image
-  available-image : (b : B.Book) → withNotices (image b) (noted n (noticeAs (some es)) (map unitOf (b .units)) (image b .notices)) ≡ image (D.applied b (D.available n es))
-  unfolding image D.applied D.withUnits B.hours
-  available-image b = rw (same-units (b .units), noted-pad (b .units), length-map (b .units) (D.notify n es))
+  available-image : (b : B.Book) → b .closed ≡ false → b .cleared ≡ false → withNotices (image b) (noted n (noticeAs (some es)) (map unitOf (b .units)) (image b .notices)) ≡ image (D.applied b (D.available n es))
+  unfolding image verdictsIn hoursIn D.applied D.withUnits B.hours
+  available-image b k c = rw (same-units (b .units), noted-pad (b .units), length-map (b .units) (D.notify n es), k, c)
 
 -- a count that no row refuses is the day's
 pub count-of-hours : (b : B.Book) (n count : ℕ) (es : List ℕ) → firstRow (D.rowsOf b (D.available n (counted count es))) ≡ none → count ≤ 25
 unfolding D.rowsOf row B.hours
 count-of-hours b n count es o =
-    let k = not-false (eqb (length (counted count es)) (B.hours b)) (all-head (all-tail (none-applies _ o))) in
+    let k = not-false (eqb (length (counted count es)) (B.hours b)) (all-head (all-tail (accepted-rows _ o))) in
     omega (arith, eqb-true (length (counted count es)) (B.hours b) k, length-counted count es, hours-most (b .date))
 
 pub available-entered : (s : Session) (n count : ℕ) (es : List ℕ) (x : Notice) (ns : List Notice) → x ≡ keptAs count es → ns ≡ noted n x (take (s .enrolled) (s .units)) (s .notices)
     → Entered s (D.available n (counted count es)) (record { session = withNotices s ns; answer = Done })
-unfolding said isRefusal D.reply
+unfolding said isRefusal D.reply D.rowsOf
 available-entered s n count es x ns q p = record {
   book = λ b sound o e.
       let k = q ∙ kept-as count es (count-of-hours b n count es o) in
-      record { answer = refl; session = rw (p, k, units-as s b e, e) (available-image n (counted count es) b) };
+      let early = open-row b _ o in
+      record { answer = refl; session = rw (p, k, units-as s b e, e) (available-image n (counted count es) b early (open-stage b sound early)) };
   fine = refl;
 }

@@ -12,7 +12,7 @@ use Rattle.rules.specs.Refusals.{row, firstRow}
 use Rattle.rules.specs.Units as U
 use Rattle.rules.specs.Book as B
 use Rattle.rules.specs.DayBook as D
-use Rattle.session.specs.Image.{image, unitIn, unitOf, noticeOf, noticeAs, noUnit, noNotice}
+use Rattle.session.specs.Image.{image, verdictsIn, hoursIn, unitIn, unitOf, noticeOf, noticeAs, noUnit, noNotice}
 use Rattle.session.specs.Steps.{said, isRefusal}
 use Rattle.session.specs.Parts.{numberIs, besideUnit, Judges, Entered}
 use Rattle.session.specs.declared.Session.{Session}
@@ -20,6 +20,8 @@ use Rattle.session.specs.declared.Unit.{Unit}
 use Rattle.session.specs.declared.Judged.the-variants.{No, Clear}
 use Rattle.session.specs.declared.Answer.the-variants.{Done}
 use Rattle.session.proofs.LaidLaws.{map-last, length-last, set-pad, pad-empty}
+use Rattle.session.proofs.StepLaws.{open-row}
+use Rattle.session.proofs.SoundLaws.{open-stage}
 use Rattle.session.proofs.ImageLaws.{closed-as, enrolled-as, registered-as, second-as, withRegistry}
 
 module _ (s : Session) (u : Unit) where
@@ -65,9 +67,9 @@ module _ (s : Session) (u : Unit) where
   withUnit = withRegistry s (s .enrolled + 1) (set (s .units) (s .enrolled) u) (s .notices) (s .capacities)
 
 -- one unit more in the book is one more in its image
-enrolled-image : (b : B.Book) (u : Unit) → length (b .units) < 64 → withUnit (image b) u ≡ image (D.applied b (D.register (unitIn u)))
-unfolding image D.applied D.withUnits B.hours noticeAs
-enrolled-image b u h =
+enrolled-image : (b : B.Book) (u : Unit) → length (b .units) < 64 → b .closed ≡ false → b .cleared ≡ false → withUnit (image b) u ≡ image (D.applied b (D.register (unitIn u)))
+unfolding image verdictsIn hoursIn D.applied D.withUnits B.hours noticeAs
+enrolled-image b u h k c =
     let us = b .units in
     let r : U.Registered = record { unit = unitIn u; available = none } in
     let m = length-map us unitOf in
@@ -78,13 +80,16 @@ enrolled-image b u h =
       map-last noticeOf us r,
       ← (pad-empty 64 noNotice (map noticeOf us) (omega arith)),
       set-pad 64 noUnit (map unitOf us) (length us) (unitOf r) (omega arith) (omega arith),
+      k,
+      c,
     )
 
 pub unit-entered : (s : Session) (u : Unit) → s .enrolled < 64 → Entered s (D.register (unitIn u)) (record { session = withUnit s u; answer = Done })
-unfolding said isRefusal D.reply
+unfolding said isRefusal D.reply D.rowsOf
 unit-entered s u h = record {
   book = λ b sound o e.
       let n = enrolled-as s b e in
-      record { answer = refl; session = rw e (enrolled-image b u (omega arith)) };
+      let k = open-row b _ o in
+      record { answer = refl; session = rw e (enrolled-image b u (omega arith) k (open-stage b sound k)) };
   fine = refl;
 }

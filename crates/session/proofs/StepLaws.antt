@@ -3,12 +3,11 @@ use Prim.Native.Nat.{ℕ}
 use mathlib.Core.Path.{_≡_, refl, sym, ap, _∙_}
 use mathlib.Core.Bool.{true, false, false≢true}
 use mathlib.Core.Option.{Option, some, none}
-use mathlib.Core.List.{List, [], _∷_}
+use mathlib.Core.List.{List, _∷_}
 use native.Mathlib.Omega.{arith}
-use Rattle.rules.specs.Lists as L
-use Rattle.rules.specs.Lists.{All}
-use Rattle.rules.proofs.BoolLaws.{by-bool}
-use Rattle.rules.specs.Refusals.{Row, firstRow}
+use Rattle.rules.proofs.RefusalLaws.{accepted-rows}
+use Rattle.rules.proofs.ListLaws.{all-head}
+use Rattle.rules.specs.Refusals.{Row, row, firstRow}
 use Rattle.rules.specs.Book.{Book}
 use Rattle.rules.specs.DayBook as D
 use Rattle.session.specs.Image.{image}
@@ -52,10 +51,7 @@ out-entered s c r j n = record {
 pub not-clear : {C : Type 0} (n h : ℕ) → No n h ≡ Clear → C
 not-clear n h q = let z : _≡_ {A = ℕ} 0 1 = cc in absurd (omega arith)
 
--- no row is told: none applies
-pub none-applies : (rows : List Row) → firstRow rows ≡ none → All (λ r. r .applies ≡ false) rows
-unfolding firstRow
-none-applies [] h = L.none
-none-applies (r ∷ rows) h =
-    by-bool (r .applies) (λ e. let k = rw e at h in let z : _≡_ {A = ℕ} 0 1 = cc in absurd (omega arith))
-    (λ e. L.more e (none-applies rows (rw e at h)))
+-- a change that no row refuses is before closing
+pub open-row : (b : Book) (rows : List Row) → firstRow (D.changeRow b ∷ rows) ≡ none → b .closed ≡ false
+unfolding D.changeRow row
+open-row b rows h = all-head (accepted-rows (D.changeRow b ∷ rows) h)

@@ -1,13 +1,21 @@
 -- The session that stands for a book: its lists laid into arrays, blanks behind.
-use Prim.Native.Nat.{ℕ, _≤_}
-use mathlib.Core.Bool.{true, false, cond}
-use mathlib.Core.List.{List, map}
+use Prim.Native.Nat.{ℕ, _/_, _%_}
+use mathlib.Core.Path.{_≡_}
+use mathlib.Core.Bool.{Bool, true, false, cond, _&&_, Bool·beq}
+use mathlib.Core.List.{List, [], _∷_, map}
 use mathlib.Core.Option.{Option, some, none}
+use lib.Dec.{eqb}
 use lib.ListN.{length, replicate}
+use Rattle.rules.specs.Lists.{from}
 use Rattle.rules.specs.Hours as H
 use Rattle.rules.specs.Units as U
 use Rattle.rules.specs.Lodging as L
 use Rattle.rules.specs.Book as B
+use Rattle.rules.specs.Closing as C
+use Rattle.rules.specs.Borders.{Directed, flow}
+use Rattle.rules.specs.Clearing.{figuresAt}
+use Rattle.rules.specs.Queries.{matchedAt, executedAt}
+use Rattle.rules.specs.Sound as R
 use Rattle.calendar.specs.declared.Date.{Date}
 use Rattle.session.specs.Laid.{pad, counted}
 use Rattle.session.specs.declared.Unit.{Unit}
@@ -16,6 +24,8 @@ use Rattle.session.specs.declared.Published.{Published}
 use Rattle.session.specs.declared.Key.{Key}
 use Rattle.session.specs.declared.Lodgement.{Lodgement}
 use Rattle.session.specs.declared.Energies.{Energies}
+use Rattle.session.specs.declared.Verdict.{Verdict}
+use Rattle.session.specs.declared.Cleared.{Cleared}
 use Rattle.session.specs.declared.Session.{Session}
 
 -- What a caller's struct says
@@ -30,6 +40,9 @@ publishedIn p = cond (p .published) (some (counted (p .count) (p .energies))) no
 -- the directions in the order of the rules' `Capacities`
 abbrev pub capacitiesIn : List Published → U.Capacities
 capacitiesIn ps = map publishedIn ps
+
+abbrev pub keyIn : Key → L.Key
+keyIn k = record { execution = k .execution; default = k .default; unit = k .unit; contract = k .contract }
 
 -- How the book's things are laid out
 
@@ -59,6 +72,37 @@ lodgementAs l = record { key = keyAs (l .key); number = l .number }
 abbrev pub energiesAs : L.Lodgement → Energies
 energiesAs l = record { energies = l .energies; prices = l .prices }
 
+unfoldable pub verdictAs : C.Verdict → Verdict
+verdictAs C.accepted = record { accepted = true; limit = 0; hour = 0 }
+verdictAs C.hidden = record { accepted = false; limit = 0; hour = 0 }
+verdictAs (C.limit n h) = record { accepted = false; limit = n; hour = h }
+
+-- energies of the ten directions, export and import of border 0, of 1, .. of 4
+unfoldable pub byWay : (ℕ → Bool → ℕ) → List ℕ
+byWay f = map (λ w. f (w / 2) (eqb (w % 2) 0)) (from 0 10)
+
+-- the energy of a direction among those of the published ones, 0 where it is not
+unfoldable pub energyOf : List Directed → ℕ → Bool → ℕ
+energyOf [] border export = 0
+energyOf (d ∷ ds) border export = cond (eqb (d .border) border && Bool·beq (d .export) export) (d .energy) (energyOf ds border export)
+
+-- an energy of each unit, in its place
+unfoldable pub byUnit : (ℕ → ℕ) → List U.Registered → List ℕ
+byUnit f us = pad 64 0 (map (λ r. f (r .unit .number)) us)
+
+-- an hour's figures
+unfoldable pub figuresAs : B.Book → ℕ → Cleared
+figuresAs b h =
+    let x = figuresAt b h in
+    record {
+      price = x .price;
+      market = byWay (λ border export. flow (λ o. o .holder) (λ o. o .matched) border export (x .offers));
+      bilateral = byWay (λ border export. flow (λ x. x .holder) (λ x. x .energy) border export (x .executions));
+      maxima = byWay (energyOf (x .maxima));
+      matched = byUnit (λ u. matchedAt b u h) (b .units);
+      executed = byUnit (λ u. executedAt b u h) (b .units);
+    }
+
 -- blanks
 
 abbrev pub noUnit : Unit
@@ -73,7 +117,27 @@ noLodgement = record { key = record { execution = false; default = false; unit =
 abbrev pub noEnergies : Energies
 noEnergies = record { energies = replicate 25 0; prices = replicate 25 0 }
 
+abbrev pub noVerdict : Verdict
+noVerdict = record { accepted = false; limit = 0; hour = 0 }
+
+abbrev pub noFigures : Cleared
+noFigures = record {
+  price = 0;
+  market = replicate 10 0;
+  bilateral = replicate 10 0;
+  maxima = replicate 10 0;
+  matched = replicate 64 0;
+  executed = replicate 64 0;
+}
+
 -- The image
+
+-- verdicts once closed, and the hours with figures once cleared
+unfoldable pub verdictsIn : B.Book → List C.Verdict
+verdictsIn b = cond (b .closed) (C.verdicts b) []
+
+unfoldable pub hoursIn : B.Book → List ℕ
+hoursIn b = cond (b .cleared) (from 1 (B.hours b)) []
 
 unfoldable pub image : B.Book → Session
 image b = record {
@@ -89,10 +153,11 @@ image b = record {
   last = b .last;
   closed = b .closed;
   cleared = b .cleared;
+  verdicts = pad 128 noVerdict (map verdictAs (verdictsIn b));
+  figures = pad 25 noFigures (map (figuresAs b) (hoursIn b));
 }
 
--- what a book has that calls can leave: its image fits the arrays
+-- The books that opening and the calls leave: within document 01's ranges, with a capacity notice of 4 times 2 directions
 pub record Sound (b : B.Book) : Type 0 where
-  pub units : length (b .units) ≤ 64
-  pub standing : length (b .standing) ≤ 128
-  pub last : b .last ≤ 65535
+  pub ranges : R.Sound b
+  pub directions : length (b .capacities) ≡ 8

@@ -1,5 +1,5 @@
--- What the parts of a call promise to each other: of use inside this crate only.
-use Prim.Native.Nat.{ℕ, _≤_}
+-- What the parts of a call promise to each other: of use inside the crates of the session only.
+use Prim.Native.Nat.{ℕ, suc, _≤_}
 use mathlib.Core.Path.{_≡_}
 use mathlib.Core.Bool.{Bool, true, false, cond, _&&_}
 use mathlib.Core.List.{List, [], _∷_}
@@ -67,6 +67,11 @@ noted n x (u ∷ us) [] = []
 noted n x (u ∷ us) (m ∷ ns) = cond (eqb (u .number) n) x m ∷ noted n x us ns
 
 -- Searches among units
+
+-- the place of the first that passes a test, or behind the last
+unfoldable pub placeOf : {A : Type 0} → (A → Bool) → List A → ℕ
+placeOf p [] = 0
+placeOf p (x ∷ xs) = cond (p x) 0 (suc (placeOf p xs))
 
 abbrev pub numberIs : ℕ → Unit → Bool
 numberIs n u = eqb (u .number) n

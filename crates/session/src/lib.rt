@@ -2,14 +2,14 @@
 ghost use mathlib.Core.Path.{_≡_};
 ghost use Rattle.rules.specs.Book.{fresh};
 ghost use Rattle.calendar.specs.View.{dateIn};
-ghost use Rattle.session.specs.Image.{image, noUnit, noNotice, noLodgement, noEnergies};
+ghost use Rattle.session.specs.Image.{image, noUnit, noNotice, noLodgement, noEnergies, noVerdict, noFigures};
 ghost use Rattle.session.specs.Steps.{Opens};
 ghost use Rattle.session.specs.Parts.{within, refusedWith};
 use calendar::Date;
 
 mod capacities;
 mod notices;
-mod units;
+pub mod units;
 
 // Number and agent are 1 to 65,535; border is 0 domestic, 1 France, 2 Andorra, 3 Portugal, 4 Morocco.
 pub struct Unit {
@@ -52,8 +52,26 @@ pub struct Energies {
     pub prices: [u32; 25],
 }
 
+// A lodgement's verdict: accepted, refused by a limit in an hour, or neither, which is hidden.
+pub struct Verdict {
+    pub accepted: bool,
+    pub limit: u32,
+    pub hour: u32,
+}
+
+// An hour's figures. Energies at the borders are by direction (`borders::way`), those of units by the place of the unit.
+pub struct Cleared {
+    pub price: u32,
+    pub market: [u32; 10],
+    pub bilateral: [u32; 10],
+    pub maxima: [u32; 10],
+    pub matched: [u32; 64],
+    pub executed: [u32; 64],
+}
+
 // `enrolled` units stand in front of their array, and `standing` lodgements of theirs, in the order of their numbers.
-// `capacities` are export and import of border 1, of 2, of 3, of 4.
+// `capacities` are export and import of border 1, of 2, of 3, of 4. Verdicts stand in the lodgements' places once closed,
+// figures in the hours' places once cleared.
 pub struct Session {
     pub date: Date,
     pub hours: u32,
@@ -67,6 +85,8 @@ pub struct Session {
     pub last: u32,
     pub closed: bool,
     pub cleared: bool,
+    pub verdicts: [Verdict; 128],
+    pub figures: [Cleared; 25],
 }
 
 // What the gate says: a refusal has the table's number and an hour, 0 where the table gives none.
@@ -74,11 +94,11 @@ pub enum Answer {
     Refused(u32, u32),
     Done,
     Numbered(u32),
-    Steps(u32),
+    Steps(u64),
 }
 
 // The first row of the refusal table that applies to a call, or none.
-enum Judged {
+pub enum Judged {
     No(u32, u32),
     Clear,
 }
@@ -94,21 +114,21 @@ pub struct Opened {
 }
 
 // The refusal table's numbers.
-const DATE: u32 = 1;
+pub const DATE: u32 = 1;
 
-const GATE: u32 = 2;
+pub const GATE: u32 = 2;
 
-const HOUR: u32 = 4;
+pub const HOUR: u32 = 4;
 
-const RANGE: u32 = 5;
+pub const RANGE: u32 = 5;
 
-const NO_UNIT: u32 = 6;
+pub const NO_UNIT: u32 = 6;
 
-const TAKEN: u32 = 7;
+pub const TAKEN: u32 = 7;
 
-const SECOND: u32 = 8;
+pub const SECOND: u32 = 8;
 
-const FULL: u32 = 9;
+pub const FULL: u32 = 9;
 
 // What stands in an empty place.
 fn no_unit() -> Unit
@@ -157,6 +177,29 @@ fn no_energies() -> Energies
     }
 }
 
+fn no_verdict() -> Verdict
+    ensures { λ r. ⌜ r ≡ noVerdict ⌝ }
+{
+    Verdict {
+        accepted: false,
+        limit: 0,
+        hour: 0,
+    }
+}
+
+pub fn no_figures() -> Cleared
+    ensures { λ r. ⌜ r ≡ noFigures ⌝ }
+{
+    Cleared {
+        price: 0,
+        market: [0u32; 10],
+        bilateral: [0u32; 10],
+        maxima: [0u32; 10],
+        matched: [0u32; 64],
+        executed: [0u32; 64],
+    }
+}
+
 impl Session {
     pub const MAX_UNITS: usize = 64;
 
@@ -174,11 +217,15 @@ impl Session {
         let notice = no_notice();
         let lodgement = no_lodgement();
         let none = no_energies();
+        let verdict = no_verdict();
+        let figure = no_figures();
         let units = [unit; 64];
         let notices = [notice; 64];
         let capacities = [notice; 8];
         let lodgements = [lodgement; 128];
         let energies = [none; 128];
+        let verdicts = [verdict; 128];
+        let figures = [figure; 25];
         let hours = calendar::hours_of(date);
         Session {
             date: date,
@@ -193,11 +240,13 @@ impl Session {
             last: 0,
             closed: false,
             cleared: false,
+            verdicts: verdicts,
+            figures: figures,
         }
     }
 
     // The guard: counts that fit their arrays.
-    fn sound(self) -> bool
+    pub fn sound(self) -> bool
         ensures { λ r. ⌜ r ≡ within self ⌝ }
     {
         if 25 < self.hours {
@@ -213,7 +262,7 @@ impl Session {
     }
 
     // A refused call hands the session back.
-    fn refused(self, number: u32, hour: u32) -> Turn
+    pub fn refused(self, number: u32, hour: u32) -> Turn
         ensures { λ r. ⌜ r ≡ refusedWith self number hour ⌝ }
     {
         let session = self;

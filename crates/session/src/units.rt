@@ -7,7 +7,7 @@ ghost use Rattle.rules.specs.Units.{badNumber, badUnit, sameBorderSide};
 ghost use Rattle.rules.specs.DayBook.{register};
 ghost use Rattle.session.specs.Image.{unitIn};
 ghost use Rattle.session.specs.Steps.{Met};
-ghost use Rattle.session.specs.Parts.{Within, numberIs, besideUnit, Judges, Entered};
+ghost use Rattle.session.specs.Parts.{Within, numberIs, placeOf, besideUnit, Judges, Entered};
 use crate::Answer;
 use crate::FULL;
 use crate::GATE;
@@ -67,20 +67,26 @@ fn same_border_side(u: Unit, v: Unit) -> bool
     u.purchase == v.purchase
 }
 
-// Whether one of the first n units has this number.
-pub fn is_registered(units: [Unit; 64], n: usize, number: u32) -> bool
-    ensures { λ r. ⌜ r ≡ any (numberIs number) (take n units) ⌝ }
+// The place of the unit with this number among the first n, or n.
+pub fn place(units: [Unit; 64], n: usize, number: u32) -> usize
+    requires { ⌜ n ≤ 64 ⌝ }
+    ensures { λ r. ⌜ (r ≡ placeOf (numberIs number) (take n units)) × (r ≤ n) ⌝ }
 {
-    for i in 0..64 {
-        if n <= i {
-            return false;
-        }
+    for i in 0..n {
         let u = units[i];
         if u.number == number {
-            return true;
+            return i;
         }
     }
-    false
+    n
+}
+
+// Whether one of the first n units has this number.
+pub fn is_registered(units: [Unit; 64], n: usize, number: u32) -> bool
+    requires { ⌜ n ≤ 64 ⌝ }
+    ensures { λ r. ⌜ r ≡ any (numberIs number) (take n units) ⌝ }
+{
+    place(units, n, number) < n
 }
 
 // Row 8: one of the first n units is of the agent, border and side of u.
