@@ -1,0 +1,5 @@
+pub mod LoadLaws
+pub mod RowLaws
+pub mod BorderLaws
+pub mod NoticeLaws
+pub mod MarkLaws

@@ -1,0 +1,215 @@
+// The energy of a lodgement by hour, with that of others that are counted, against limits 10, 11 and 12.
+ghost use mathlib.Core.Path.{_≡_};
+ghost use mathlib.Core.Bool.{cond};
+ghost use mathlib.Core.List.{map};
+ghost use Prim.Native.Nat.{ℕ, _+_, _<_, _≤_};
+ghost use lib.ListN.{getD, take, replicate};
+ghost use Rattle.rules.specs.Lists.{lowest, addEach};
+ghost use Rattle.rules.specs.Units.{borderSum};
+ghost use Rattle.rules.specs.Lodging.{passedAt};
+ghost use Rattle.limits.specs.Loads.{loadIn, laid};
+ghost use Rattle.limits.specs.Limits.{noticeIn, lowestRow, judgedIn, noBorderLimit, borderAt};
+use session::Energies;
+use session::Judged;
+use session::Notice;
+use session::Unit;
+
+// The refusal table's numbers.
+const MAXIMUM: u32 = 10;
+
+const AVAILABLE: u32 = 11;
+
+const BORDER: u32 = 12;
+
+// Limit 12 by hour, where it applies.
+struct BorderLimit {
+    applies: bool,
+    energies: [u64; 25],
+}
+
+fn if_counted(counted: bool, energy: u32) -> u32
+    ensures { λ r. ⌜ r ≡ cond counted energy 0 ⌝ }
+{
+    if counted {
+        return energy;
+    }
+    0
+}
+
+// A sum with a lodgement's energy in an hour, where it is counted.
+fn added(sum: u64, counted: bool, e: Energies, h: usize) -> u64
+    requires { ⌜ (sum < 1099511627776) × (h < 25) ⌝ }
+    ensures { λ r. ⌜ (r ≡ sum + cond counted (getD (e .energies) h 0) 0) × (r ≤ sum + 4294967295) ⌝ }
+{
+    let more = if_counted(counted, e.energies[h]);
+    sum + arrays::wide(more)
+}
+
+// "the lowest hour in which that limit is passed", 0 where there is none: in an hour that is named, by a lodgement's own
+// energy and that of the first n others that are counted. The sum only grows, so it is left where it first passes.
+pub fn lowest_hour(
+    own: [u32; 25],
+    counted: &[bool; 128],
+    n: usize,
+    energies: [Energies; 128],
+    hours: usize,
+    limit: [u64; 25],
+) -> u32
+    requires { ⌜ (n ≤ 128) × (hours ≤ 25) ⌝ }
+    ensures { λ r. ⌜ r ≡ lowest (passedAt own (loadIn own (now (counted .entry)) (take n energies)) (laid limit)) hours ⌝ }
+{
+    let mut passed: u32 = 0;
+    'hours: for h in 0..hours {
+        let named = own[h];
+        if named == 0 {
+            continue 'hours;
+        }
+        let most = limit[h];
+        let mut sum = arrays::wide(named);
+        let mut l: usize = 0;
+        loop {
+            if most < sum {
+                passed = h as u32 + 1;
+                break 'hours;
+            }
+            if l == n {
+                continue 'hours;
+            }
+            let e = energies[l];
+            sum = added(sum, counted[l], e, h);
+            l += 1;
+        }
+    }
+    passed
+}
+
+// Limit 10 by hour: the unit's maximum in each.
+fn maximum_energies(maximum: u32) -> [u64; 25]
+    ensures { λ r. ⌜ r ≡ replicate 25 maximum ⌝ }
+{
+    let most = arrays::wide(maximum);
+    let all = [most; 25];
+    all
+}
+
+fn widened(energies: [u32; 25]) -> [u64; 25]
+    ensures { λ r. ⌜ r ≡ energies ⌝ }
+{
+    let mut all = [0u64; 25];
+    for i in 0..25 {
+        all[i] = arrays::wide(energies[i]);
+    }
+    all
+}
+
+// Limit 11 by hour: "without one, the maximum is available".
+fn available_energies(maximum: u32, notice: Notice) -> [u64; 25]
+    ensures { λ r. ⌜ r ≡ cond (notice .given) (notice .energies) (replicate 25 maximum) ⌝ }
+{
+    if notice.given {
+        let energies = notice.energies;
+        return widened(energies);
+    }
+    maximum_energies(maximum)
+}
+
+// "the sum of the two capacities" in an hour.
+fn both(export: u32, import: u32) -> u64
+    ensures { λ r. ⌜ r ≡ export + import ⌝ }
+{
+    arrays::wide(export) + arrays::wide(import)
+}
+
+fn together(exports: [u32; 25], imports: [u32; 25]) -> [u64; 25]
+    ensures { λ r. ⌜ r ≡ addEach exports imports ⌝ }
+{
+    let mut all = [0u64; 25];
+    for i in 0..25 {
+        all[i] = both(exports[i], imports[i]);
+    }
+    all
+}
+
+fn no_limit() -> BorderLimit
+    ensures { λ r. ⌜ r ≡ noBorderLimit ⌝ }
+{
+    BorderLimit {
+        applies: false,
+        energies: [0u64; 25],
+    }
+}
+
+// Limit 12 by hour: "at a border with both directions published, the sum of the two capacities".
+fn border_limit(border: u32, capacities: [Notice; 8]) -> BorderLimit
+    ensures { λ r. ⌜ ((h : ℕ) → borderAt r h ≡ borderSum (map noticeIn capacities) border h) ⌝ }
+{
+    if border == 0 {
+        return no_limit();
+    }
+    if 4 < border {
+        return no_limit();
+    }
+    let place = (border as usize - 1) * 2;
+    let export = capacities[place];
+    let import = capacities[place + 1];
+    if !export.given {
+        return no_limit();
+    }
+    if !import.given {
+        return no_limit();
+    }
+    let exports = export.energies;
+    let imports = import.energies;
+    let sums = together(exports, imports);
+    BorderLimit {
+        applies: true,
+        energies: sums,
+    }
+}
+
+// "The lowest applicable number is given": the first limit with an hour, 0 being none.
+fn lowest_row(ten: u32, eleven: u32, twelve: u32) -> Judged
+    ensures { λ j. ⌜ j ≡ lowestRow ten eleven twelve ⌝ }
+{
+    if ten != 0 {
+        return Judged::No(MAXIMUM, ten);
+    }
+    if eleven != 0 {
+        return Judged::No(AVAILABLE, eleven);
+    }
+    if twelve != 0 {
+        return Judged::No(BORDER, twelve);
+    }
+    Judged::Clear
+}
+
+// The first of a unit's limits that is passed, a default lodgement's "against 10 only", with the lowest hour in which it is.
+pub fn judge_energy(
+    unit: Unit,
+    notice: Notice,
+    capacities: [Notice; 8],
+    default: bool,
+    own: [u32; 25],
+    counted: &[bool; 128],
+    n: usize,
+    energies: [Energies; 128],
+    hours: usize,
+) -> Judged
+    requires { ⌜ (n ≤ 128) × (hours ≤ 25) ⌝ }
+    ensures { λ j. ⌜ j ≡ judgedIn unit notice capacities default hours own (loadIn own (now (counted .entry)) (take n energies)) ⌝ }
+{
+    let most = maximum_energies(unit.maximum);
+    let ten = lowest_hour(own, counted, n, energies, hours, most);
+    if default {
+        return lowest_row(ten, 0, 0);
+    }
+    let available = available_energies(unit.maximum, notice);
+    let eleven = lowest_hour(own, counted, n, energies, hours, available);
+    let border = border_limit(unit.border, capacities);
+    if !border.applies {
+        return lowest_row(ten, eleven, 0);
+    }
+    let sums = border.energies;
+    let twelve = lowest_hour(own, counted, n, energies, hours, sums);
+    lowest_row(ten, eleven, twelve)
+}
