@@ -29,7 +29,7 @@ use Rattle.rules.proofs.ClosingLaws.{energyOn, closing-exactly, accepte
 -- Ceilings
 
 -- a registered unit's entry has its number
-unit-number : (us : List Registered) (n : ℕ) → isRegistered us n ≡ true → unitOf us n .unit .number ≡ n
+pub unit-number : (us : List Registered) (n : ℕ) → isRegistered us n ≡ true → unitOf us n .unit .number ≡ n
 unfolding isRegistered unitOf hasNumber
 unit-number us n h = eqb-true _ _ (first-passes (hasNumber n) nobody us h)
 

@@ -26,3 +26,4 @@ pub mod BookLaws
 pub mod OrderLaws
 pub mod ClosingLaws
 pub mod DemandLaws
+pub mod UnitLaws

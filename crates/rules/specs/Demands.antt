@@ -9,7 +9,7 @@ use lib.Dec.{ltb, eqb}
 use lib.IntN.{ℤ, pos, _+ℤ_}
 use lib.Signed.{_≤ℤ_, _<ℤ_}
 use Rattle.rules.specs.Lists.{All, Each, keep, sum, sumOf, hourly}
-use Rattle.rules.specs.Units.{Limit, capacityOf, ceiling, limits, unitOf}
+use Rattle.rules.specs.Units.{Registered, Limit, capacityOf, ceiling, limits, unitOf}
 use Rattle.rules.specs.Lodging.{Lodgement, energyAt, isHidden, passedAt}
 use Rattle.rules.specs.Book.{Book, hours}
 use Rattle.rules.specs.Closing.{Verdict, hidden, limit, isAccepted, judgements, verdictAmong, acceptedAt}
@@ -118,6 +118,16 @@ pub record Kept (c : Directed) (os : List Offer) (before after : List Execution)
 -- the executions accepted at closing, in an hour, "with none cut"
 abbrev pub executionsAt : Book → ℕ → List Execution
 executionsAt b h = hourOfDay b (acceptedAt b) h .executions
+
+-- a unit's accepted executions in an hour: what `executedAt` would be "with none cut"
+unfoldable pub acceptedExecuted : Book → ℕ → ℕ → ℕ
+acceptedExecuted b u h = sumOf (λ x. x .energy) (keep (λ x. eqb (x .holder .unit) u) (executionsAt b h))
+
+-- A unit that is cut in an hour: at a border, of the side that runs in a direction, and with less executed than accepted.
+pub record UnitCut (b : Book) (c : Directed) (h : ℕ) (r : Registered) : Type 0 where
+  pub border : r .unit .border ≡ c .border
+  pub purchase : r .unit .purchase ≡ c .export
+  pub less : executedAt b (r .unit .number) h < acceptedExecuted b (r .unit .number) h
 
 -- What holds in an hour after clearing.
 pub record Cleared (b : Book) (h : ℕ) : Type 0 where
