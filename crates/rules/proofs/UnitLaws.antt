@@ -3,7 +3,7 @@ use Prim.Native.Nat.{ℕ, _+_, _≤_, _<_}
 use mathlib.Core.Path.{_≡_, refl, ap, ap₂, sym, subst, _∙_}
 use mathlib.Core.Logic.{_↔_}
 use mathlib.Core.Bool.{Bool, true, false, cond, not, _&&_, Bool·beq, false≢true}
-use mathlib.Core.List.{List, [], _∷_, map}
+use mathlib.Core.List.{List, [], _∷_}
 use native.Mathlib.Omega.{arith}
 use lib.Dec.{ltb, eqb}
 use borrow.Author.Tests.{eqb-true, eq-eqb, ne-eqb, ltb-true, ltb-false}
@@ -118,7 +118,17 @@ holder-held us l h =
       };
     }
 
--- its unit is among the units
+-- a unit is of a side as its holder is
+side-agrees : (side : Bool) (r : Registered) (x : Holder) → Held r x → Bool·beq (r .unit .purchase) side ≡ Bool·beq (x .purchase) side
+side-agrees side r x h = ap (λ p. Bool·beq p side) (h .purchase)
+
+-- and of a border and a side
+runs-agrees : (border : ℕ) (export : Bool) (r : Registered) (x : Holder) → Held r x
+    → (eqb (r .unit .border) border && Bool·beq (r .unit .purchase) export) ≡ runs border export x
+unfolding runs
+runs-agrees border export r x h = ap₂ (λ n p. eqb n border && Bool·beq p export) (h .border) (h .purchase)
+
+-- the unit is among the units
 held-some : {us : List Registered} {x : Holder} → HeldIn us x → Some (λ r. Held r x) us
 unfolding unitOf isRegistered
 held-some {us} {x} h = some-map (λ r e. subst (λ r. Held r x) (sym e) (h .held)) (first-among (hasNumber (x .unit)) nobody us (h .registered))
@@ -130,6 +140,61 @@ unit-each empty = none
 unit-each (ahead {x = r} {xs = us} a d) =
     more {x = r} (rw (eq-eqb (r .unit .number) (r .unit .number) refl))
     (all-both (λ s w e. rw (ne-eqb (r .unit .number) (s .unit .number) w) e) a (unit-each d))
+
+-- Cuts
+
+-- the energy of a unit's executions
+abbrev energyOf : ℕ → List Execution → ℕ
+energyOf n xs = sumOf (λ x. x .energy) (keep (λ x. eqb (x .holder .unit) n) xs)
+
+-- executions that are cut have no more energy
+down-le : (n : ℕ) {xs ys : List Execution} → Each CutDown xs ys → energyOf n ys ≤ energyOf n xs
+down-le n t =
+    each-le (λ x. eqb (x .holder .unit) n) (λ x. x .energy) (λ x. x .energy) (λ x y k. (ap (λ h. eqb (h .unit) n) (k .holder), k .energy)) t
+
+module _ (n : ℕ) {x y : Execution} {xs ys : List Execution} (k : CutDown x y) (t : Each CutDown xs ys) where
+  -- less in the others is less in all
+  less-later : energyOf n ys < energyOf n xs → energyOf n (y ∷ ys) < energyOf n (x ∷ xs)
+  unfolding sumOf sum keep
+  less-later h = rw (k .holder) (by-bool (eqb (x .holder .unit) n) (λ e. rw e (omega (arith, k .energy, h))) (λ e. rw e h))
+
+  -- so is less in the first, if it is the unit's
+  less-here : n ≡ x .holder .unit → y .energy < x .energy → energyOf n (y ∷ ys) < energyOf n (x ∷ xs)
+  unfolding sumOf sum keep
+  less-here e l = rw (k .holder, eq-eqb (x .holder .unit) n (sym e)) (omega (arith, l, down-le n t))
+
+module _ (c : Directed) where
+  -- where some execution in a direction is cut, its unit has less
+  cut-unit : {us : List Registered} {xs ys : List Execution} → Each CutDown xs ys → All (λ x. HeldIn us (x .holder)) xs → SomeCut c xs ys
+      → Some (λ r. ((r .unit .border ≡ c .border) × (r .unit .purchase ≡ c .export)) × (energyOf (r .unit .number) ys < energyOf (r .unit .number) xs)) us
+  unfolding runs
+  cut-unit (each {x} k t) (more h u) (this e l) =
+      let w = both (eqb (x .holder .border) (c .border)) (Bool·beq (x .holder .purchase) (c .export)) e in
+      some-map (λ r g. ((g .border ∙ eqb-true _ _ (w .0), g .purchase ∙ beq-true _ _ (w .1)), less-here (r .unit .number) k t (g .number) l))
+      (held-some h)
+  cut-unit (each k t) (more h u) (another m) = some-map (λ r g. (g .0, less-later (r .unit .number) k t (g .1))) (cut-unit t u m)
+
+  -- and where a unit's executions have less, one of them is cut
+  unit-cut : (n : ℕ) {xs ys : List Execution} → Each CutDown xs ys → All (λ x. x .holder .unit ≡ n → runs (c .border) (c .export) (x .holder) ≡ true) xs
+      → energyOf n ys < energyOf n xs → SomeCut c xs ys
+  unfolding sumOf sum keep
+  unit-cut n each0 none l = absurd (omega arith)
+  unit-cut n (each {x} {y} k t) (more r u) l =
+      by-bool (eqb (x .holder .unit) n)
+      (λ e.
+      by-bool (ltb (y .energy) (x .energy)) (λ d. this (r (eqb-true _ _ e)) (ltb-true _ _ d))
+      (λ d. another (unit-cut n t u (omega (arith, rw (k .holder, e) at l, ltb-false (y .energy) (x .energy) d)))))
+      (λ e. another (unit-cut n t u (rw (k .holder, e) at l)))
+
+  -- a unit's executions run in the direction of its border and side
+  unit-runs : (us : List Registered) (r : Registered) → unitOf us (r .unit .number) ≡ r → r .unit .border ≡ c .border → r .unit .purchase ≡ c .export
+      → (x : Holder) → HeldIn us x → x .unit ≡ r .unit .number → runs (c .border) (c .export) x ≡ true
+  unfolding runs
+  unit-runs us r own border purchase x h e =
+      let k : Held r x = subst (λ s. Held s x) (ap (unitOf us) e ∙ own) (h .held) in
+      of-both (eq-eqb _ _ (sym (k .border) ∙ border)) (of-beq _ _ (sym (k .purchase) ∙ purchase))
+
+-- The book's units
 
 module _ (b : Book) (s : Sound b) where
   -- accepted lodgements have registered units
@@ -161,16 +226,6 @@ module _ (b : Book) (s : Sound b) where
   sum-held holder energy p q agree a =
       sum-by (λ r. r .unit .number) (λ x. holder x .unit) energy p (λ x. q (holder x)) (s .units .distinct)
       (all-map (λ x h. some-map (λ r k. (k .number, agree r (holder x) k)) (held-some h)) a)
-
-  -- of a side
-  side-agrees : (side : Bool) (r : Registered) (x : Holder) → Held r x → Bool·beq (r .unit .purchase) side ≡ Bool·beq (x .purchase) side
-  side-agrees side r x h = ap (λ p. Bool·beq p side) (h .purchase)
-
-  -- of a border and a side
-  runs-agrees : (border : ℕ) (export : Bool) (r : Registered) (x : Holder) → Held r x
-      → (eqb (r .unit .border) border && Bool·beq (r .unit .purchase) export) ≡ runs border export x
-  unfolding runs
-  runs-agrees border export r x h = ap₂ (λ n p. eqb n border && Bool·beq p export) (h .border) (h .purchase)
 
   -- what the units of a side have matched is what is matched on that side
   pub units-matched : (side : Bool) (h : ℕ)
@@ -204,3 +259,15 @@ module _ (b : Book) (s : Sound b) where
       ≡ flow (λ x. x .holder) (λ x. x .energy) border export (executionsAt b h)
   unfolding acceptedExecuted flow
   units-accepted border export h = sum-held (λ x. x .holder) (λ x. x .energy) _ (runs border export) (runs-agrees border export) (executions-held h)
+
+  -- "Some execution there in a direction is cut" exactly when a unit of that border and side has less executed than accepted
+  pub some-cut-units : (c : Directed) (h : ℕ) → SomeCut c (executionsAt b h) (figuresAt b h .executions) ↔ Some (UnitCut b c h) (b .units)
+  unfolding executedAt acceptedExecuted
+  some-cut-units c h =
+      let t = figures-cleared b h (s .standing .rising) .executions in
+      let held = executions-held h in (
+        λ m. some-map (λ r w. record { border = w .0 .0; purchase = w .0 .1; less = w .1 }) (cut-unit c t held m),
+        λ m.
+            some-out (λ r f. f) (some-all (λ r w own. unit-cut c (r .unit .number) t (all-map (λ x k e. unit-runs c (b .units) r own (w .border) (w .purchase) (x .holder) k e) held) (w .less))
+            m (unit-each (s .units .distinct))),
+      )
