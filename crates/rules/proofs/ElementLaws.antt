@@ -3,7 +3,7 @@ use mathlib.Core.Path.{_≡_}
 use mathlib.Core.Bool.{Bool, true, false, cond, false≢true}
 use mathlib.Core.List.{List, [], _∷_, _++_, map, reverseAux}
 use Rattle.rules.specs.Lists.{All, none, more, keep, any}
-pub use Rattle.rules.specs.Lists.{Pairwise, empty, ahead, Each, each0, each}
+pub use Rattle.rules.specs.Lists.{Some, here, there, Pairwise, empty, ahead, Each, each0, each}
 use Rattle.rules.proofs.BoolLaws.{by-bool}
 use Rattle.rules.proofs.ListLaws.{all-map, all-append, all-keep, all-mapped}
 
@@ -23,11 +23,6 @@ all-unmapped f [] none = none
 all-unmapped f (x ∷ xs) (more h t) = more h (all-unmapped f xs t)
 
 -- Some element
-
--- what holds of some element
-pub data Some {A : Type 0} (P : A → Type 0) : List A → Type 0 where
-  here : {x : A} {xs : List A} → P x → Some P (x ∷ xs)
-  there : {x : A} {xs : List A} → Some P xs → Some P (x ∷ xs)
 
 module _ {A : Type 0} {P : A → Type 0} where
   -- what follows from what holds of some

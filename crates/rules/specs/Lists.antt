@@ -9,6 +9,11 @@ pub data All {A : Type 0} (P : A → Type 0) : List A → Type 0 where
   none : All P []
   more : {x : A} {xs : List A} → P x → All P xs → All P (x ∷ xs)
 
+-- what holds of some element
+pub data Some {A : Type 0} (P : A → Type 0) : List A → Type 0 where
+  here : {x : A} {xs : List A} → P x → Some P (x ∷ xs)
+  there : {x : A} {xs : List A} → Some P xs → Some P (x ∷ xs)
+
 -- what holds of each element with every later one
 pub data Pairwise {A : Type 0} (R : A → A → Type 0) : List A → Type 0 where
   empty : Pairwise R []
