@@ -4,19 +4,19 @@ use mathlib.Core.Path.{_≡_, refl}
 use mathlib.Core.Bool.{Bool, true, not, _&&_}
 use native.Mathlib.Omega.{arith}
 use lib.Dec.{ltb}
-use lib.ListN.{getD}
+use lib.ListN.{getD, length}
 use borrow.Author.Tests.{ltb-false, le-ltb, not-true}
 use Rattle.rules.specs.Lists.{any}
 use Rattle.rules.specs.Units.{maxEnergy, maxPrice}
 use Rattle.rules.proofs.BoolLaws.{both}
 use Rattle.arrays.specs.Places.{vals, rises}
-use Rattle.arrays.proofs.TestLaws.{above-none, of-above-none, rises-pairs, of-rises-pairs}
+use Rattle.arrays.proofs.TestLaws.{above-none, of-above-none, above-none-all, rises-pairs, of-rises-pairs}
 use Rattle.matching.specs.declared.Offers.{Offers}
 use Rattle.matching.specs.View.{Sound}
 use Rattle.borders.specs.declared.Executions.{Executions}
+use Rattle.borders.specs.Flows.{Small}
 use Rattle.hour.specs.declared.Hour.{Hour}
 use Rattle.hour.specs.Ready.{Ready, offersReady, executionsReady, isReady}
-use Rattle.hour.specs.Parts.{Crossing}
 
 -- an hour that passes the test is ready
 pub ready-holds : (h : Hour) → isReady h ≡ true → Ready h
@@ -61,3 +61,15 @@ ready-told h r =
       of-above-none maxEnergy (h .energy) 128 (r .energies),
       of-above-none maxEnergy (h .capacity) 10 (r .capacities),
     )
+
+-- Energies and capacities in their range at every place, past the arrays' end too
+
+module _ {h : Hour} (r : Ready h) where
+  pub offered-small : length (h .offered) ≡ 128 → (i : ℕ) → getD (h .offered) i 0 ≤ maxEnergy
+  offered-small e = above-none-all maxEnergy (h .offered) 128 e (of-above-none maxEnergy (h .offered) 128 (r .offered))
+
+  pub energy-small : length (h .energy) ≡ 128 → (i : ℕ) → getD (h .energy) i 0 ≤ maxEnergy
+  energy-small e = above-none-all maxEnergy (h .energy) 128 e (of-above-none maxEnergy (h .energy) 128 (r .energies))
+
+  pub capacity-small : length (h .capacity) ≡ 10 → Small (h .capacity)
+  capacity-small e w = omega (arith, above-none-all maxEnergy (h .capacity) 10 e (of-above-none maxEnergy (h .capacity) 10 (r .capacities)) w)

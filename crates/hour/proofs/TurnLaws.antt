@@ -1,5 +1,5 @@
 -- One turn of the withdrawal on the arrays of an hour, and its end.
-use Prim.Native.Nat.{ℕ, _+_, _-_, _≤_, _<_}
+use Prim.Native.Nat.{ℕ, _+_, _*_, _^_, _-_, _≤_, _<_}
 use mathlib.Core.Path.{_≡_, refl, sym, _∙_, ap}
 use mathlib.Core.Bool.{Bool, true, false, true≢false, false≢true}
 use mathlib.Core.List.{List, [], _∷_, map}
@@ -81,6 +81,14 @@ start-said {o} {published} {maxima} {e} {m} b q = record {
   ahead = ap (λ n. repeat n (publishedIn published maxima) (offersOf o e m) 0) (b ∙ sym (offered-sum o e m));
   traded = q;
 }
+
+-- a step more is made, and one fewer is left
+pub one-made : (steps left bound : ℕ) → steps + left ≡ bound → 0 < left → steps + 1 + (left - 1) ≡ bound
+one-made steps left bound h k = omega arith
+
+-- the count of steps fits
+pub step-fits : (steps left bound n : ℕ) → steps + left ≡ bound → 0 < left → bound ≤ 99999 * n → n ≤ 128 → steps + 1 < 2 ^ 32
+step-fits steps left bound n h k l m = omega arith
 
 module _ {h : Offers} {published : List Bool} {maxima e₀ m₀ e m : List ℕ} {left steps v : ℕ} (t : Turning h published maxima e₀ m₀ e m left steps v) where
   -- with no step left

@@ -1,32 +1,19 @@
+use mathlib.Core.Path.{sym, _∙_}
+use Rattle.rules.proofs.BoolLaws.{not-both}
+use Rattle.hour.proofs.ReadyLaws.{ready-holds}
 use borrow.Author.Needs.{needs}
 use Rattle.hour.proofs.clear.Statement.{statement}
 use Rattle.hour.proofs.clear.Tie as tie
-use Rattle.hour.proofs.clear.Reads as reads
-use Rattle.hour.proofs.clear.Lts as lts
-use Rattle.hour.proofs.clear_hour.Reads as clear-hour-reads
-use Rattle.hour.proofs.no_figures.Reads as no-figures-reads
-use Rattle.hour.proofs.ready.Reads as ready-reads
 
--- src/lib.rt:324:8
-ready-requires : tie.Need-ready-requires
-ready-requires c κs = search needs
-
--- src/lib.rt:325:13
 clear-hour-requires : tie.Need-clear-hour-requires
-clear-hour-requires c κs = search needs
+clear-hour-requires c κs = ready-holds (c .before .before .args .h) (sym (c .before .ready .ensures) ∙ c .if1 .taken)
 
--- src/lib.rt:326:9
 returns : tie.Need-returns
-returns c = search needs
+returns c = (sym (c .before .if1 .taken) ∙ c .before .before .ready .ensures, (λ e. c .clear-hour .ensures, λ e. not-both (sym (c .before .before .ready .ensures) ∙ c .before .if1 .taken) e))
 
--- src/lib.rt:331:9
-no-figures-requires : tie.Need-no-figures-requires
-no-figures-requires c κs = search needs
-
--- src/lib.rt:319:1
 returns-2 : tie.Need-returns-2
-returns-2 c = search needs
+returns-2 c = (sym (c .before .if1 .left) ∙ c .before .before .ready .ensures, (λ e. not-both e (sym (c .before .before .ready .ensures) ∙ c .before .if1 .left), λ e. c .no-figures .ensures))
 
 pub clear-spec : {M : Type 1} → statement M
 clear-spec =
-    tie.close (tie.spec ready-requires clear-hour-requires returns no-figures-requires returns-2)
+    tie.close (tie.spec (λ c κs. search needs) clear-hour-requires returns (λ c κs. search needs) returns-2)

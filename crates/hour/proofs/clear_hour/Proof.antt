@@ -1,31 +1,43 @@
+use mathlib.Core.Path.{refl}
+use native.Mathlib.Nat.{le-trans}
+use native.Mathlib.Omega.{arith}
+use Rattle.matching.specs.View.{offersOf}
+use Rattle.borders.specs.View.{executionsOf}
+use Rattle.borders.proofs.FlowLaws.{execution-flows}
+use Rattle.hour.proofs.ReadyLaws.{offered-small, energy-small, capacity-small}
+use Rattle.hour.proofs.ClearLaws.{enough-said, cleared-said}
 use borrow.Author.Needs.{needs}
 use Rattle.hour.proofs.clear_hour.Statement.{statement}
 use Rattle.hour.proofs.clear_hour.Tie as tie
-use Rattle.hour.proofs.clear_hour.Reads as reads
-use Rattle.hour.proofs.clear_hour.Lts as lts
-use Rattle.borders.proofs.cut.Reads as cut-reads
-use Rattle.borders.proofs.flows.Reads as flows-reads
-use Rattle.hour.proofs.clear_market.Reads as clear-market-reads
 
--- src/lib.rt:272:18
 flows-requires : tie.Need-flows-requires
-flows-requires c κs = search needs
+flows-requires c κs = (c .before .before .before .before .before .before .before .before .before .pre .few, c .before .before .before .before .before .before .before .before .before .pre .crossings, energy-small (c .before .before .before .before .before .before .before .before .before .pre) (omega (arith, c .before .before .before .before .before .before .before .before .before .good)))
 
--- src/lib.rt:274:9
 clear-market-requires : tie.Need-clear-market-requires
-clear-market-requires c κs = search needs
+clear-market-requires c κs = (c .before .before .before .before .before .before .before .before .before .before .before .before .before .before .pre .sound, c .before .before .before .before .before .before .before .before .before .before .before .before .before .before .pre .borders, offered-small (c .before .before .before .before .before .before .before .before .before .before .before .before .before .before .pre) (omega (arith, c .before .before .before .before .before .before .before .before .before .before .before .before .before .before .good)), capacity-small (c .before .before .before .before .before .before .before .before .before .before .before .before .before .before .pre) (omega (arith, c .before .before .before .before .before .before .before .before .before .before .before .before .before .before .good)), c .before .before .before .before .flows .ensures .small)
 
--- src/lib.rt:276:5
 cut-requires : tie.Need-cut-requires
-cut-requires c κs = search needs
+cut-requires c κs = (c .before .before .before .before .before .before .before .before .before .before .before .before .before .before .before .before .before .before .before .before .before .before .before .before .pre .few, c .before .before .before .before .before .before .before .before .before .before .before .before .before .before .before .before .before .before .before .before .before .before .before .before .pre .crossings, energy-small (c .before .before .before .before .before .before .before .before .before .before .before .before .before .before .before .before .before .before .before .before .before .before .before .before .pre) (omega (arith, c .before .before .before .before .before .before .before .before .before .before .before .before .before .before .before .before .before .before .before .before .before .before .before .before .good)), c .before .before .before .before .before .before .before .before .before .clear-market .ensures .1 .1, c .before .before .before .before .before .before .before .before .before .before .before .before .before .before .flows .ensures .small, omega (arith, c .before .before .before .before .before .before .before .before .before .before .before .before .before .before .before .before .before .before .before .before .before .before .before .before .good))
 
--- src/lib.rt:286:9
 flows-requires-2 : tie.Need-flows-requires-2
-flows-requires-2 c κs = search needs
+flows-requires-2 c κs = (c .before .before .before .before .before .before .before .before .before .before .before .before .before .before .before .before .before .before .before .before .before .before .before .before .before .before .before .before .before .before .pre .few, c .before .before .before .before .before .before .before .before .before .before .before .before .before .before .before .before .before .before .before .before .before .before .before .before .before .before .before .before .before .before .pre .crossings, λ i. le-trans (c .before .before .before .before .before .cut .ensures .1 .1 i) (energy-small (c .before .before .before .before .before .before .before .before .before .before .before .before .before .before .before .before .before .before .before .before .before .before .before .before .before .before .before .before .before .before .pre) (omega (arith, c .before .before .before .before .before .before .before .before .before .before .before .before .before .before .before .before .before .before .before .before .before .before .before .before .before .before .before .before .before .before .good)) i))
 
--- src/lib.rt:263:1
 returns : tie.Need-returns
-returns c = search needs
+returns c = 
+    let h = c .before .before .before .before .before .before .before .before .before .before .before .before .before .before .before .before .before .before .before .before .before .before .before .before .before .before .before .before .before .before .before .before .before .before .args .h in
+    let xs = execution-flows (h .executions) (h .energy) (c .before .before .before .before .before .before .before .before .before .before .before .before .before .before .before .before .before .before .before .before .before .before .before .before .flows .ensures) in
+    let m = c .before .before .before .before .before .before .before .before .before .before .before .before .before .before .before .before .before .before .before .clear-market .ensures .0 (executionsOf (h .executions) (h .energy)) xs in (
+      cleared-said h (c .before .before .before .before .before .before .before .before .before .before .before .before .before .before .before .before .before .before .before .before .before .before .before .before .before .before .before .before .before .before .before .before .before .before .pre) m _ _ _
+      (c .before .before .before .before .before .before .before .before .before .cut .ensures .0 (h .executions) (offersOf (h .offers) _ _) refl refl refl (c .before .before .before .before .before .before .before .before .before .before .before .before .before .before .before .before .before .before .before .clear-market .ensures .1 .0) xs (enough-said h (c .before .before .before .before .before .before .before .before .before .before .before .before .before .before .before .before .before .before .before .before .before .before .before .before .before .before .before .before .before .before .before .before .before .before .pre) m)),
+      record {
+        market = c .before .before .before .before .before .before .before .before .before .before .before .before .before .before .before .before .before .before .before .clear-market .ensures .1 .0;
+        bilateral = execution-flows (h .executions) _ (c .before .before .before .flows2 .ensures);
+        market-small = c .before .before .before .before .before .before .before .before .before .before .before .before .before .before .before .before .before .before .before .clear-market .ensures .1 .1;
+        bilateral-small = c .before .before .before .flows2 .ensures .small;
+        matched = c .before .before .before .before .before .before .before .before .before .before .before .before .before .before .before .before .before .before .before .clear-market .ensures .1 .2 .part;
+        executed = λ i. le-trans (c .before .before .before .before .before .before .before .before .before .cut .ensures .1 .1 i) (energy-small (c .before .before .before .before .before .before .before .before .before .before .before .before .before .before .before .before .before .before .before .before .before .before .before .before .before .before .before .before .before .before .before .before .before .before .pre) (omega (arith, c .before .before .before .before .before .before .before .before .before .before .before .before .before .before .before .before .before .before .before .before .before .before .before .before .before .before .before .before .before .before .before .before .before .before .good)) i);
+      },
+    )
 
 pub clear-hour-spec : {M : Type 1} → statement M
 clear-hour-spec =

@@ -1,18 +1,17 @@
-use Prim.Native.Nat.{_+_, _≤_}
+use Prim.Native.Nat.{_+_}
 use mathlib.Core.Path.{_≡_, sym, _∙_}
 use native.Mathlib.Nat.{le-trans}
 use native.Mathlib.Omega.{arith}
 use borrow.Author.Tests.{not-true, not-false}
-use Rattle.rules.specs.Units.{maxEnergy}
 use Rattle.hour.specs.Parts.{Energies, Turning}
-use Rattle.hour.proofs.TurnLaws.{lent, energies-stepped, start-said, out-said, end-said, next-said}
+use Rattle.hour.proofs.TurnLaws.{lent, one-made, step-fits, energies-stepped, start-said, out-said, end-said, next-said}
 use borrow.Author.Needs.{needs}
 use Rattle.hour.proofs.withdraw.Statement.{statement}
 use Rattle.hour.proofs.withdraw.Tie as tie
 
 abbrev Inv-loop : tie.InvT-loop
 Inv-loop offered₀ matched₀ first published maxima o sales purchases n ns np left₀ steps₀ volume₀ offered matched left steps volume =
-    (steps + left ≤ 128 * maxEnergy) × Energies (o .count) offered matched × Turning o published maxima offered₀ matched₀ offered matched left steps volume
+    (steps + left ≡ left₀) × Energies (o .count) offered matched × Turning o published maxima offered₀ matched₀ offered matched left steps volume
 
 abbrev μ-loop : tie.MeasureT-loop
 μ-loop offered₀ matched₀ first published maxima o sales purchases n ns np left₀ steps₀ volume₀ offered matched left steps volume =
@@ -22,7 +21,7 @@ total-requires : tie.Need-total-requires Inv-loop μ-loop
 total-requires c κs = (c .before .pre .2 .sound .few, c .before .pre .1 .small)
 
 loop-holds : tie.Need-loop-holds Inv-loop μ-loop
-loop-holds c = (omega (arith, c .total .ensures .1, c .before .before .pre .2 .sound .few), c .before .before .pre .1, start-said (c .total .ensures .0) (c .before .before .pre .4))
+loop-holds c = (omega arith, c .before .before .pre .1, start-said (c .total .ensures .0) (c .before .before .pre .4))
 
 flows-requires : tie.Need-flows-requires Inv-loop μ-loop
 flows-requires c κs = (c .before .before .before .before .before .before .before .before .before .pre .2 .sound .few, c .before .before .before .before .before .before .before .before .before .pre .0, c .before .before .before .before .before .before .loop .inv .1 .part)
@@ -49,14 +48,18 @@ step-requires c κs = (
 loop-again : tie.Need-loop-again Inv-loop μ-loop
 loop-again c = 
     let s = c .step .ensures (c .before .before .before .before .before .before .before .before .before .before .before .before .before .before .before .before .before .before .before .before .before .before .before .before .before .before .before .before .args .t4) (lent (c .before .before .before .before .before .before .before .before .before .before .before .before .before .before .before .before .before .before .before .before .before .before .before .before .before .before .before .before .args .t4)) (c .before .before .before .before .before .before .before .before .before .before .before .before .before .before .before .before .before .before .before .before .before .before .before .before .before .before .before .before .pre .2) (c .before .before .before .before .before .before .before .before .before .before .before .before .before .before .before .before .before .before .before .before .before .before .before .before .before .before .before .before .pre .3) in (
-      omega arith,
+      one-made _ _ _ (c .before .before .before .before .before .before .before .before .before .before .before .before .before .before .before .before .before .before .before .before .before .before .before .before .before .loop .inv .0) (c .before .before .before .before .before .before .before .before .before .before .before .before .before .before .before .before .before .before .before .before .before .before .before .before .loop-test .taken),
       energies-stepped (c .before .before .before .before .before .before .before .before .before .before .before .before .before .before .before .before .before .before .before .before .before .before .before .before .before .loop .inv .1) s,
       next-said (c .before .before .before .before .before .before .before .before .before .before .before .before .before .before .before .before .before .before .before .before .before .before .before .before .before .loop .inv .2) (c .before .before .before .before .before .before .before .before .before .before .before .before .before .before .before .before .before .before .flows .result) (c .before .before .before .before .before .before .before .before .before .before .before .before .before .before .before .before .excesses .result) (c .before .before .before .before .before .before .before .before .before .before .before .before .before .before .before .before .before .before .flows .ensures) (c .before .before .before .before .before .before .before .before .before .before .before .before .before .before .before .before .excesses .ensures .0)
-      (sym (c .before .before .before .before .before .before .before .before .before .before .before .before .before .before .passed .ensures) ∙ not-false _ (c .before .before .before .before .before .before .before .before .before .before .before .before .before .if1 .left)) (omega arith) s,
+      (sym (c .before .before .before .before .before .before .before .before .before .before .before .before .before .before .passed .ensures) ∙ not-false _ (c .before .before .before .before .before .before .before .before .before .before .before .before .before .if1 .left)) (c .before .before .before .before .before .before .before .before .before .before .before .before .before .before .before .before .before .before .before .before .before .before .before .before .loop-test .taken) s,
     )
 
 returns-2 : tie.Need-returns-2 Inv-loop μ-loop
 returns-2 c = out-said (c .before .loop .inv .2) (omega arith) (c .before .loop .inv .1)
+
+add-steps : tie.Need-add-steps Inv-loop μ-loop
+add-steps c =
+    record { fits = step-fits _ _ _ _ (c .before .before .before .before .before .before .before .before .before .before .before .before .before .before .before .before .before .before .before .before .before .before .before .before .before .loop .inv .0) (c .before .before .before .before .before .before .before .before .before .before .before .before .before .before .before .before .before .before .before .before .before .before .before .before .loop-test .taken) (c .before .before .before .before .before .before .before .before .before .before .before .before .before .before .before .before .before .before .before .before .before .before .before .before .before .before .total .ensures .1) (c .before .before .before .before .before .before .before .before .before .before .before .before .before .before .before .before .before .before .before .before .before .before .before .before .before .before .before .before .pre .2 .sound .few) }
 
 pub withdraw-spec : {M : Type 1} → statement M
 withdraw-spec =
@@ -72,7 +75,7 @@ withdraw-spec =
     returns
     step-requires
     (λ c. search needs)
-    (λ c. search needs)
+    add-steps
     (λ c. search needs)
     loop-again
     returns-2)
