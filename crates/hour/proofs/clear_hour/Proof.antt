@@ -1,6 +1,8 @@
-use mathlib.Core.Path.{refl}
+use mathlib.Core.Path.{refl, sym, _∙_}
 use native.Mathlib.Nat.{le-trans}
 use native.Mathlib.Omega.{arith}
+use denote.Struct.Field.{u32-field}
+use lib.ListN.{length-map}
 use Rattle.matching.specs.View.{offersOf}
 use Rattle.borders.specs.View.{executionsOf}
 use Rattle.borders.proofs.FlowLaws.{execution-flows}
@@ -11,16 +13,16 @@ use Rattle.hour.proofs.clear_hour.Statement.{statement}
 use Rattle.hour.proofs.clear_hour.Tie as tie
 
 flows-requires : tie.Need-flows-requires
-flows-requires c κs = (c .before .before .before .before .before .before .before .before .before .pre .few, c .before .before .before .before .before .before .before .before .before .pre .crossings, energy-small (c .before .before .before .before .before .before .before .before .before .pre) (omega (arith, c .before .before .before .before .before .before .before .before .before .good)))
+flows-requires c κs = (c .before .before .before .before .before .before .before .before .before .pre .few, c .before .before .before .before .before .before .before .before .before .pre .crossings, energy-small (c .before .before .before .before .before .before .before .before .before .pre) (sym (length-map (c .before .before .before .before .before .before .before .before .before .args .h .energy) (u32-field .into)) ∙ c .before .before .before .before .before .before .before .before .before .good .0 .1 .1 .1 .1 .1 .0 .1 .0 .1))
 
 clear-market-requires : tie.Need-clear-market-requires
-clear-market-requires c κs = (c .before .before .before .before .before .before .before .before .before .before .before .before .before .before .pre .sound, c .before .before .before .before .before .before .before .before .before .before .before .before .before .before .pre .borders, offered-small (c .before .before .before .before .before .before .before .before .before .before .before .before .before .before .pre) (omega (arith, c .before .before .before .before .before .before .before .before .before .before .before .before .before .before .good)), capacity-small (c .before .before .before .before .before .before .before .before .before .before .before .before .before .before .pre) (omega (arith, c .before .before .before .before .before .before .before .before .before .before .before .before .before .before .good)), c .before .before .before .before .flows .ensures .small)
+clear-market-requires c κs = (c .before .before .before .before .before .before .before .before .before .before .before .before .before .before .pre .sound, c .before .before .before .before .before .before .before .before .before .before .before .before .before .before .pre .borders, offered-small (c .before .before .before .before .before .before .before .before .before .before .before .before .before .before .pre) (sym (length-map (c .before .before .before .before .before .before .before .before .before .before .before .before .before .before .args .h .offered) (u32-field .into)) ∙ c .before .before .before .before .before .before .before .before .before .before .before .before .before .before .good .0 .1 .1 .1 .0 .1 .0 .1), capacity-small (c .before .before .before .before .before .before .before .before .before .before .before .before .before .before .pre) (sym (length-map (c .before .before .before .before .before .before .before .before .before .before .before .before .before .before .args .h .capacity) (u32-field .into)) ∙ c .before .before .before .before .before .before .before .before .before .before .before .before .before .before .good .0 .1 .1 .1 .1 .1 .1 .1 .0 .1 .0 .1), c .before .before .before .before .flows .ensures .small)
 
 cut-requires : tie.Need-cut-requires
-cut-requires c κs = (c .before .before .before .before .before .before .before .before .before .before .before .before .before .before .before .before .before .before .before .before .before .before .before .before .pre .few, c .before .before .before .before .before .before .before .before .before .before .before .before .before .before .before .before .before .before .before .before .before .before .before .before .pre .crossings, energy-small (c .before .before .before .before .before .before .before .before .before .before .before .before .before .before .before .before .before .before .before .before .before .before .before .before .pre) (omega (arith, c .before .before .before .before .before .before .before .before .before .before .before .before .before .before .before .before .before .before .before .before .before .before .before .before .good)), c .before .before .before .before .before .before .before .before .before .clear-market .ensures .1 .1, c .before .before .before .before .before .before .before .before .before .before .before .before .before .before .flows .ensures .small, omega (arith, c .before .before .before .before .before .before .before .before .before .before .before .before .before .before .before .before .before .before .before .before .before .before .before .before .good))
+cut-requires c κs = (c .before .before .before .before .before .before .before .before .before .before .before .before .before .before .before .before .before .before .before .before .before .before .before .before .pre .few, c .before .before .before .before .before .before .before .before .before .before .before .before .before .before .before .before .before .before .before .before .before .before .before .before .pre .crossings, energy-small (c .before .before .before .before .before .before .before .before .before .before .before .before .before .before .before .before .before .before .before .before .before .before .before .before .pre) (sym (length-map (c .before .before .before .before .before .before .before .before .before .before .before .before .before .before .before .before .before .before .before .before .before .before .before .before .args .h .energy) (u32-field .into)) ∙ c .before .before .before .before .before .before .before .before .before .before .before .before .before .before .before .before .before .before .before .before .before .before .before .before .good .0 .1 .1 .1 .1 .1 .0 .1 .0 .1), c .before .before .before .before .before .before .before .before .before .clear-market .ensures .1 .1, c .before .before .before .before .before .before .before .before .before .before .before .before .before .before .flows .ensures .small, sym (length-map (c .before .before .before .before .before .before .before .before .before .before .before .before .before .before .before .before .before .before .before .before .before .before .before .before .args .h .energy) (u32-field .into)) ∙ c .before .before .before .before .before .before .before .before .before .before .before .before .before .before .before .before .before .before .before .before .before .before .before .before .good .0 .1 .1 .1 .1 .1 .0 .1 .0 .1)
 
 flows-requires-2 : tie.Need-flows-requires-2
-flows-requires-2 c κs = (c .before .before .before .before .before .before .before .before .before .before .before .before .before .before .before .before .before .before .before .before .before .before .before .before .before .before .before .before .before .before .pre .few, c .before .before .before .before .before .before .before .before .before .before .before .before .before .before .before .before .before .before .before .before .before .before .before .before .before .before .before .before .before .before .pre .crossings, λ i. le-trans (c .before .before .before .before .before .cut .ensures .1 .1 i) (energy-small (c .before .before .before .before .before .before .before .before .before .before .before .before .before .before .before .before .before .before .before .before .before .before .before .before .before .before .before .before .before .before .pre) (omega (arith, c .before .before .before .before .before .before .before .before .before .before .before .before .before .before .before .before .before .before .before .before .before .before .before .before .before .before .before .before .before .before .good)) i))
+flows-requires-2 c κs = (c .before .before .before .before .before .before .before .before .before .before .before .before .before .before .before .before .before .before .before .before .before .before .before .before .before .before .before .before .before .before .pre .few, c .before .before .before .before .before .before .before .before .before .before .before .before .before .before .before .before .before .before .before .before .before .before .before .before .before .before .before .before .before .before .pre .crossings, λ i. le-trans (c .before .before .before .before .before .cut .ensures .1 .1 i) (energy-small (c .before .before .before .before .before .before .before .before .before .before .before .before .before .before .before .before .before .before .before .before .before .before .before .before .before .before .before .before .before .before .pre) (sym (length-map (c .before .before .before .before .before .before .before .before .before .before .before .before .before .before .before .before .before .before .before .before .before .before .before .before .before .before .before .before .before .before .args .h .energy) (u32-field .into)) ∙ c .before .before .before .before .before .before .before .before .before .before .before .before .before .before .before .before .before .before .before .before .before .before .before .before .before .before .before .before .before .before .good .0 .1 .1 .1 .1 .1 .0 .1 .0 .1) i))
 
 returns : tie.Need-returns
 returns c = 
@@ -35,7 +37,7 @@ returns c =
         market-small = c .before .before .before .before .before .before .before .before .before .before .before .before .before .before .before .before .before .before .before .clear-market .ensures .1 .1;
         bilateral-small = c .before .before .before .flows2 .ensures .small;
         matched = c .before .before .before .before .before .before .before .before .before .before .before .before .before .before .before .before .before .before .before .clear-market .ensures .1 .2 .part;
-        executed = λ i. le-trans (c .before .before .before .before .before .before .before .before .before .cut .ensures .1 .1 i) (energy-small (c .before .before .before .before .before .before .before .before .before .before .before .before .before .before .before .before .before .before .before .before .before .before .before .before .before .before .before .before .before .before .before .before .before .before .pre) (omega (arith, c .before .before .before .before .before .before .before .before .before .before .before .before .before .before .before .before .before .before .before .before .before .before .before .before .before .before .before .before .before .before .before .before .before .before .good)) i);
+        executed = λ i. le-trans (c .before .before .before .before .before .before .before .before .before .cut .ensures .1 .1 i) (energy-small (c .before .before .before .before .before .before .before .before .before .before .before .before .before .before .before .before .before .before .before .before .before .before .before .before .before .before .before .before .before .before .before .before .before .before .pre) (sym (length-map (c .before .before .before .before .before .before .before .before .before .before .before .before .before .before .before .before .before .before .before .before .before .before .before .before .before .before .before .before .before .before .before .before .before .before .args .h .energy) (u32-field .into)) ∙ c .before .before .before .before .before .before .before .before .before .before .before .before .before .before .before .before .before .before .before .before .before .before .before .before .before .before .before .before .before .before .before .before .before .before .good .0 .1 .1 .1 .1 .1 .0 .1 .0 .1) i);
       },
     )
 
