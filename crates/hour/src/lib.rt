@@ -267,12 +267,13 @@ fn clear_hour(h: Hour) -> Figures
     let x = h.executions;
     let published = h.published;
     let capacity = h.capacity;
-    let mut executed = h.energy;
+    let energy = h.energy;
     let k = x.count;
-    let before = borders::flows(false, k, &x.border, &x.purchase, &x.legacy, &executed);
+    let before = borders::flows(false, k, &x.border, &x.purchase, &x.legacy, &energy);
     let e = h.offered;
     let m = clear_market(h.offers, e, &published, &capacity, &before);
     let market = m.flows;
+    let mut executed = energy;
     borders::cut(
         &mut executed,
         k,

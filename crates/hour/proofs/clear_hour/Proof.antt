@@ -25,12 +25,12 @@ flows-requires-2 : tie.Need-flows-requires-2
 flows-requires-2 c κs = (c .before .before .before .before .before .before .before .before .before .before .before .before .before .before .before .before .before .before .before .before .before .before .before .before .before .before .before .before .before .before .pre .few, c .before .before .before .before .before .before .before .before .before .before .before .before .before .before .before .before .before .before .before .before .before .before .before .before .before .before .before .before .before .before .pre .crossings, λ i. le-trans (c .before .before .before .before .before .cut .ensures .1 .1 i) (energy-small (c .before .before .before .before .before .before .before .before .before .before .before .before .before .before .before .before .before .before .before .before .before .before .before .before .before .before .before .before .before .before .pre) (sym (length-map (c .before .before .before .before .before .before .before .before .before .before .before .before .before .before .before .before .before .before .before .before .before .before .before .before .before .before .before .before .before .before .args .h .energy) (u32-field .into)) ∙ c .before .before .before .before .before .before .before .before .before .before .before .before .before .before .before .before .before .before .before .before .before .before .before .before .before .before .before .before .before .before .good .0 .1 .1 .1 .1 .1 .0 .1 .0 .1) i))
 
 returns : tie.Need-returns
-returns c = 
+returns c =
     let h = c .before .before .before .before .before .before .before .before .before .before .before .before .before .before .before .before .before .before .before .before .before .before .before .before .before .before .before .before .before .before .before .before .before .before .args .h in
     let xs = execution-flows (h .executions) (h .energy) (c .before .before .before .before .before .before .before .before .before .before .before .before .before .before .before .before .before .before .before .before .before .before .before .before .flows .ensures) in
     let m = c .before .before .before .before .before .before .before .before .before .before .before .before .before .before .before .before .before .before .before .clear-market .ensures .0 (executionsOf (h .executions) (h .energy)) xs in (
       cleared-said h (c .before .before .before .before .before .before .before .before .before .before .before .before .before .before .before .before .before .before .before .before .before .before .before .before .before .before .before .before .before .before .before .before .before .before .pre) m _ _ _
-      (c .before .before .before .before .before .before .before .before .before .cut .ensures .0 (h .executions) (offersOf (h .offers) _ _) refl refl refl (c .before .before .before .before .before .before .before .before .before .before .before .before .before .before .before .before .before .before .before .clear-market .ensures .1 .0) xs (enough-said h (c .before .before .before .before .before .before .before .before .before .before .before .before .before .before .before .before .before .before .before .before .before .before .before .before .before .before .before .before .before .before .before .before .before .before .pre) m)),
+          (c .before .before .before .before .before .before .before .before .before .cut .ensures .0 (h .executions) (offersOf (h .offers) _ _) refl refl refl (c .before .before .before .before .before .before .before .before .before .before .before .before .before .before .before .before .before .before .before .clear-market .ensures .1 .0) xs (enough-said h (c .before .before .before .before .before .before .before .before .before .before .before .before .before .before .before .before .before .before .before .before .before .before .before .before .before .before .before .before .before .before .before .before .before .before .pre) m)),
       record {
         market = c .before .before .before .before .before .before .before .before .before .before .before .before .before .before .before .before .before .before .before .clear-market .ensures .1 .0;
         bilateral = execution-flows (h .executions) _ (c .before .before .before .flows2 .ensures);

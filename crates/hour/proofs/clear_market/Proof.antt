@@ -14,7 +14,7 @@ first-maxima-requires : tie.Need-first-maxima-requires
 first-maxima-requires c κs = (c .before .before .before .before .before .before .pre .0 .few, c .before .before .before .before .before .before .pre .1, c .before .before .before .before .first-match .ensures .energies .part, c .before .before .before .before .before .before .pre .3, c .before .before .before .before .before .before .pre .4)
 
 withdraw-requires : tie.Need-withdraw-requires
-withdraw-requires c κs = 
+withdraw-requires c κs =
     let b = c .before .before .before .before .before .before .before .before .first-match .ensures in
     (c .before .before .before .before .before .before .before .before .before .before .pre .1, b .energies, b .rising, b .falling, b .matching .traded (c .before .before .before .before .before .before .before .before .first-match .result .matched))
 
@@ -25,15 +25,17 @@ price-of-requires : tie.Need-price-of-requires
 price-of-requires c κs = le-trans (c .before .before .before .before .before .before .before .before .before .before .before .before .before .before .before .before .before .before .before .before .first-match .ensures .rising .order .few) (c .before .before .before .before .before .before .before .before .before .before .before .before .before .before .before .before .before .before .before .before .before .before .pre .0 .few)
 
 returns : tie.Need-returns
-returns c = 
+returns c =
     let b = c .before .before .before .before .before .before .before .before .before .before .before .before .before .before .before .before .before .before .before .before .before .first-match .ensures in
     let w = c .before .before .before .before .before .before .before .before .before .before .before .before .withdraw .ensures in (
       λ xs k. market-said (c .before .before .before .before .before .before .before .before .before .before .before .before .before .before .before .before .before .before .before .before .before .before .before .args .t1) (c .before .before .before .before .before .before .before .before .before .before .before .before .before .before .before .before .before .before .before .before .before .before .before .args .before) (c .before .before .before .before .before .before .before .before .before .before .before .before .before .before .before .before .before .before .before .before .before .before .before .args .published .now) (c .before .before .before .before .before .before .before .before .before .before .before .before .before .before .before .before .before .before .before .before .before .before .before .args .capacity .now) xs (b .matching .offers (replicate 128 0))
           (c .before .before .before .before .before .before .before .before .before .before .before .before .before .before .before .before .first-maxima .ensures (c .before .before .before .before .before .before .before .before .before .before .before .before .before .before .before .before .before .before .before .before .before .before .before .args .published .now) (c .before .before .before .before .before .before .before .before .before .before .before .before .before .before .before .before .before .before .before .before .before .before .before .args .before) xs k) w _
           (c .price-of .ensures (c .before .before .before .before .before .before .before .before .before .before .before .before .before .before .before .before .before .before .before .before .before .before .before .args .t1) _ (b .rising) (w .traded)),
-      (market-flows (c .before .before .before .before .before .before .before .before .before .before .before .before .before .before .before .before .before .before .before .before .before .before .before .args .t1) _ _ (c .before .before .before .before .before .before .flows .ensures),
-      c .before .before .before .before .before .before .flows .ensures .small,
-      w .kept),
+      (
+        market-flows (c .before .before .before .before .before .before .before .before .before .before .before .before .before .before .before .before .before .before .before .before .before .before .before .args .t1) _ _ (c .before .before .before .before .before .before .flows .ensures),
+        c .before .before .before .before .before .before .flows .ensures .small,
+        w .kept,
+      ),
     )
 
 pub clear-market-spec : {M : Type 1} → statement M

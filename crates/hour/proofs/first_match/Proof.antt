@@ -11,7 +11,7 @@ sorted-requires-2 : tie.Need-sorted-requires-2
 sorted-requires-2 c κs = (c .before .before .before .before .before .before .before .pre .0 .few, c .before .before .before .before .before .before .before .pre .0 .priced)
 
 returns : tie.Need-returns
-returns c = 
+returns c =
     let a = sorted-along (c .before .before .before .before .before .before .before .before .before .before .before .before .before .before .before .before .pre .0) (c .before .before .before .before .before .before .before .before .before .before .before .before .sorted .ensures) in
     let b = sorted-along (c .before .before .before .before .before .before .before .before .before .before .before .before .before .before .before .before .pre .0) (c .before .before .before .before .before .before .before .before .sorted2 .ensures) in
     let m = c .match-offers .ensures (c .before .before .before .before .before .before .before .before .before .before .before .before .before .before .before .before .args .t1) a b in
