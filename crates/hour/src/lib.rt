@@ -186,8 +186,6 @@ fn withdraw(
     ensures { λ r. ⌜ Withdrew o (now (published .entry)) (now (maxima .entry)) (now (offered .entry)) (now (matched .entry)) (now (offered .exit)) (now (matched .exit)) r ⌝ }
 {
     let n = o.count;
-    let ns = sales.count;
-    let np = purchases.count;
     let mut left = arrays::total(offered, n);
     let mut steps: u32 = 0;
     let mut volume = first;
@@ -207,9 +205,9 @@ fn withdraw(
             &o.legacy,
             &o.price,
             &sales.keys,
-            ns,
+            sales.count,
             &purchases.keys,
-            np,
+            purchases.count,
         );
         left -= 1;
         steps += 1;
@@ -235,7 +233,6 @@ fn clear_market(
     let sales = first.sales;
     let purchases = first.purchases;
     let mut matched = first.matched;
-    let ns = sales.count;
     let maxima = first_maxima(o, &matched, capacity, executions);
     let end = withdraw(
         &mut offered,
@@ -248,7 +245,7 @@ fn clear_market(
         &maxima,
     );
     let flows = borders::flows(false, n, &o.border, &o.purchase, &o.legacy, &matched);
-    let price = matching::price_of(&o.price, &offered, &sales.keys, ns, end.volume);
+    let price = matching::price_of(&o.price, &offered, &sales.keys, sales.count, end.volume);
     Market {
         offered,
         matched,

@@ -10,11 +10,11 @@ use Rattle.hour.proofs.withdraw.Statement.{statement}
 use Rattle.hour.proofs.withdraw.Tie as tie
 
 abbrev Inv-loop : tie.InvT-loop
-Inv-loop offered₀ matched₀ first published maxima o sales purchases n ns np left₀ steps₀ volume₀ offered matched left steps volume =
+Inv-loop offered₀ matched₀ first published maxima o sales purchases n left₀ steps₀ volume₀ offered matched left steps volume =
     (steps + left ≡ left₀) × Energies (o .count) offered matched × Turning o published maxima offered₀ matched₀ offered matched left steps volume
 
 abbrev μ-loop : tie.MeasureT-loop
-μ-loop offered₀ matched₀ first published maxima o sales purchases n ns np left₀ steps₀ volume₀ offered matched left steps volume =
+μ-loop offered₀ matched₀ first published maxima o sales purchases n left₀ steps₀ volume₀ offered matched left steps volume =
     left
 
 total-requires : tie.Need-total-requires Inv-loop μ-loop
