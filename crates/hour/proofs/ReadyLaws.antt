@@ -18,6 +18,12 @@ use Rattle.borders.specs.Flows.{Small}
 use Rattle.hour.specs.declared.Hour.{Hour}
 use Rattle.hour.specs.Ready.{Ready, offersReady, executionsReady, isReady}
 
+below-five : (x : ℕ) → x ≤ 4 → x < 5
+below-five x h = omega arith
+
+up-to-four : (x : ℕ) → x < 5 → x ≤ 4
+up-to-four x h = omega arith
+
 -- an hour that passes the test is ready
 pub ready-holds : (h : Hour) → isReady h ≡ true → Ready h
 unfolding isReady offersReady executionsReady
@@ -38,10 +44,10 @@ ready-holds h e =
         rising = rises-pairs (o .number) (o .count) (s .1);
         priced = above-none maxPrice (o .price) (o .count) (not-true _ (t .1));
       };
-      borders = λ i l. omega (arith, above-none 4 (o .border) (o .count) (not-true _ (u .1)) i l);
+      borders = λ i l. below-five _ (above-none 4 (o .border) (o .count) (not-true _ (u .1)) i l);
       offered = above-none maxEnergy (h .offered) 128 (not-true _ (p .1));
       few = ltb-false 128 (x .count) (not-true _ (v .0));
-      crossings = λ i l. omega (arith, above-none 4 (x .border) (x .count) (not-true _ (v .1)) i l);
+      crossings = λ i l. below-five _ (above-none 4 (x .border) (x .count) (not-true _ (v .1)) i l);
       energies = above-none maxEnergy (h .energy) 128 (not-true _ (b .1));
       capacities = above-none maxEnergy (h .capacity) 10 (not-true _ (a .1));
     }
@@ -52,11 +58,11 @@ unfolding isReady offersReady executionsReady
 ready-told h r =
     rw (
       le-ltb 128 (h .offers .count) (r .sound .few),
-      of-above-none 4 (h .offers .border) (h .offers .count) (λ i l. omega (arith, r .borders i l)),
+      of-above-none 4 (h .offers .border) (h .offers .count) (λ i l. up-to-four _ (r .borders i l)),
       of-above-none maxPrice (h .offers .price) (h .offers .count) (r .sound .priced),
       of-rises-pairs (h .offers .number) (h .offers .count) (r .sound .rising),
       le-ltb 128 (h .executions .count) (r .few),
-      of-above-none 4 (h .executions .border) (h .executions .count) (λ i l. omega (arith, r .crossings i l)),
+      of-above-none 4 (h .executions .border) (h .executions .count) (λ i l. up-to-four _ (r .crossings i l)),
       of-above-none maxEnergy (h .offered) 128 (r .offered),
       of-above-none maxEnergy (h .energy) 128 (r .energies),
       of-above-none maxEnergy (h .capacity) 10 (r .capacities),
