@@ -2,3 +2,4 @@ pub mod PlaceLaws
 pub mod NumberLaws
 pub mod SliceLaws
 pub mod SortLaws
+pub mod TestLaws

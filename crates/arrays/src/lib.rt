@@ -2,9 +2,10 @@
 ghost use mathlib.Core.Path.{_≡_};
 ghost use Prim.Native.Nat.{ℕ, _+_, _-_, _*_, _/_, _≤_, _<_, min, max};
 ghost use mathlib.Core.List.{List, _∷_};
+ghost use lib.Dec.{ltb};
 ghost use lib.ListN.{getD, take, length};
-ghost use Rattle.rules.specs.Lists.{sum};
-ghost use Rattle.arrays.specs.Places.{vals};
+ghost use Rattle.rules.specs.Lists.{sum, any};
+ghost use Rattle.arrays.specs.Places.{vals, rises};
 ghost use Rattle.arrays.specs.Sorting.{sort};
 
 pub fn lower(a: u32, b: u32) -> u32
@@ -74,4 +75,30 @@ pub fn insert(a: &mut [u32; 128], k: usize, x: u32)
         c = higher(c, y);
     }
     a[k] = c;
+}
+
+// Whether one of the first n numbers is above a bound.
+pub fn any_above(a: &[u32], n: usize, most: u32) -> bool
+    requires { ⌜ n ≤ length (now a) ⌝ }
+    ensures { λ r. ⌜ r ≡ any (ltb most) (vals (now (a .entry)) 0 n) ⌝ }
+{
+    for i in 0..n {
+        if most < a[i] {
+            return true;
+        }
+    }
+    false
+}
+
+// Whether the first n numbers rise.
+pub fn rising(a: &[u32; 128], n: usize) -> bool
+    requires { ⌜ n ≤ 128 ⌝ }
+    ensures { λ r. ⌜ r ≡ rises (vals (now (a .entry)) 0 n) ⌝ }
+{
+    for i in 1..n {
+        if a[i] <= a[i - 1] {
+            return false;
+        }
+    }
+    true
 }

@@ -6,34 +6,43 @@
 //     r BYTE BYTE ..                 a message read; bytes in hexadecimal
 //     w ROOM EXECUTION DEFAULT UNIT CONTRACT MAP, 25 energies, 25 prices
 //                                    a message written into ROOM bytes that all hold A5, and what they then hold
+//     o NUMBER BORDER PURCHASE LEGACY ENERGY PRICE
+//                                    an offer of the next hour
+//     x NUMBER BORDER PURCHASE ENERGY
+//                                    an execution of it
+//     k BORDER EXPORT ENERGY         a capacity of it
+//     h                              the hour so given, cleared; the next begins
 //
 // Any other line is written as it stands. tests/figures makes the input and, from the independent model, what is expected.
 use calendar::Clock;
 use calendar::Counted;
 use calendar::Date;
 use calendar::Named;
+use hour::Hour;
 use message::Fields;
 ghost use mathlib.Core.Path.{_≡_};
 ghost use Prim.Native.Nat.{_≤_, _<_};
 ghost use lib.ListN.{length};
 
+mod hours;
+
 const STDIN: i32 = 0;
 
-const STDOUT: i32 = 1;
+pub const STDOUT: i32 = 1;
 
 // The numbers of a line so far, and the one that is being read.
-struct Numbers {
-    count: usize,
-    values: [u32; 128],
-    within: bool,
-    value: u32,
+pub struct Numbers {
+    pub count: usize,
+    pub values: [u32; 128],
+    pub within: bool,
+    pub value: u32,
 }
 
-fn put(s: &[u8]) {
+pub fn put(s: &[u8]) {
     io::write_all(STDOUT, s);
 }
 
-fn put_number(n: u32) {
+pub fn put_number(n: u32) {
     io::print_decimal(STDOUT, n as u64);
 }
 
@@ -274,12 +283,9 @@ fn answer_write(n: Numbers) {
     write_first(m, &mut buffer, room);
 }
 
-fn answer(line: &[u8]) {
-    if line.len() == 0 {
-        return;
-    }
-    let kind = line[0];
-    let tens = numbers_of(&line[1..], false);
+fn answer_plain(line: &[u8], kind: u8, tens: Numbers)
+    requires { ⌜ 0 < length (now line) ⌝ }
+{
     match kind {
         b'd' => put_counted(calendar::hours_at(date_of(tens))),
         b'c' => put_named(calendar::clock_at(date_of(tens), tens.values[3])),
@@ -299,6 +305,20 @@ fn answer(line: &[u8]) {
     }
 }
 
+// A line's answer, and the hour that is being given after it.
+fn answer(line: &[u8], h: Hour) -> Hour {
+    if line.len() == 0 {
+        return h;
+    }
+    let kind = line[0];
+    let tens = numbers_of(&line[1..], false);
+    if hours::is_part(kind) {
+        return hours::after(h, kind, tens);
+    }
+    answer_plain(line, kind, tens);
+    h
+}
+
 // The place of the next line end from `at` on, or the end.
 fn line_end(s: &[u8], at: usize) -> usize
     requires { ⌜ at ≤ length (now s) ⌝ }
@@ -314,9 +334,11 @@ fn line_end(s: &[u8], at: usize) -> usize
 
 fn answer_all(s: &[u8]) {
     let mut at: usize = 0;
+    let mut h = hours::no_hour();
     while at < s.len() {
         let end = line_end(s, at);
-        answer(&s[at..end]);
+        let next = answer(&s[at..end], h);
+        h = next;
         at = end + 1;
     }
 }

@@ -1,0 +1,19 @@
+use mathlib.Core.Path.{sym, _∙_}
+use Rattle.rules.proofs.BoolLaws.{not-both}
+use Rattle.hour.proofs.ReadyLaws.{ready-holds}
+use borrow.Author.Needs.{needs}
+use Rattle.hour.proofs.clear.Statement.{statement}
+use Rattle.hour.proofs.clear.Tie as tie
+
+clear-hour-requires : tie.Need-clear-hour-requires
+clear-hour-requires c κs = ready-holds (c .before .before .args .h) (sym (c .before .ready .ensures) ∙ c .if1 .taken)
+
+returns : tie.Need-returns
+returns c = (sym (c .before .if1 .taken) ∙ c .before .before .ready .ensures, (λ e. c .clear-hour .ensures, λ e. not-both (sym (c .before .before .ready .ensures) ∙ c .before .if1 .taken) e))
+
+returns-2 : tie.Need-returns-2
+returns-2 c = (sym (c .before .if1 .left) ∙ c .before .before .ready .ensures, (λ e. not-both e (sym (c .before .before .ready .ensures) ∙ c .before .if1 .left), λ e. c .no-figures .ensures))
+
+pub clear-spec : {M : Type 1} → statement M
+clear-spec =
+    tie.close (tie.spec (λ c κs. search needs) clear-hour-requires returns (λ c κs. search needs) returns-2)

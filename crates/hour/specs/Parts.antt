@@ -1,0 +1,62 @@
+-- What the parts of an hour's clearing leave to one another.
+use Prim.Native.Nat.{ℕ, _≤_, _<_}
+use mathlib.Core.Path.{_≡_}
+use mathlib.Core.Bool.{Bool, true, false}
+use mathlib.Core.List.{List}
+use lib.ListN.{getD, length, replicate}
+use Rattle.rules.specs.Units.{maxEnergy}
+use Rattle.rules.specs.Match.{volume}
+use Rattle.rules.specs.Borders.{Execution}
+use Rattle.rules.specs.Withdrawal.{Withdrawn, repeat, withdraw}
+use Rattle.rules.specs.Clearing as C
+use Rattle.matching.specs.declared.Offers.{Offers}
+use Rattle.matching.specs.View.{Matched, offersOf}
+use Rattle.matching.specs.Orders.{Along}
+use Rattle.borders.specs.Ways.{publishedIn}
+use Rattle.hour.specs.declared.First.{First}
+use Rattle.hour.specs.declared.Ended.{Ended}
+use Rattle.hour.specs.declared.Market.{Market}
+
+abbrev pub hourOf : Offers → List ℕ → List Bool → List ℕ → List Execution → C.Hour
+hourOf o offered published capacity xs = record {
+  capacities = publishedIn published capacity;
+  offers = offersOf o offered (replicate 128 0);
+  executions = xs;
+}
+
+-- the first n are at borders 0 to 4
+abbrev pub Crossing : ℕ → List ℕ → Type 0
+Crossing n border = (i : ℕ) → i < n → getD border i 0 < 5
+
+-- what is offered and matched of n offers: in the range of energies, and no more matched than offered
+pub record Energies (n : ℕ) (offered matched : List ℕ) : Type 0 where
+  pub small : (i : ℕ) → getD offered i 0 ≤ maxEnergy
+  pub part : (i : ℕ) → getD matched i 0 ≤ maxEnergy
+  pub within : (i : ℕ) → i < n → getD matched i 0 ≤ getD offered i 0
+  pub offered-long : length offered ≡ 128
+  pub matched-long : length matched ≡ 128
+
+-- the first match of what is offered
+pub record Begun (o : Offers) (offered : List ℕ) (r : First) : Type 0 where
+  pub rising : Along false o (o .price) (r .sales .keys) (r .sales .count)
+  pub falling : Along true o (o .price) (r .purchases .keys) (r .purchases .count)
+  pub matching : Matched o offered (replicate 128 0) (r .matched) (r .volume)
+  pub energies : Energies (o .count) offered (r .matched)
+
+-- a withdrawal, from energies e, m to e′, m′
+pub record Withdrew (h : Offers) (published : List Bool) (maxima e m e′ m′ : List ℕ) (r : Ended) : Type 0 where
+  pub done : withdraw (publishedIn published maxima) (offersOf h e m) ≡ record { offers = offersOf h e′ m′; steps = r .steps }
+  pub traded : r .volume ≡ volume (offersOf h e′ m′)
+  pub kept : Energies (h .count) e′ m′
+
+-- a withdrawal of which some steps are made, with `left` to come at most: energies e, m now, e₀, m₀ at its start
+pub record Turning (h : Offers) (published : List Bool) (maxima e₀ m₀ e m : List ℕ) (left steps v : ℕ) : Type 0 where
+  pub ahead : repeat left (publishedIn published maxima) (offersOf h e m) steps ≡ withdraw (publishedIn published maxima) (offersOf h e₀ m₀)
+  pub traded : v ≡ volume (offersOf h e m)
+
+-- the market's part of an hour with executions xs is the rules'
+pub record MarketCleared (o : Offers) (offered : List ℕ) (published : List Bool) (capacity : List ℕ) (xs : List Execution) (r : Market) : Type 0 where
+  pub offers : C.clearHour (hourOf o offered published capacity xs) .offers ≡ offersOf o (r .offered) (r .matched)
+  pub maxima : C.clearHour (hourOf o offered published capacity xs) .maxima ≡ publishedIn published (r .maxima)
+  pub steps : C.clearHour (hourOf o offered published capacity xs) .steps ≡ r .steps
+  pub price : C.clearHour (hourOf o offered published capacity xs) .price ≡ r .price
