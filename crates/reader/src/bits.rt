@@ -12,7 +12,7 @@ fn joined(a: u8, b: u8, c: u8, d: u8) -> u64
 }
 
 // The byte at place i, 0 past the end.
-fn byte_at(s: &[u8], i: usize) -> u8
+pub fn byte_at(s: &[u8], i: usize) -> u8
     ensures { λ r. ⌜ r ≡ getD (now (s .entry)) i 0 ⌝ }
 {
     if i < s.len() {

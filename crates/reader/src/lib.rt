@@ -1,5 +1,5 @@
 // Reading a lodging message.
-mod bits;
+pub mod bits;
 
 use bits::word_at;
 use message::Fields;

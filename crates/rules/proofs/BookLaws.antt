@@ -444,7 +444,7 @@ module _ (b : Book) (x y : Bool) where
   judgeEach-stage before (l ∷ ls) = ap {B = List Judged} (λ js. record { lodgement = l; verdict = judge b before l } ∷ js) (judgeEach-stage (cond (isAccepted (judge b before l)) (l ∷ before) before) ls)
 
   -- and so no verdict
-  stage-judgements : judgements (withStage b x y) ≡ judgements b
+  pub stage-judgements : judgements (withStage b x y) ≡ judgements b
   unfolding judgements withStage
   stage-judgements = judgeEach-stage [] (closingOrder (b .standing))
 

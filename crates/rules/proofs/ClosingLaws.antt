@@ -1,6 +1,6 @@
 -- Closing: a lodgement is refused exactly when its energy with that accepted before it passes the ceiling, and what is accepted keeps within it.
 use Prim.Native.Nat.{ℕ, _+_, _≤_, _<_, zero-le}
-use mathlib.Core.Path.{_≡_, refl, ap, sym, _∙_}
+use mathlib.Core.Path.{_≡_, refl, ap, sym, _∙_, fun-ext}
 use mathlib.Core.Logic.{_↔_}
 use mathlib.Core.Bool.{Bool, true, false, cond, not, _&&_, and-comm, and-assoc, true≢false}
 use mathlib.Core.List.{List, [], _∷_}
@@ -316,11 +316,21 @@ module _ (b : Book) (numbered : Numbered (b .standing)) where
   unfolding verdictOf judgements loadAt energyWith keep sumOf sum
   placed l t e = record { before = t .before; verdict = t .verdict; load = λ h. omega (arith, t .energy h, before-sum l h e) }
 
+  -- so is each unhidden one
+  all-placed : All (λ l. isHidden (b .standing) l ≡ false → Placed b l) (b .standing)
+  all-placed =
+      let d = ordered-distinct (b .standing) standing-distinct in
+      all-unordered (b .standing) (all-both placed (taken b [] d) (ahead-taken (order-taken (b .standing) numbered) d))
+
   -- closing gives each standing lodgement its verdict as demand 3 says
   pub closing-exactly : All (Judgement b) (b .standing)
-  closing-exactly =
-      let d = ordered-distinct (b .standing) standing-distinct in
-      all-both (judgement b) (all-unordered (b .standing) (all-both placed (taken b [] d) (ahead-taken (order-taken (b .standing) numbered) d))) hidden-verdicts
+  closing-exactly = all-both (judgement b) all-placed hidden-verdicts
+
+  -- an unhidden one's verdict is that of its limits against its energy with that accepted before it on its unit
+  pub verdict-with : All (λ l. isHidden (b .standing) l ≡ false
+      → verdictOf b l ≡ verdictOfRow (firstRow (limitRows (hours b) (l .energies) (energyWith b l) (limits (b .capacities) (unitOf (b .units) (l .key .unit)))))) (b .standing)
+  unfolding judge
+  verdict-with = all-map (λ l t e. t e .verdict ∙ ap (λ load. verdictOfRow (firstRow (limitRows (hours b) (l .energies) load (limits (b .capacities) (unitOf (b .units) (l .key .unit)))))) (fun-ext (t e .load))) all-placed
 
   -- "no unit's energy passes its ceiling": in each hour the energies of a unit's accepted lodgements sum to at most its ceiling
   pub accepted-within : (u h : ℕ) → 1 ≤ h → h ≤ hours b → energyOn u h (acceptedAt b) ≤ ceiling (b .capacities) (unitOf (b .units) u) h

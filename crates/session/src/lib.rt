@@ -153,7 +153,7 @@ fn no_notice() -> Notice
     }
 }
 
-fn no_lodgement() -> Lodgement
+pub fn no_lodgement() -> Lodgement
     ensures { λ r. ⌜ r ≡ noLodgement ⌝ }
 {
     let key = Key {
@@ -168,7 +168,7 @@ fn no_lodgement() -> Lodgement
     }
 }
 
-fn no_energies() -> Energies
+pub fn no_energies() -> Energies
     ensures { λ r. ⌜ r ≡ noEnergies ⌝ }
 {
     Energies {
@@ -177,7 +177,7 @@ fn no_energies() -> Energies
     }
 }
 
-fn no_verdict() -> Verdict
+pub fn no_verdict() -> Verdict
     ensures { λ r. ⌜ r ≡ noVerdict ⌝ }
 {
     Verdict {

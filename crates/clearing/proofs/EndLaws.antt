@@ -1,0 +1,219 @@
+-- The hours of a session that stands for a closed book, one after the other, and the call's ways out.
+use Prim.Native.Nat.{ℕ, zero, suc, _+_, _≤_, _<_}
+use mathlib.Core.Path.{_≡_, refl, sym, ap, ap₂, _∙_}
+use mathlib.Core.Bool.{Bool, true, false, cond, not, _||_}
+use mathlib.Core.List.{List, [], _∷_, _++_, map, map-map}
+use mathlib.Core.Option.{none as nothing}
+use native.Mathlib.Omega.{arith}
+use native.Mathlib.Numerals.{add-one}
+use lib.Dec.{eqb}
+use lib.ListN.{getD, length, take, set, replicate, length-map}
+use borrow.Author.Tests.{not-false}
+use Rattle.rules.specs.Lists.{sum, sumOf, from, keep}
+use Rattle.rules.specs.Refusals.{row, firstRow}
+use Rattle.rules.specs.Units as U
+use Rattle.rules.specs.Match.{Offer}
+use Rattle.rules.specs.Borders.{Execution}
+use Rattle.rules.specs.Book as B
+use Rattle.rules.specs.Closing as C
+use Rattle.rules.specs.Clearing as R
+use Rattle.rules.specs.Queries.{matchedAt, executedAt}
+use Rattle.rules.specs.DayBook as D
+use Rattle.rules.proofs.BoolLaws.{by-bool, neither, not-both}
+use Rattle.rules.proofs.ListLaws.{all-head}
+use Rattle.rules.proofs.RefusalLaws.{accepted-rows}
+use Rattle.rules.proofs.BookLaws.{verdicts-kept, figures-kept}
+use Rattle.arrays.proofs.PlaceLaws.{zeros}
+use Rattle.hour.specs.declared.Hour.{Hour}
+use Rattle.hour.specs.declared.Figures.{Figures}
+use Rattle.hour.specs.Ready.{isReady}
+use Rattle.hour.specs.View.{hourIn, figuresIn, noFigures, AtBorders}
+use Rattle.hour.proofs.ReadyLaws.{ready-told}
+use Rattle.session.specs.declared.Session.{Session}
+use Rattle.session.specs.declared.Unit.{Unit}
+use Rattle.session.specs.declared.Cleared.{Cleared}
+use Rattle.session.specs.declared.Judged.the-variants.{No, Clear}
+use Rattle.session.specs.declared.Answer.the-variants.{Steps}
+use Rattle.session.specs.Laid.{pad}
+use Rattle.session.specs.Image as I
+use Rattle.session.specs.Steps.{said, isRefusal}
+use Rattle.session.specs.Parts.{Judges, Entered}
+use Rattle.session.proofs.LaidLaws.{map-last, set-pad}
+use Rattle.session.proofs.ImageLaws.{closed-as, cleared-as, hours-as, units-as}
+use Rattle.clearing.specs.declared.HourEnd.{HourEnd}
+use Rattle.clearing.specs.Built.{Holders, Built}
+use Rattle.clearing.specs.Shown.{clearedAs, HourAs, HoursAs}
+use Rattle.clearing.proofs.FigureLaws.{length-from}
+use Rattle.clearing.proofs.HourLaws.{hour-as}
+use Rattle.clearing.proofs.ReadyLaws.{hour-ready}
+
+-- One hour
+
+-- the book's figures, laid out for its units
+figures-as : (b : B.Book) (h : ℕ) → I.figuresAs b h ≡ clearedAs (R.figuresAt b h) (map I.unitOf (b .units))
+unfolding I.figuresAs I.byUnit clearedAs matchedAt executedAt
+figures-as b h =
+    ap₂ (λ ms xs. record {
+      price = R.figuresAt b h .price;
+      market = clearedAs (R.figuresAt b h) [] .market;
+      bilateral = clearedAs (R.figuresAt b h) [] .bilateral;
+      maxima = clearedAs (R.figuresAt b h) [] .maxima;
+      matched = pad 64 0 ms;
+      executed = pad 64 0 xs;
+    })
+    (sym (map-map (λ (u : Unit). sumOf (λ (o : Offer). o .matched) (keep (λ o. eqb (o .holder .unit) (u .number)) (R.figuresAt b h .offers))) I.unitOf (b .units)))
+    (sym (map-map (λ (u : Unit). sumOf (λ (x : Execution). x .energy) (keep (λ x. eqb (x .holder .unit) (u .number)) (R.figuresAt b h .executions))) I.unitOf (b .units)))
+
+pub hour-told : (s : Session) (hs : List Unit) (k : ℕ) (h : Hour) (f : Figures) (r : Cleared) → Holders s hs → Built s hs k h
+    → (isReady h ≡ true → (figuresIn h f ≡ R.clearHour (hourIn h)) × AtBorders h f)
+    → (AtBorders h f → r ≡ clearedAs (figuresIn h f) (take (s .enrolled) (s .units)))
+    → HourAs s k (record { steps = f .steps; figures = r })
+unfolding figuresIn R.figuresAt
+hour-told s hs k h f r holders t q p b sound closed e =
+    let g = q (ready-told h (hour-ready s b e sound closed hs holders k h t)) in
+    let a : figuresIn h f ≡ R.figuresAt b (suc k) = g .0 ∙ figured in
+    (p (g .1) ∙ (ap₂ clearedAs a (units-as s b e) ∙ sym (figures-as b (suc k))), steps a)
+  where
+    figured : R.clearHour (hourIn h) ≡ R.figuresAt b (suc k)
+    figured = ap R.clearHour (hour-as s b e closed hs holders k h t (sound .directions))
+
+    steps : figuresIn h f ≡ R.figuresAt b (suc k) → f .steps ≡ R.figuresAt b (suc k) .steps
+    steps a = ap (λ (x : R.Figures). x .steps) a
+
+-- energies in range, whether the hour was ready or not
+pub figures-small : (h : Hour) (f : Figures) → (isReady h ≡ true → (figuresIn h f ≡ R.clearHour (hourIn h)) × AtBorders h f) → (isReady h ≡ false → f ≡ noFigures)
+    → ((i : ℕ) → getD (f .matched) i 0 ≤ U.maxEnergy) × ((i : ℕ) → getD (f .executed) i 0 ≤ U.maxEnergy)
+unfolding noFigures
+figures-small h f p q =
+    by-bool (isReady h) (λ t. (p t .1 .matched, p t .1 .executed))
+    (λ t. ((λ i. omega (arith, ap (λ (g : Figures). getD (g .matched) i 0) (q t), zeros 128 i)), (λ i. omega (arith, ap (λ (g : Figures). getD (g .executed) i 0) (q t), zeros 128 i))))
+
+-- The loop over the hours
+
+from-last : (a n : ℕ) → from a (suc n) ≡ from a n ++ ((a + n) ∷ [])
+unfolding from
+from-last a zero = let o : a + 0 ≡ a = omega arith in rw o
+from-last a (suc n) = let o : a + suc n ≡ suc a + n = omega arith in rw o (ap (λ (l : List ℕ). a ∷ l) (from-last (suc a) n))
+
+sum-last : (f : ℕ → ℕ) (l : List ℕ) (x : ℕ) → sumOf f (l ++ (x ∷ [])) ≡ sumOf f l + f x
+unfolding sumOf sum
+sum-last f [] x = omega arith
+sum-last f (y ∷ l) x = ap (λ n. f y + n) (sum-last f l x) ∙ omega arith
+
+pub hours-start : (s : Session) (x : Cleared) → x ≡ I.noFigures → HoursAs s 0 (replicate 25 x) 0
+unfolding pad from sumOf sum
+hours-start s x q b sound closed e = (rw q refl, refl)
+
+pub hours-end : (s : Session) (k n : ℕ) (figures : List Cleared) (steps : ℕ) → k ≡ n → HoursAs s k figures steps → HoursAs s n figures steps
+hours-end s k n figures steps q a b sound closed e = rw (← q) (a b sound closed e)
+
+pub hours-next : (s : Session) (k : ℕ) (figures : List Cleared) (steps x : ℕ) (r : HourEnd) → HoursAs s k figures steps → HourAs s k r → x ≡ r .steps → k < 25 → HoursAs s (k + 1) (set figures k (r .figures)) (steps + x)
+hours-next s k figures steps x r a c q h b sound closed e =
+    let g = a b sound closed e in
+    let p = c b sound closed e in
+    let l : from 1 (k + 1) ≡ from 1 k ++ (suc k ∷ []) = rw add-one (from-last 1 k ∙ (let o : 1 + k ≡ suc k = omega arith in rw o)) in
+    let n : length (map (I.figuresAs b) (from 1 k)) ≡ k = length-map (from 1 k) (I.figuresAs b) ∙ length-from 1 k in (
+      rw (g .0, p .0, l) (set-pad 25 I.noFigures (map (I.figuresAs b) (from 1 k)) k (I.figuresAs b (suc k)) (sym n) (omega arith)
+          ∙ ap (pad 25 I.noFigures) (sym (map-last (I.figuresAs b) (from 1 k) (suc k)))),
+      rw (g .1, q, p .1, l) (sym (sum-last (λ i. R.figuresAt b i .steps) (from 1 k) (suc k))),
+    )
+
+-- The call
+
+module _ (s : Session) where
+  -- "clearing twice"
+  pub clear-twice : s .cleared ≡ true → Judges s D.clear (No 2 0)
+  unfolding D.rowsOf row firstRow
+  clear-twice h b e = by-bool (b .closed) (λ t. rw (t, cleared-as s b e, h)) (λ t. rw t)
+
+  -- "clearing [..] before closing"
+  pub clear-early : s .closed ≡ false → Judges s D.clear (No 2 0)
+  unfolding D.rowsOf row firstRow
+  clear-early h b e = rw (closed-as s b e, h)
+
+  pub clear-0 : s .closed ≡ true → s .cleared ≡ false → Judges s D.clear Clear
+  unfolding D.rowsOf row firstRow
+  clear-0 h k b e = rw (closed-as s b e, h, cleared-as s b e, k)
+
+-- a session with its figures
+abbrev pub withFigures : Session → List Cleared → Session
+withFigures s figures = record {
+  date = s .date;
+  hours = s .hours;
+  enrolled = s .enrolled;
+  units = s .units;
+  notices = s .notices;
+  capacities = s .capacities;
+  standing = s .standing;
+  lodgements = s .lodgements;
+  energies = s .energies;
+  last = s .last;
+  closed = s .closed;
+  cleared = true;
+  verdicts = s .verdicts;
+  figures = figures;
+}
+
+module _ (b : B.Book) (o : firstRow (D.rowsOf b D.clear) ≡ nothing) where
+  closed-now : b .closed ≡ true
+  unfolding D.rowsOf row
+  closed-now = not-false (b .closed) (neither (not (b .closed)) (b .cleared) (all-head (accepted-rows _ o)) .0)
+
+  after-clear : D.after b (D.clear ∷ []) ≡ D.applied b D.clear
+  unfolding D.after D.turn D.turned
+  after-clear = ap (λ x. D.turned b D.clear x .book) o
+
+  -- clearing changes no verdict and no figure
+  same-verdicts : I.verdictsIn (D.applied b D.clear) ≡ I.verdictsIn b
+  unfolding I.verdictsIn C.verdicts D.applied D.withStage
+  same-verdicts =
+      ap (λ js. cond (b .closed) (map (λ l. C.verdictAmong js (l .number)) (b .standing)) [])
+      (ap C.judgements (sym after-clear) ∙ verdicts-kept b (D.clear ∷ []) closed-now)
+
+  same-figures : (h : ℕ) → I.figuresAs (D.applied b D.clear) h ≡ I.figuresAs b h
+  unfolding D.applied D.withStage
+  same-figures h =
+      figures-as (D.applied b D.clear) h
+      ∙ (ap (λ x. clearedAs x (map I.unitOf (b .units))) (ap (λ (k : B.Book). R.figuresAt k h) (sym after-clear) ∙ figures-kept b (D.clear ∷ []) h closed-now)
+      ∙ sym (figures-as b h))
+
+  all-figures : (hs : List ℕ) → map (I.figuresAs b) hs ≡ map (I.figuresAs (D.applied b D.clear)) hs
+  all-figures [] = refl
+  all-figures (h ∷ hs) = ap₂ (λ x xs. x ∷ xs) (sym (same-figures h)) (all-figures hs)
+
+  cleared-image : (figures : List Cleared) → figures ≡ pad 25 I.noFigures (map (I.figuresAs b) (from 1 (B.hours b))) → withFigures (I.image b) figures ≡ I.image (D.applied b D.clear)
+  unfolding I.image I.hoursIn D.applied D.withStage B.hours
+  cleared-image figures e =
+      ap₂ (λ vs fs. record {
+        date = I.dateAs (b .date);
+        hours = B.hours b;
+        enrolled = length (b .units);
+        units = pad 64 I.noUnit (map I.unitOf (b .units));
+        notices = pad 64 I.noNotice (map I.noticeOf (b .units));
+        capacities = map I.noticeAs (b .capacities);
+        standing = length (b .standing);
+        lodgements = pad 128 I.noLodgement (map I.lodgementAs (b .standing));
+        energies = pad 128 I.noEnergies (map I.energiesAs (b .standing));
+        last = b .last;
+        closed = b .closed;
+        cleared = true;
+        verdicts = pad 128 I.noVerdict (map I.verdictAs vs);
+        figures = fs;
+      }) (sym same-verdicts) (e ∙ ap (pad 25 I.noFigures) (all-figures (from 1 (B.hours b))))
+
+day-steps : (b : B.Book) (n : ℕ) → n ≡ sumOf (λ h. R.figuresAt b h .steps) (from 1 (B.hours b)) → D.steps n ≡ D.reply b D.clear
+unfolding D.reply R.daySteps R.figuresAt
+day-steps b n e = ap D.steps e
+
+pub clear-entered : (s : Session) (figures : List Cleared) (steps : ℕ) → HoursAs s (s .hours) figures steps → Entered s D.clear (record { session = withFigures s figures; answer = Steps steps })
+unfolding said isRefusal
+clear-entered s figures steps d = record {
+  book = λ b sound o e.
+      let g = d b sound (closed-now b o) e in
+      let n = hours-as s b e in
+      record {
+        answer = day-steps b steps (g .1 ∙ ap (λ k. sumOf (λ h. R.figuresAt b h .steps) (from 1 k)) (sym n));
+        session = ap (λ (x : Session). withFigures x figures) e ∙ cleared-image b o figures (g .0 ∙ ap (λ k. pad 25 I.noFigures (map (I.figuresAs b) (from 1 k))) (sym n));
+      };
+  fine = refl;
+}

@@ -1,0 +1,13 @@
+use Rattle.clearing.proofs.EndLaws.{clear-entered}
+use borrow.Author.Needs.{needs}
+use Rattle.clearing.proofs.enter_clear.Statement.{statement}
+use Rattle.clearing.proofs.enter_clear.Tie as tie
+
+clear-hours-requires : tie.Need-clear-hours-requires
+clear-hours-requires c κs = search needs
+
+returns : tie.Need-returns
+returns c = clear-entered _ _ _ (c .before .clear-hours .ensures)
+
+pub enter-clear-spec : {M : Type 1} → statement M
+enter-clear-spec = tie.close (tie.spec clear-hours-requires returns)

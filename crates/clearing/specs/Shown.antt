@@ -1,0 +1,63 @@
+-- An hour's figures as the session keeps them.
+use Prim.Native.Nat.{ℕ, suc}
+use mathlib.Core.Path.{_≡_}
+use mathlib.Core.Bool.{Bool, true, false, cond}
+use mathlib.Core.List.{List, map}
+use lib.Dec.{ltb, eqb}
+use lib.ListN.{getD}
+use Rattle.rules.specs.Lists.{keep, sumOf, from}
+use Rattle.rules.specs.Match.{Offer}
+use Rattle.rules.specs.Borders.{Execution, flow}
+use Rattle.rules.specs.Book.{Book}
+use Rattle.rules.specs.Clearing as C
+use Rattle.session.specs.declared.Unit.{Unit}
+use Rattle.session.specs.declared.Cleared.{Cleared}
+use Rattle.session.specs.declared.Session.{Session}
+use Rattle.session.specs.Laid.{pad}
+use Rattle.session.specs.Image.{Sound, image, noUnit, noFigures, byWay, energyOf, figuresAs}
+use Rattle.clearing.specs.declared.HourEnd.{HourEnd}
+use Rattle.clearing.specs.declared.DayEnd.{DayEnd}
+
+-- Energies of a unit, from arrays
+
+-- what the holder at an index adds to a unit's energy
+unfoldable pub addsTo : List ℕ → List ℕ → ℕ → ℕ → ℕ
+addsTo unit energy u i = cond (eqb (getD unit i 0) u) (getD energy i 0) 0
+
+-- the energy of a unit among the first n holders
+unfoldable pub unitEnergy : List ℕ → List ℕ → ℕ → ℕ → ℕ
+unitEnergy unit energy n u = sumOf (addsTo unit energy u) (from 0 n)
+
+-- that of the unit at a place
+unfoldable pub energyAtPlace : List Unit → List ℕ → List ℕ → ℕ → ℕ → ℕ
+energyAtPlace us unit energy n p = unitEnergy unit energy n (getD us p noUnit .number)
+
+-- A maximum, by way
+
+-- "absent without capacity": the session keeps 0 there, as for border 0
+unfoldable pub shownAt : List Bool → List ℕ → ℕ → ℕ
+shownAt flags maxima w = cond (ltb w 2) 0 (cond (getD flags w false) (getD maxima w 0) 0)
+
+-- The rules' figures of an hour, laid out for some units
+
+unfoldable pub clearedAs : C.Figures → List Unit → Cleared
+clearedAs x us = record {
+  price = x .price;
+  market = byWay (λ border export. flow (λ o. o .holder) (λ o. o .matched) border export (x .offers));
+  bilateral = byWay (λ border export. flow (λ x. x .holder) (λ x. x .energy) border export (x .executions));
+  maxima = byWay (energyOf (x .maxima));
+  matched = pad 64 0 (map (λ u. sumOf (λ (o : Offer). o .matched) (keep (λ o. eqb (o .holder .unit) (u .number)) (x .offers))) us);
+  executed = pad 64 0 (map (λ u. sumOf (λ (x : Execution). x .energy) (keep (λ x. eqb (x .holder .unit) (u .number)) (x .executions))) us);
+}
+
+-- What a session's hours come to
+
+-- the hour at place k of a session that stands for a closed book
+abbrev pub HourAs : Session → ℕ → HourEnd → Type 0
+HourAs s k r = (b : Book) → Sound b → b .closed ≡ true → s ≡ image b → (r .figures ≡ figuresAs b (suc k)) × (r .steps ≡ C.figuresAt b (suc k) .steps)
+
+-- its first n hours
+abbrev pub HoursAs : Session → ℕ → List Cleared → ℕ → Type 0
+HoursAs s n figures steps =
+    (b : Book) → Sound b → b .closed ≡ true → s ≡ image b
+    → (figures ≡ pad 25 noFigures (map (figuresAs b) (from 1 n))) × (steps ≡ sumOf (λ h. C.figuresAt b h .steps) (from 1 n))

@@ -1,0 +1,121 @@
+// Clearing a session's day, hour by hour (document 01, "Clearing, hour by hour").
+ghost use mathlib.Core.Path.{_≡_};
+ghost use Prim.Native.Nat.{_≤_, _<_};
+ghost use Rattle.rules.specs.DayBook.{clear};
+ghost use Rattle.session.specs.Steps.{Met};
+ghost use Rattle.session.specs.Parts.{Within, Judges, Entered};
+ghost use Rattle.clearing.specs.Built.{Holders};
+ghost use Rattle.clearing.specs.Shown.{HourAs, HoursAs};
+use session::Answer;
+use session::Cleared;
+use session::GATE;
+use session::Judged;
+use session::Session;
+use session::Turn;
+use session::Unit;
+
+mod figures;
+mod hours;
+
+// The places of some of the session's lodgements, in the order of their numbers.
+pub struct Places {
+    pub count: usize,
+    pub at: [usize; 128],
+}
+
+// Capacities of an hour by direction (`borders::way`): whether published, and the energy.
+pub struct Published {
+    pub flags: [bool; 10],
+    pub energies: [u32; 10],
+}
+
+// An hour's withdrawal steps and figures.
+pub struct HourEnd {
+    pub steps: u32,
+    pub figures: Cleared,
+}
+
+// The day's: "The count of withdrawal steps, summed over the hours", and the figures in the hours' places.
+pub struct DayEnd {
+    pub steps: u64,
+    pub figures: [Cleared; 25],
+}
+
+// The hour at place k, `holders` being the units of the lodgements. An hour that no session of calls has, one that is not
+// ready, gets figures of 0.
+fn clear_hour(s: Session, holders: [Unit; 128], k: usize) -> HourEnd
+    requires { ⌜ Within s × Holders s holders × (k < 25) ⌝ }
+    ensures { λ r. ⌜ HourAs s k r ⌝ }
+{
+    let h = hours::hour_at(s, holders, k);
+    let c = hour::clear(h);
+    let f = c.figures;
+    let units = s.units;
+    let figures = figures::kept(units, s.enrolled, h, f);
+    HourEnd {
+        steps: f.steps,
+        figures,
+    }
+}
+
+// Every hour of the day, 1 to H.
+fn clear_hours(s: Session) -> DayEnd
+    requires { ⌜ Within s ⌝ }
+    ensures { λ r. ⌜ HoursAs s (s .hours) (r .figures) (r .steps) ⌝ }
+{
+    let holders = hours::holders(s);
+    let none = session::no_figures();
+    let n = s.hours as usize;
+    let mut figures = [none; 25];
+    let mut steps: u64 = 0;
+    for k in 0..n {
+        let e = clear_hour(s, holders, k);
+        let f = e.figures;
+        figures[k] = f;
+        steps += arrays::wide(e.steps);
+    }
+    DayEnd { steps, figures }
+}
+
+// The refusal that applies to clearing: 2, "clearing [..] before closing", "closing or clearing twice".
+fn judge_clear(s: Session) -> Judged
+    ensures { λ r. ⌜ Judges s clear r ⌝ }
+{
+    if s.cleared {
+        return Judged::No(GATE, 0);
+    }
+    if s.closed {
+        return Judged::Clear;
+    }
+    Judged::No(GATE, 0)
+}
+
+// "clearing gives the figures of Queries by the rules above and answers the step count"
+fn enter_clear(s: Session) -> Turn
+    requires { ⌜ Within s ⌝ }
+    ensures { λ r. ⌜ Entered s clear r ⌝ }
+{
+    let d = clear_hours(s);
+    let figures = d.figures;
+    let mut next = s;
+    next.figures = figures;
+    next.cleared = true;
+    Turn {
+        session: next,
+        answer: Answer::Steps(d.steps),
+    }
+}
+
+// Clears the day: 2.
+pub fn clear(s: Session) -> Turn
+    ensures { λ r. ⌜ Met s clear r ⌝ }
+{
+    if !s.sound() {
+        return s.refused(GATE, 0);
+    }
+    let j = judge_clear(s);
+    match j {
+        Judged::No(number, hour) => s.refused(number, hour),
+        Judged::Clear => enter_clear(s),
+    }
+}

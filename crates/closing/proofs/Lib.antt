@@ -1,0 +1,6 @@
+pub mod CountLaws
+pub mod TurnLaws
+pub mod StandingLaws
+pub mod JudgeLaws
+pub mod PassLaws
+pub mod CloseLaws

@@ -1,0 +1,24 @@
+use native.Mathlib.Omega.{arith}
+use Rattle.closing.proofs.CloseLaws.{close-entered}
+use borrow.Author.Needs.{needs}
+use Rattle.closing.proofs.settle.Statement.{statement}
+use Rattle.closing.proofs.settle.Tie as tie
+
+no-verdict-requires : tie.Need-no-verdict-requires
+no-verdict-requires c κs = search needs
+
+pass-requires : tie.Need-pass-requires
+pass-requires c κs = search needs
+
+pass-requires-2 : tie.Need-pass-requires-2
+pass-requires-2 c κs = search needs
+
+pass-requires-3 : tie.Need-pass-requires-3
+pass-requires-3 c κs = search needs
+
+returns : tie.Need-returns
+returns c = close-entered (c .before .before .before .before .args .s) (c .before .before .before .no-verdict .result) (c .before .before .pass .result) (c .before .pass2 .result) (c .pass3 .result) (c .before .before .before .no-verdict .ensures) (c .before .before .pass .ensures) (c .before .pass2 .ensures) (c .pass3 .ensures) (omega arith)
+
+pub settle-spec : {M : Type 1} → statement M
+settle-spec =
+    tie.close (tie.spec no-verdict-requires pass-requires pass-requires-2 pass-requires-3 returns)

@@ -1,0 +1,152 @@
+-- Demand 3, proved of every list of calls on a session.
+use Prim.Native.Nat.{ℕ, _+_, _≤_, _<_}
+use mathlib.Core.Path.{_≡_, refl, sym, ap, ap₂, _∙_}
+use mathlib.Core.Logic.{_↔_}
+use mathlib.Core.Bool.{Bool, true, false, Bool·beq}
+use mathlib.Core.List.{List}
+use mathlib.Core.Option.{some}
+use native.Mathlib.Omega.{arith}
+use lib.IntN.{ℤ, pos, _+ℤ_}
+use lib.Signed.{_≤ℤ_, _<ℤ_}
+use Rattle.rules.specs.Lists.{All, Some, keep, sumOf, hourly}
+use Rattle.rules.specs.Hours.{Date}
+use Rattle.rules.specs.Units.{Registered, capacityOf, ceiling, isRegistered, hasNumber, unitOf, badNumber}
+use Rattle.rules.specs.Lodging.{Lodgement}
+use Rattle.rules.specs.Book.{Book, hours}
+use Rattle.rules.specs.Closing as C
+use Rattle.rules.specs.Borders.{Directed, toward, marketBalance, executionBalance}
+use Rattle.rules.specs.Clearing.{figuresAt}
+use Rattle.rules.specs.Queries as Q
+use Rattle.rules.specs.DayBook as D
+use Rattle.rules.specs.Sound as R
+use Rattle.rules.specs.Demands as M
+use Rattle.rules.proofs.ListLaws.{all-map, all-keep}
+use Rattle.rules.proofs.ElementLaws.{all-both, some-all}
+use Rattle.rules.specs.Refusals.{given}
+use Rattle.rules.proofs.DemandLaws.{demanded, closing-found}
+use Rattle.rules.proofs.UnitLaws.{units-balanced, some-cut-units}
+use Rattle.session.specs.Image.{image, Sound}
+use Rattle.session.specs.Steps.{Opens}
+use Rattle.session.specs.declared.Session.{Session}
+use Rattle.session.specs.declared.Opened.{Opened}
+use Rattle.queries.specs.Replies.{replyIn}
+use Rattle.queries.specs.declared.Reply.{Reply}
+use Rattle.daybook.specs.Runs.{Ran}
+use Rattle.daybook.specs.Demand3.{Asked, figureIn, energyIn, isAcceptance, Judged, matchedOf, executedOf, crossingAt, uncutAt, IsCut, Carried, Holds, Demand3}
+use Rattle.daybook.proofs.RunLaws.{day-book}
+use Rattle.daybook.proofs.ReplyLaws.{number-of, energy-of, acceptance-of, limit-of, hidden-of, of-hidden, all-found, all-entries, sum-same, number-good, verdict-given, matched-given, executed-given, market-given, bilateral-given}
+
+module _ (b : Book) (s : R.Sound b) (reply : Q.Query → Reply) (told : (q : Q.Query) → replyIn (reply q) ≡ Q.query b q) where
+  -- Closing
+
+  judged-one : b .closed ≡ true → (l : Lodgement) → Q.isStanding b (l .number) ≡ true → M.Judgement b l → Judged b reply l
+  unfolding M.verdictOf
+  judged-one c l st j =
+      let v = M.verdictOf b l in
+      let r = reply (Q.verdict (l .number)) in
+      let e : replyIn r ≡ given (Q.judged v) = told (Q.verdict (l .number)) ∙ verdict-given b (l .number) c st in
+      let a : isAcceptance r ≡ C.isAccepted v = acceptance-of r v e in
+      record {
+        exactly = λ shown. let k = j .exactly shown in ((λ f. k .0 (sym a ∙ f)), (λ w. a ∙ k .1 w));
+        chosen = λ n h q. j .chosen n h (limit-of r v e n h q);
+        hiding = ((λ q. j .hiding .0 (hidden-of r v e q)), (λ w. of-hidden r (e ∙ ap (λ (x : C.Verdict). given (Q.judged x)) (j .hiding .1 w))));
+      }
+
+  standing-all : All (λ l. Q.isStanding b (l .number) ≡ true) (b .standing)
+  unfolding Q.isStanding
+  standing-all = all-found (λ l. l .number) (b .standing)
+
+  judged-all : b .closed ≡ true → All (Judged b reply) (b .standing)
+  judged-all c = all-both (λ l st j. judged-one c l st j) standing-all (demanded b s .closing c)
+
+  -- Clearing, in an hour
+
+  registered-all : All (λ r. isRegistered (b .units) (r .unit .number) ≡ true) (b .units)
+  unfolding isRegistered hasNumber
+  registered-all = all-found (λ r. r .unit .number) (b .units)
+
+  fit : All (λ r. (badNumber (r .unit .number) ≡ false) × (isRegistered (b .units) (r .unit .number) ≡ true)) (b .units)
+  fit = all-both (λ r x y. (number-good r x, y)) (s .units .ranges) registered-all
+
+  module _ (h : ℕ) (cleared : b .cleared ≡ true) (low : 1 ≤ h) (high : h ≤ hours b) where
+    matched-as : All (λ r. matchedOf b reply h r ≡ Q.matchedAt b (r .unit .number) h) (b .units)
+    matched-as =
+        all-map (λ r g. energy-of (reply (Q.matched (r .unit .number) h)) (Q.matchedAt b (r .unit .number) h)
+        (told (Q.matched (r .unit .number) h) ∙ matched-given b h cleared low high (r .unit .number) (g .0) (g .1))) fit
+
+    executed-as : All (λ r. executedOf b reply h r ≡ Q.executedAt b (r .unit .number) h) (b .units)
+    executed-as =
+        all-map (λ r g. energy-of (reply (Q.executed (r .unit .number) h)) (Q.executedAt b (r .unit .number) h)
+        (told (Q.executed (r .unit .number) h) ∙ executed-given b h cleared low high (r .unit .number) (g .0) (g .1))) fit
+
+    units-sum : (side : Bool) → sumOf (matchedOf b reply h) (keep (λ r. Bool·beq (r .unit .purchase) side) (b .units))
+        ≡ sumOf (λ r. Q.matchedAt b (r .unit .number) h) (keep (λ r. Bool·beq (r .unit .purchase) side) (b .units))
+    units-sum side = sum-same (all-keep (λ r. Bool·beq (r .unit .purchase) side) matched-as)
+
+    hour : M.Cleared b h
+    hour = demanded b s .clearing cleared h low high
+
+    both-as : All (λ r. (matchedOf b reply h r ≡ Q.matchedAt b (r .unit .number) h) × (executedOf b reply h r ≡ Q.executedAt b (r .unit .number) h)) (b .units)
+    both-as = all-both (λ r x y. (x, y)) matched-as executed-as
+
+    ceilings-all : All (λ r. matchedOf b reply h r + executedOf b reply h r ≤ ceiling (b .capacities) r h) (b .units)
+    ceilings-all =
+        all-both (λ r p e. omega (arith, p .0, p .1, ap (λ (x : Registered). ceiling (b .capacities) x h) e, hour .ceilings (r .unit .number)))
+        both-as (all-entries (s .units .distinct))
+
+    module _ (border : ℕ) (export : Bool) (capacity : ℕ) (first : 1 ≤ border) (last : border ≤ 4) where
+      abbrev way : Directed
+      way = record { border = border; export = export; energy = capacity }
+
+      market-as : figureIn (reply (Q.market border h)) ≡ marketBalance border (figuresAt b h .offers)
+      market-as = number-of (reply (Q.market border h)) _ (told (Q.market border h) ∙ market-given b h cleared low high border first last)
+
+      bilateral-as : figureIn (reply (Q.bilateral border h)) ≡ executionBalance border (figuresAt b h .executions)
+      bilateral-as = number-of (reply (Q.bilateral border h)) _ (told (Q.bilateral border h) ∙ bilateral-given b h cleared low high border first last)
+
+      crossing-as : crossingAt b reply h border export ≡ M.crossing way (figuresAt b h .offers) (figuresAt b h .executions)
+      unfolding M.crossing
+      crossing-as = ap₂ (λ m x. toward export (m +ℤ x)) market-as bilateral-as
+
+      uncut-as : uncutAt b reply h border export ≡ M.crossing way (figuresAt b h .offers) (M.executionsAt b h)
+      unfolding M.crossing
+      uncut-as = ap (λ m. toward export (m +ℤ executionBalance border (M.executionsAt b h))) market-as
+
+      cut-units : Some (IsCut b reply h border export) (b .units) → Some (M.UnitCut b way h) (b .units)
+      cut-units cut = some-all (λ r w e. record { border = w .there; purchase = w .way; less = omega (arith, w .less, e) }) cut executed-as
+
+      units-cut : Some (M.UnitCut b way h) (b .units) → Some (IsCut b reply h border export) (b .units)
+      units-cut cut = some-all (λ r w e. record { there = w .border; way = w .purchase; less = omega (arith, w .less, e) }) cut executed-as
+
+      carried : M.Kept way (figuresAt b h .offers) (M.executionsAt b h) (figuresAt b h .executions) → Carried b reply h border export capacity
+      carried k = record {
+        within = rw crossing-as (k .within);
+        cut = (
+          (λ w. rw uncut-as (k .cut .0 (some-cut-units b s way h .1 (cut-units w)))),
+          (λ p. units-cut (some-cut-units b s way h .0 (k .cut .1 (rw uncut-as at p))))
+        );
+        stands = λ p. crossing-as ∙ k .stands (rw uncut-as at p);
+        share = k;
+      }
+
+    holds : Holds b reply h
+    holds = record {
+      balanced = units-sum false ∙ (units-balanced b s h ∙ sym (units-sum true));
+      ceilings = ceilings-all;
+      borders = λ border export es first last e. carried border export (hourly es h) first last (hour .borders border export es first last e);
+    }
+
+-- Demand 3: for every list of calls from opening, each on the session the last one left, and whatever its queries then reply
+pub demand-3 : (d : Date) (o : Opened) {t : Session} {cs : List D.Call} {rs : List D.Answer} (reply : Q.Query → Reply)
+    → Opens d o → Ran (o .session) cs t rs → Asked t reply → Demand3 (D.opening d .book) cs rs reply
+demand-3 d o {cs = cs} reply p ran asked =
+    let a = day-book d o p ran in
+    let b = D.after (D.opening d .book) cs in
+    let told : (q : Q.Query) → replyIn (reply q) ≡ Q.query b q = λ q. asked q b (a .sound) (a .session) in
+    record {
+      answers = a .answers;
+      figures = told;
+      found = λ c. closing-found d cs c;
+      closing = λ c. judged-all b (a .sound .ranges) reply told c;
+      clearing = λ c h low high. holds b (a .sound .ranges) reply told h c low high;
+    }

@@ -1,0 +1,5 @@
+pub mod CallLaws
+pub mod RunLaws
+pub mod ReplayLaws
+pub mod ReplyLaws
+pub mod DemandLaws

@@ -1,0 +1,116 @@
+-- Demand 3, of a session: what holds after every list of calls, of its answers and of what its queries then reply. The book is
+-- fed the date and the calls' arguments, never the session.
+use Prim.Native.Nat.{ℕ, _+_, _≤_, _<_}
+use mathlib.Core.Path.{_≡_}
+use mathlib.Core.Logic.{_↔_}
+use mathlib.Core.Bool.{Bool, true, false, Bool·beq}
+use mathlib.Core.List.{List}
+use mathlib.Core.Option.{some}
+use lib.IntN.{ℤ, pos, _+ℤ_}
+use lib.Signed.{_≤ℤ_, _<ℤ_}
+use Rattle.rules.specs.Lists.{All, Some, keep, sumOf, hourly}
+use Rattle.rules.specs.Hours.{Date}
+use Rattle.rules.specs.Units.{Registered, capacityOf, ceiling}
+use Rattle.rules.specs.Lodging.{Lodgement, isHidden}
+use Rattle.rules.specs.Book.{Book, hours}
+use Rattle.rules.specs.Borders.{positive, toward, executionBalance}
+use Rattle.rules.specs.Queries as Q
+use Rattle.rules.specs.DayBook as D
+use Rattle.rules.specs.Demands.{ClosedIn, Passes, ChosenAt, Kept, executionsAt, acceptedExecuted}
+use Rattle.rules.specs.Clearing.{figuresAt}
+use Rattle.session.specs.declared.Session.{Session}
+use Rattle.queries.specs.Replies.{replyIn, Answered}
+use Rattle.queries.specs.declared.Reply.{Reply}
+use Rattle.queries.specs.declared.Reply.the-variants.{Refused, Accepted, Hidden, Limit, Number, Absent}
+
+-- What the session's queries reply: a reply for each query, of which that query's own contract holds.
+abbrev pub Asked : Session → (Q.Query → Reply) → Type 0
+Asked t reply = (q : Q.Query) → Answered t q (reply q)
+
+-- the figure of a reply, and one that is an energy
+unfoldable pub figureIn : Reply → ℤ
+figureIn (Number z) = z
+figureIn (Refused n h) = pos 0
+figureIn Accepted = pos 0
+figureIn Hidden = pos 0
+figureIn (Limit n h) = pos 0
+figureIn Absent = pos 0
+
+unfoldable pub energyIn : Reply → ℕ
+energyIn r = positive (figureIn r)
+
+unfoldable pub isAcceptance : Reply → Bool
+isAcceptance Accepted = true
+isAcceptance (Refused n h) = false
+isAcceptance Hidden = false
+isAcceptance (Limit n h) = false
+isAcceptance (Number z) = false
+isAcceptance Absent = false
+
+module _ (b : Book) (reply : Q.Query → Reply) where
+  -- Closing: the reply to the query of a standing lodgement's verdict
+  pub record Judged (l : Lodgement) : Type 0 where
+    -- "an unhidden lodgement standing at closing was refused there exactly when, in an hour it names, its energy with that
+    -- accepted before it on its unit passes the ceiling"
+    pub exactly : isHidden (b .standing) l ≡ false → (isAcceptance (reply (Q.verdict (l .number))) ≡ false) ↔ ((h : ℕ) × Passes b l h)
+    -- then the reply is the first limit passed and the lowest hour in which it is
+    pub chosen : (n h : ℕ) → reply (Q.verdict (l .number)) ≡ Limit n h → ChosenAt b l n h
+    -- a hidden one is told so, and no other
+    pub hiding : (reply (Q.verdict (l .number)) ≡ Hidden) ↔ (isHidden (b .standing) l ≡ true)
+
+  -- Clearing, in an hour
+  module _ (h : ℕ) where
+    -- what the queries reply of a unit
+    abbrev pub matchedOf : Registered → ℕ
+    matchedOf r = energyIn (reply (Q.matched (r .unit .number) h))
+
+    abbrev pub executedOf : Registered → ℕ
+    executedOf r = energyIn (reply (Q.executed (r .unit .number) h))
+
+    -- "Market plus bilateral balance" at a border, seen in a direction
+    abbrev pub crossingAt : ℕ → Bool → ℤ
+    crossingAt border export = toward export (figureIn (reply (Q.market border h)) +ℤ figureIn (reply (Q.bilateral border h)))
+
+    -- "The sum with none cut is the final market balance plus that of all accepted executions, negated for import."
+    abbrev pub uncutAt : ℕ → Bool → ℤ
+    uncutAt border export = toward export (figureIn (reply (Q.market border h)) +ℤ executionBalance border (executionsAt b h))
+
+    -- "Some execution there in a direction is cut": a unit there and in that direction executes less than was accepted
+    pub record IsCut (border : ℕ) (export : Bool) (r : Registered) : Type 0 where
+      pub there : r .unit .border ≡ border
+      pub way : r .unit .purchase ≡ export
+      pub less : executedOf r < acceptedExecuted b (r .unit .number) h
+
+    -- at a border in a direction with a capacity
+    pub record Carried (border : ℕ) (export : Bool) (capacity : ℕ) : Type 0 where
+      -- "Market plus bilateral balance at each border keeps within each published capacity."
+      pub within : crossingAt border export ≤ℤ pos capacity
+      -- "Some execution there in a direction is cut [..] exactly when the sum with none cut would pass that direction's capacity"
+      pub cut : Some (IsCut border export) (b .units) ↔ (pos capacity <ℤ uncutAt border export)
+      -- "and the cut sum then stands at it"
+      pub stands : pos capacity <ℤ uncutAt border export → crossingAt border export ≡ pos capacity
+      -- "by the papers' Share": each execution loses what Share takes from it
+      pub share : Kept (record { border = border; export = export; energy = capacity }) (figuresAt b h .offers) (executionsAt b h) (figuresAt b h .executions)
+
+    pub record Holds : Type 0 where
+      -- "Matched sales equal matched purchases"
+      pub balanced : sumOf matchedOf (keep (λ r. Bool·beq (r .unit .purchase) false) (b .units)) ≡ sumOf matchedOf (keep (λ r. Bool·beq (r .unit .purchase) true) (b .units))
+      -- "and no unit's energy passes its ceiling": "matched plus executed, after cuts"
+      pub ceilings : All (λ r. matchedOf r + executedOf r ≤ ceiling (b .capacities) r h) (b .units)
+      -- the borders, for each direction given energies es by the last notice
+      pub borders : (border : ℕ) (export : Bool) (es : List ℕ) → 1 ≤ border → border ≤ 4 → capacityOf (b .capacities) border export ≡ some es
+          → Carried border export (hourly es h)
+
+-- Demand 3. The book is that after the calls.
+pub record Demand3 (start : Book) (cs : List D.Call) (rs : List D.Answer) (reply : Q.Query → Reply) : Type 0 where
+  -- "every answer [..] is that of document 01's day book"
+  pub answers : rs ≡ D.answers start cs
+  -- "and each verdict and figure at the list's end"
+  pub figures : (q : Q.Query) → replyIn (reply q) ≡ Q.query (D.after start cs) q
+  -- "Demand 3's ceilings and published capacities [..] are by the book's notices at closing; the lodgements it has then are
+  -- those standing at closing": the book at the list's end still holds what the call that closed it found
+  pub found : D.after start cs .closed ≡ true → ClosedIn start cs
+  -- "If closing was accepted"
+  pub closing : D.after start cs .closed ≡ true → All (Judged (D.after start cs) reply) (D.after start cs .standing)
+  -- "If clearing was accepted too, all that follows holds in each hour."
+  pub clearing : D.after start cs .cleared ≡ true → (h : ℕ) → 1 ≤ h → h ≤ hours (D.after start cs) → Holds (D.after start cs) reply h

@@ -1,0 +1,3 @@
+pub mod Runs
+pub mod Replays
+pub mod Demand3

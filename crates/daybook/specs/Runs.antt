@@ -1,0 +1,39 @@
+-- Lists of calls on a session, each on the session that the last one left.
+use mathlib.Core.Path.{_≡_}
+use mathlib.Core.List.{List, [], _∷_}
+use Prim.Native.Nat.{ℕ}
+use lib.ListN.{length}
+use Rattle.rules.specs.Book as B
+use Rattle.rules.specs.DayBook as D
+use Rattle.session.specs.Laid.{counted}
+use Rattle.session.specs.Image.{image, Sound, unitIn, keyIn, capacitiesIn}
+use Rattle.session.specs.Steps.{Met, said}
+use Rattle.session.specs.declared.Session.{Session}
+use Rattle.session.specs.declared.Turn.{Turn}
+use Rattle.session.specs.declared.Unit.{Unit}
+use Rattle.session.specs.declared.Key.{Key}
+use Rattle.session.specs.declared.Published.{Published}
+
+-- A call was made, with its arguments and what it gave: each premise is the function's own contract, and the call is what the
+-- book is fed.
+pub data Called (s : Session) : D.Call → Turn → Type 0 where
+  registers : (u : Unit) {r : Turn} → Met s (D.register (unitIn u)) r → Called s (D.register (unitIn u)) r
+  notifies : (ps : List Published) {r : Turn} → length ps ≡ 8 → Met s (D.capacity (capacitiesIn ps)) r → Called s (D.capacity (capacitiesIn ps)) r
+  avails : (number count : ℕ) (energies : List ℕ) {r : Turn} → Met s (D.available number (counted count energies)) r
+      → Called s (D.available number (counted count energies)) r
+  lodges : (message : List ℕ) {r : Turn} → Met s (D.lodge message) r → Called s (D.lodge message) r
+  annuls : (key : Key) {r : Turn} → Met s (D.annul (keyIn key)) r → Called s (D.annul (keyIn key)) r
+  closes : {r : Turn} → Met s D.close r → Called s D.close r
+  clears : {r : Turn} → Met s D.clear r → Called s D.clear r
+
+-- "each call on the session the last one left": the calls, the session at the list's end, and every answer
+pub data Ran : Session → List D.Call → Session → List D.Answer → Type 0 where
+  ended : {s : Session} → Ran s [] s []
+  then : {s t : Session} {c : D.Call} {r : Turn} {cs : List D.Call} {rs : List D.Answer}
+      → Called s c r → Ran (r .session) cs t rs → Ran s (c ∷ cs) t (said (r .answer) ∷ rs)
+
+-- "every answer [..] is that of document 01's day book", and the session at the list's end stands for the book
+pub record Agrees (b : B.Book) (cs : List D.Call) (t : Session) (rs : List D.Answer) : Type 0 where
+  pub sound : Sound (D.after b cs)
+  pub session : t ≡ image (D.after b cs)
+  pub answers : rs ≡ D.answers b cs

@@ -1,0 +1,131 @@
+// Demand 3: the theorem over every list of calls stands in proofs/DayBook.antt. `replay` runs a log of calls, with the same
+// claim for its list: what a recovery and a rehearsal run on.
+ghost use mathlib.Core.Path.{_≡_};
+ghost use mathlib.Core.Bool.{true};
+ghost use Prim.Native.Nat.{_+_, _*_, _≤_};
+ghost use lib.ListN.{length, drop, getD};
+ghost use Rattle.calendar.specs.View.{dateIn};
+ghost use Rattle.session.specs.Steps.{Met};
+ghost use Rattle.log.specs.Calls.{callOf, starts, sizeOf};
+ghost use Rattle.daybook.specs.Replays.{Replays};
+use calendar::Date;
+use reader::bits::byte_at;
+use session::Answer;
+use session::Session;
+use session::Turn;
+
+// A log run: the date's answer, the session at its end, how many calls were run and the bytes of their records. Fewer bytes
+// than the log has: there was room for no more answers, or what follows is no call.
+pub struct Replayed {
+    pub opened: Answer,
+    pub session: Session,
+    pub calls: usize,
+    pub read: usize,
+}
+
+// The head of a record: whether all of a call's record is there, its kind and the bytes that follow.
+struct Head {
+    whole: bool,
+    kind: u8,
+    size: usize,
+}
+
+// Runs the call of one record.
+pub fn run(s: Session, kind: u8, p: &[u8]) -> Turn
+    ensures { λ r. ⌜ Met s (callOf kind (now (p .entry))) r ⌝ }
+{
+    if kind == 1 {
+        let u = log::unit_of(p);
+        return s.register(u);
+    }
+    if kind == 2 {
+        let directions = log::directions_of(p);
+        return s.capacity(directions);
+    }
+    if kind == 3 {
+        let number = log::number_at(p, 0);
+        let count = log::number_at(p, 4) as usize;
+        let energies = log::numbers_at(p, 8);
+        return s.available(number, count, energies);
+    }
+    if kind == 4 {
+        return lodging::lodge::lodge(s, p);
+    }
+    if kind == 5 {
+        let key = log::key_of(p);
+        return lodging::annulling::annul(s, key);
+    }
+    if kind == 6 {
+        return closing::close(s);
+    }
+    clearing::clear(s)
+}
+
+// Two bytes as one number, the first higher.
+fn joined(high: u8, low: u8) -> usize
+    ensures { λ r. ⌜ (r ≡ high * 256 + low) × (r ≤ 65535) ⌝ }
+{
+    high as usize * 256 + low as usize
+}
+
+// The record at a place of a log.
+fn record_at(log: &[u8], at: usize) -> Head
+    requires { ⌜ at ≤ length (now log) ⌝ }
+    ensures { λ r. ⌜ (r .whole ≡ starts (drop at (now (log .entry))))
+        × (r .whole ≡ true → (r .kind ≡ getD (drop at (now (log .entry))) 0 0) × (r .size ≡ sizeOf (drop at (now (log .entry)))) × (at + (3 + r .size) ≤ length (now (log .entry)))) ⌝ }
+{
+    let left = log.len() - at;
+    if left < 3 {
+        return Head {
+            whole: false,
+            kind: 0,
+            size: 0,
+        };
+    }
+    let kind = byte_at(log, at);
+    let high = byte_at(log, at + 1);
+    let low = byte_at(log, at + 2);
+    let size = joined(high, low);
+    if left - 3 < size {
+        return Head {
+            whole: false,
+            kind,
+            size,
+        };
+    }
+    let whole = log::is_call(kind, size);
+    Head { whole, kind, size }
+}
+
+// Runs the calls of a log from a fresh session of the date, one after the other, and writes down each answer.
+pub fn replay(date: Date, log: &[u8], answers: &mut [u64]) -> Replayed
+    ensures { λ r. ⌜ Replays (dateIn date) (now (log .entry)) (length (now (answers .entry))) (now (answers .entry)) (now (answers .exit)) r ⌝ }
+{
+    let opening = session::open(date);
+    let opened = opening.answer;
+    let mut s = opening.session;
+    let mut at: usize = 0;
+    let mut calls: usize = 0;
+    while calls < answers.len() {
+        let h = record_at(log, at);
+        if !h.whole {
+            break;
+        }
+        let from = at + 3;
+        let to = from + h.size;
+        let t = run(s, h.kind, &log[from..to]);
+        let next = t.session;
+        s = next;
+        let a = t.answer;
+        let word = log::answer_word(a);
+        answers[calls] = word;
+        calls += 1;
+        at = to;
+    }
+    Replayed {
+        opened,
+        session: s,
+        calls,
+        read: at,
+    }
+}

@@ -1,0 +1,49 @@
+-- Lodging: each way out.
+use Prim.Native.Nat.{ℕ}
+use mathlib.Core.Path.{_≡_, sym, ap, _∙_}
+use mathlib.Core.Bool.{Bool, true, false}
+use mathlib.Core.List.{List, _∷_}
+use Rattle.rules.specs.Refusals.{Row, row, firstRow}
+use Rattle.rules.specs.Message.{energyWidth, decode, badForm}
+use Rattle.rules.specs.DayBook as D
+use Rattle.message.specs.View.{fieldsIn}
+use Rattle.message.specs.declared.Fields.{Fields}
+use Rattle.session.specs.Parts.{told, Judges, Entered}
+use Rattle.session.specs.declared.Session.{Session}
+use Rattle.session.specs.declared.Turn.{Turn}
+use Rattle.session.specs.declared.Judged.{Judged}
+use Rattle.session.specs.declared.Judged.the-variants.{No}
+use Rattle.session.proofs.ImageLaws.{closed-as}
+use Rattle.session.proofs.StepLaws.{open-row}
+use Rattle.lodging.specs.Entries.{EnteredFields}
+use Rattle.lodging.specs.Judging.{fieldRows, lastRows, JudgesFields}
+
+-- rows that do not apply are passed over
+past : (t u : Bool) (rows : List Row) → t ≡ false → u ≡ false → firstRow (row 2 t ∷ row 3 u ∷ rows) ≡ firstRow rows
+unfolding row firstRow
+past t u rows h k = rw (h, k)
+
+module _ (s : Session) (bytes : List ℕ) where
+  pub lodge-2 : s .closed ≡ true → Judges s (D.lodge bytes) (No 2 0)
+  unfolding D.rowsOf D.lodgeRows D.changeRow row firstRow
+  lodge-2 h b e = rw (closed-as s b e, h)
+
+  pub lodge-3 : s .closed ≡ false → badForm energyWidth bytes ≡ true → Judges s (D.lodge bytes) (No 3 0)
+  unfolding D.rowsOf D.lodgeRows D.changeRow row firstRow
+  lodge-3 h f b e = rw (f, closed-as s b e, h)
+
+  module _ (m : Fields) (said : fieldsIn m ≡ decode energyWidth bytes) where
+    -- a message of the right form is judged by its fields
+    pub lodge-judged : s .closed ≡ false → badForm energyWidth bytes ≡ false → (j : Judged) → JudgesFields s (fieldsIn m) j → Judges s (D.lodge bytes) j
+    unfolding D.rowsOf D.lodgeRows D.changeRow fieldRows lastRows
+    lodge-judged h f j l b e =
+        l b e
+        ∙ (ap (λ n. told (firstRow (fieldRows b n))) said
+        ∙ sym (ap told (past (b .closed) (badForm energyWidth bytes) (fieldRows b (decode energyWidth bytes)) (closed-as s b e ∙ h) f)))
+
+    pub lodge-entered : (r : Turn) → EnteredFields s m r → Entered s (D.lodge bytes) r
+    unfolding D.rowsOf D.lodgeRows D.applied D.reply
+    lodge-entered r n = record {
+      book = λ b sound o e. rw (← said) (n .book b sound (open-row b _ o) e);
+      fine = n .fine;
+    }

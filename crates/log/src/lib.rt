@@ -1,0 +1,167 @@
+// The call log: calls on a session as bytes, so that a day can be kept, sent and run again (the record of a call is ours, not
+// document 01's; docs/LOG.md says it byte by byte).
+ghost use mathlib.Core.Path.{_≡_};
+ghost use mathlib.Core.List.{map};
+ghost use Prim.Native.Nat.{_≤_, min};
+ghost use Rattle.session.specs.Steps.{said};
+ghost use Rattle.reader.specs.Bits.{wordAt};
+ghost use Rattle.rules.specs.Lists.{from};
+ghost use Rattle.session.specs.Image.{unitIn, keyIn, publishedIn, capacitiesIn};
+ghost use Rattle.log.specs.Calls.{markAt, numbersAt, unitOf, keyOf, directionAt, directionsOf, isCall, answerWord};
+use reader::bits::byte_at;
+use reader::bits::word_at;
+use session::Answer;
+use session::Key;
+use session::Published;
+use session::Unit;
+
+// What the numbers of answers of one kind are counted from.
+const KIND: u64 = 1_152_921_504_606_846_976;
+
+// Whether a record's count of bytes is that of its kind.
+pub fn is_call(kind: u8, size: usize) -> bool
+    ensures { λ r. ⌜ r ≡ isCall kind size ⌝ }
+{
+    if kind == 1 {
+        return size == 18;
+    }
+    if kind == 2 {
+        return size == 840;
+    }
+    if kind == 3 {
+        return size == 108;
+    }
+    if kind == 4 {
+        return true;
+    }
+    if kind == 5 {
+        return size == 10;
+    }
+    if kind == 6 {
+        return size == 0;
+    }
+    if kind == 7 {
+        return size == 0;
+    }
+    false
+}
+
+// An answer as one number.
+pub fn answer_word(a: Answer) -> u64
+    ensures { λ r. ⌜ r ≡ answerWord (said a) ⌝ }
+{
+    match a {
+        Answer::Refused(n, h) => KIND + (n as u64 * 256 + h as u64),
+        Answer::Done => 0,
+        Answer::Numbered(n) => 2 * KIND + n as u64,
+        Answer::Steps(n) => 3 * KIND + at_most(n, KIND - 1),
+    }
+}
+
+fn at_most(n: u64, top: u64) -> u64
+    ensures { λ r. ⌜ r ≡ min n top ⌝ }
+{
+    if n < top {
+        return n;
+    }
+    top
+}
+
+// The number in the four bytes from place i on.
+pub fn number_at(p: &[u8], i: usize) -> u32
+    ensures { λ r. ⌜ r ≡ wordAt (now (p .entry)) i ⌝ }
+{
+    word_at(p, i) as u32
+}
+
+// A mark is a byte: 0 for no.
+fn mark_at(p: &[u8], i: usize) -> bool
+    ensures { λ r. ⌜ r ≡ markAt (now (p .entry)) i ⌝ }
+{
+    byte_at(p, i) != 0
+}
+
+// The 25 numbers from place i on.
+pub fn numbers_at(p: &[u8], i: usize) -> [u32; 25]
+    requires { ⌜ i ≤ 1000 ⌝ }
+    ensures { λ r. ⌜ r ≡ numbersAt (now (p .entry)) i ⌝ }
+{
+    let mut energies = [0u32; 25];
+    for k in 0..25 {
+        let x = number_at(p, i + k * 4);
+        energies[k] = x;
+    }
+    energies
+}
+
+// The unit that a registration is for.
+pub fn unit_of(p: &[u8]) -> Unit
+    ensures { λ r. ⌜ unitIn r ≡ unitOf (now (p .entry)) ⌝ }
+{
+    let number = number_at(p, 0);
+    let agent = number_at(p, 4);
+    let border = number_at(p, 8);
+    let purchase = mark_at(p, 12);
+    let maximum = number_at(p, 13);
+    let legacy = mark_at(p, 17);
+    Unit {
+        number,
+        agent,
+        border,
+        purchase,
+        maximum,
+        legacy,
+    }
+}
+
+// The key that an annulment is for.
+pub fn key_of(p: &[u8]) -> Key
+    ensures { λ r. ⌜ keyIn r ≡ keyOf (now (p .entry)) ⌝ }
+{
+    let execution = mark_at(p, 0);
+    let default = mark_at(p, 1);
+    let unit = number_at(p, 2);
+    let contract = number_at(p, 6);
+    Key {
+        execution,
+        default,
+        unit,
+        contract,
+    }
+}
+
+// A direction of a capacity notice, from place i on.
+fn direction_at(p: &[u8], i: usize) -> Published
+    requires { ⌜ i ≤ 900 ⌝ }
+    ensures { λ r. ⌜ publishedIn r ≡ directionAt (now (p .entry)) i ⌝ }
+{
+    let published = mark_at(p, i);
+    let count = number_at(p, i + 1) as usize;
+    let energies = numbers_at(p, i + 5);
+    Published {
+        published,
+        count,
+        energies,
+    }
+}
+
+fn no_direction() -> Published {
+    Published {
+        published: false,
+        count: 0,
+        energies: [0u32; 25],
+    }
+}
+
+// A capacity notice's directions.
+pub fn directions_of(p: &[u8]) -> [Published; 8]
+    ensures { λ r. ⌜ capacitiesIn r ≡ directionsOf (now (p .entry)) ⌝ }
+{
+    let none = no_direction();
+    let mut directions = [none; 8];
+    for k in 0..8 {
+        let x = direction_at(p, k * 105);
+        directions[k] = x;
+    }
+    directions
+}
