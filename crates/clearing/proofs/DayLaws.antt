@@ -1,12 +1,12 @@
 -- A closed book in the session that stands for it: what stands at each place of the arrays.
-use Prim.Native.Nat.{ℕ, suc, _≤_, _<_}
+use Prim.Native.Nat.{ℕ, suc, _<_}
 use mathlib.Core.Path.{_≡_, refl, sym, ap, _∙_}
 use mathlib.Core.Bool.{Bool, true, false, cond, not, _&&_, Bool·beq}
-use mathlib.Core.List.{List, [], _∷_, map, map-map}
+use mathlib.Core.List.{List, [], map, map-map}
 use native.Mathlib.Omega.{arith}
 use lib.Dec.{ltb}
 use lib.ListN.{getD, length, take, length-map}
-use Rattle.rules.specs.Lists.{All, keep, first, from}
+use Rattle.rules.specs.Lists.{keep, from}
 use Rattle.rules.specs.Units as U
 use Rattle.rules.specs.Lodging as L
 use Rattle.rules.specs.Book as B
@@ -22,7 +22,6 @@ use Rattle.session.specs.Parts.{numberIs}
 use Rattle.session.proofs.PlaceLaws.{getD-map}
 use Rattle.session.proofs.ImageLaws.{units-as, standing-as}
 use Rattle.clearing.specs.declared.Places.{Places}
-use Rattle.clearing.specs.Columns.{Column}
 use Rattle.clearing.specs.Built.{unitAmong, holderIn, Holders, bareEnergies, counts, countsAt, placesOf, Chosen}
 use Rattle.clearing.proofs.ListLaws.{front-places, all-places, laid-at, first-map}
 

@@ -1,5 +1,5 @@
 -- An hour's figures from arrays are those that the session keeps.
-use Prim.Native.Nat.{ℕ, zero, suc, _+_, _-_, _*_, _/_, _%_, _≤_, _<_}
+use Prim.Native.Nat.{ℕ, zero, suc, _+_, _-_, _/_, _%_, _≤_, _<_}
 use mathlib.Core.Path.{_≡_, refl, sym, ap, _∙_}
 use mathlib.Core.Bool.{Bool, true, false, cond, _&&_, Bool·beq}
 use mathlib.Core.List.{List, [], _∷_, _++_, map, map-map}
@@ -12,10 +12,8 @@ use lib.Seq.{ext-getD, getD-append-add}
 use borrow.Author.Tests.{eqb-true, eqb-false, ltb-true, ltb-false, lt-ltb, le-ltb, eq-eqb, ne-eqb}
 use Rattle.rules.specs.Lists.{keep, sum, sumOf, from}
 use Rattle.rules.specs.Match.{Holder, Offer}
-use Rattle.rules.specs.Borders.{Directed, Execution, runs, flow}
-use Rattle.rules.specs.Clearing as C
+use Rattle.rules.specs.Borders.{Execution, runs}
 use Rattle.rules.proofs.BoolLaws.{by-bool}
-use Rattle.rules.proofs.SumLaws.{sum-keep}
 use Rattle.arrays.proofs.PlaceLaws.{from-all, from-next, from-end, none-off, map-all}
 use Rattle.matching.specs.declared.Offers.{Offers}
 use Rattle.matching.specs.View.{offerAt, offersOf}

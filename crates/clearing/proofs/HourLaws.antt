@@ -5,10 +5,10 @@ use mathlib.Core.Bool.{Bool, true, false, cond}
 use mathlib.Core.List.{List, [], _∷_, map}
 use mathlib.Core.Option.{some, none as nothing}
 use native.Mathlib.Omega.{arith}
-use lib.Dec.{eqb, ltb}
-use lib.ListN.{getD, length, replicate, length-map}
+use lib.Dec.{eqb}
+use lib.ListN.{getD, length, replicate}
 use borrow.Author.Tests.{le-ltb}
-use Rattle.rules.specs.Lists.{All, keep, from, hourly}
+use Rattle.rules.specs.Lists.{keep, from, hourly}
 use Rattle.rules.specs.Units as U
 use Rattle.rules.specs.Lodging as L
 use Rattle.rules.specs.Book as B

@@ -2,11 +2,11 @@
 use Prim.Native.Nat.{ℕ, zero, suc, _+_, _≤_, _<_}
 use mathlib.Core.Path.{_≡_, refl, ap, _∙_}
 use mathlib.Core.Logic.{⊎-elim}
-use mathlib.Core.Bool.{Bool, true, false, cond}
+use mathlib.Core.Bool.{Bool, cond}
 use mathlib.Core.List.{List, [], _∷_, _++_, map, append-assoc, append-nil}
 use native.Mathlib.Omega.{arith}
 use native.Mathlib.Nat.{eq-or-lt-of-le}
-use lib.ListN.{getD, length, take, drop, replicate, length-map, List·getD-append}
+use lib.ListN.{getD, length, take, drop, length-map, List·getD-append}
 use lib.Seq.{drop-cons, take-all}
 use Rattle.rules.specs.Lists.{All, none, more, Pairwise, ahead, keep, first, from}
 use Rattle.rules.proofs.BoolLaws.{by-bool}

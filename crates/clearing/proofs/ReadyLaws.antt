@@ -1,14 +1,14 @@
 -- An hour built from a session that stands for a sound book is one that can be cleared.
-use Prim.Native.Nat.{ℕ, suc, _+_, _-_, _≤_, _<_}
-use mathlib.Core.Path.{_≡_, refl, sym, ap, _∙_}
+use Prim.Native.Nat.{ℕ, suc, _-_, _≤_, _<_}
+use mathlib.Core.Path.{_≡_}
 use mathlib.Core.Bool.{Bool, true, false, _&&_, _||_}
-use mathlib.Core.List.{List, map}
+use mathlib.Core.List.{List}
 use mathlib.Core.Option.{some, none as nothing}
 use native.Mathlib.Omega.{arith}
 use lib.Dec.{ltb}
 use lib.ListN.{getD, length, replicate}
-use borrow.Author.Tests.{ltb-true, ltb-false, lt-ltb}
-use Rattle.rules.specs.Lists.{All, Pairwise, keep, from, hourly}
+use borrow.Author.Tests.{ltb-true, ltb-false}
+use Rattle.rules.specs.Lists.{All, from, hourly}
 use Rattle.rules.specs.Units as U
 use Rattle.rules.specs.Message.{topPrice}
 use Rattle.rules.specs.Lodging as L
@@ -28,13 +28,11 @@ use Rattle.hour.specs.declared.Hour.{Hour}
 use Rattle.hour.specs.Ready.{Ready}
 use Rattle.session.specs.declared.Session.{Session}
 use Rattle.session.specs.declared.Unit.{Unit}
-use Rattle.session.specs.declared.Notice.{Notice}
 use Rattle.session.specs.Laid.{pad}
 use Rattle.session.specs.Image as I
 use Rattle.session.proofs.ImageLaws.{standing-as}
 use Rattle.clearing.specs.Columns.{Column}
-use Rattle.clearing.specs.Built.{Holders, noticeAt, capacityAt, Built}
-use Rattle.clearing.proofs.ColumnLaws.{blanks}
+use Rattle.clearing.specs.Built.{Holders, capacityAt, Built}
 use Rattle.clearing.proofs.ListLaws.{first-all, pairwise-at, all-within}
 use Rattle.clearing.proofs.DayLaws.{chosenIn}
 use Rattle.clearing.proofs.PlaceLaws.{notice-none}

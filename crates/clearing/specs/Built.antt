@@ -18,6 +18,7 @@ use Rattle.matching.specs.declared.Offers.{Offers}
 use Rattle.borders.specs.declared.Executions.{Executions}
 use Rattle.hour.specs.declared.Hour.{Hour}
 use Rattle.clearing.specs.declared.Places.{Places}
+use Rattle.clearing.specs.declared.Slots.{Slots}
 use Rattle.clearing.specs.declared.Published.{Published}
 use Rattle.clearing.specs.Columns.{Column}
 
@@ -97,6 +98,11 @@ pub record Held (ls : List Lodgement) (us : List Unit) (p : Places) (x : Executi
   pub borders : Column (borderAt us (p .at)) 0 (p .count) 128 (x .border)
   pub sides : Column (sideAt us (p .at)) false (p .count) 128 (x .purchase)
   pub marks : Column (legacyAt us (p .at)) false (p .count) 128 (x .legacy)
+
+-- and what they have in an hour
+pub record Slotted (es : List Energies) (k : ℕ) (p : Places) (r : Slots) : Type 0 where
+  pub energies : Column (energyAt es k (p .at)) 0 (p .count) 128 (r .energy)
+  pub prices : Column (priceAt es k (p .at)) 0 (p .count) 128 (r .price)
 
 -- Capacities
 

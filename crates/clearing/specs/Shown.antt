@@ -16,7 +16,6 @@ use Rattle.session.specs.declared.Session.{Session}
 use Rattle.session.specs.Laid.{pad}
 use Rattle.session.specs.Image.{Sound, image, noUnit, noFigures, byWay, energyOf, figuresAs}
 use Rattle.clearing.specs.declared.HourEnd.{HourEnd}
-use Rattle.clearing.specs.declared.DayEnd.{DayEnd}
 
 -- Energies of a unit, from arrays
 

@@ -2,12 +2,11 @@
 ghost use mathlib.Core.Path.{_≡_};
 ghost use Prim.Native.Nat.{_≤_, _<_};
 ghost use lib.ListN.{take};
-ghost use Rattle.session.specs.Image.{noUnit};
 ghost use Rattle.session.specs.Parts.{Within};
-ghost use Rattle.clearing.specs.Columns.{Column};
-ghost use Rattle.clearing.specs.Built.{unitAmong, Holders, counts, Chosen, Inside, Held, energyAt, priceAt, noticeAt, Given, offersAt, Built};
+ghost use Rattle.clearing.specs.Built.{unitAmong, Holders, counts, Chosen, Inside, Held, Slotted, noticeAt, Given, offersAt, Built};
 use crate::Places;
 use crate::Published;
+use crate::Slots;
 use borders::Executions;
 use hour::Hour;
 use matching::Offers;
@@ -138,36 +137,22 @@ fn held(lodgements: [Lodgement; 128], units: [Unit; 128], p: Places) -> Executio
     }
 }
 
-// What the lodgements at some places have at place k of their energies.
-fn energies_at(energies: [Energies; 128], k: usize, p: Places) -> [u32; 128]
+// What the lodgements at some places have in the hour at place k.
+fn slots_at(energies: [Energies; 128], k: usize, p: Places) -> Slots
     requires { ⌜ Inside p × (k < 25) ⌝ }
-    ensures { λ r. ⌜ Column (energyAt energies k (p .at)) 0 (p .count) 128 r ⌝ }
+    ensures { λ r. ⌜ Slotted energies k p r ⌝ }
 {
     let at = p.at;
     let count = p.count;
-    let mut a = [0u32; 128];
+    let mut energy = [0u32; 128];
+    let mut price = [0u32; 128];
     for i in 0..count {
         let j = at[i];
         let e = energies[j];
-        a[i] = e.energies[k];
+        energy[i] = e.energies[k];
+        price[i] = e.prices[k];
     }
-    a
-}
-
-// And of their prices.
-fn prices_at(energies: [Energies; 128], k: usize, p: Places) -> [u32; 128]
-    requires { ⌜ Inside p × (k < 25) ⌝ }
-    ensures { λ r. ⌜ Column (priceAt energies k (p .at)) 0 (p .count) 128 r ⌝ }
-{
-    let at = p.at;
-    let count = p.count;
-    let mut a = [0u32; 128];
-    for i in 0..count {
-        let j = at[i];
-        let e = energies[j];
-        a[i] = e.prices[k];
-    }
-    a
+    Slots { energy, price }
 }
 
 // The capacity notice of the direction at a way; border 0 has none.
@@ -232,11 +217,13 @@ pub fn hour_at(s: Session, holders: [Unit; 128], k: usize) -> Hour
     let p = chosen(verdicts, lodgements, energies, n, false, k);
     let q = chosen(verdicts, lodgements, energies, n, true, k);
     let o = held(lodgements, holders, p);
-    let price = prices_at(energies, k, p);
-    let offered = energies_at(energies, k, p);
+    let named = slots_at(energies, k, p);
     let executions = held(lodgements, holders, q);
-    let energy = energies_at(energies, k, q);
+    let executed = slots_at(energies, k, q);
     let c = capacities_at(capacities, k);
+    let price = named.price;
+    let offered = named.energy;
+    let energy = executed.energy;
     let offers = offers_of(o, price);
     let published = c.flags;
     let capacity = c.energies;

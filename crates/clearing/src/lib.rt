@@ -1,6 +1,5 @@
 // Clearing a session's day, hour by hour (document 01, "Clearing, hour by hour").
-ghost use mathlib.Core.Path.{_≡_};
-ghost use Prim.Native.Nat.{_≤_, _<_};
+ghost use Prim.Native.Nat.{_<_};
 ghost use Rattle.rules.specs.DayBook.{clear};
 ghost use Rattle.session.specs.Steps.{Met};
 ghost use Rattle.session.specs.Parts.{Within, Judges, Entered};
@@ -21,6 +20,12 @@ mod hours;
 pub struct Places {
     pub count: usize,
     pub at: [usize; 128],
+}
+
+// What the lodgements at some places have in an hour.
+pub struct Slots {
+    pub energy: [u32; 128],
+    pub price: [u32; 128],
 }
 
 // Capacities of an hour by direction (`borders::way`): whether published, and the energy.

@@ -1,5 +1,4 @@
 use Rattle.clearing.proofs.FigureLaws.{own-here, own-none}
-use borrow.Author.Needs.{needs}
 use Rattle.clearing.proofs.figures.own.Statement.{statement}
 use Rattle.clearing.proofs.figures.own.Tie as tie
 

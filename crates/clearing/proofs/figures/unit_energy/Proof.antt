@@ -1,5 +1,5 @@
 use Prim.Native.Nat.{_≤_, _-_, _+_, _*_}
-use mathlib.Core.Path.{_≡_, _∙_}
+use mathlib.Core.Path.{_≡_}
 use native.Mathlib.Omega.{arith}
 use Rattle.clearing.specs.Shown.{unitEnergy}
 use Rattle.clearing.proofs.FigureLaws.{summed, sum-start, sum-next, sum-end}

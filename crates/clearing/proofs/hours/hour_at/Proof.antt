@@ -1,5 +1,3 @@
-use mathlib.Core.Path.{sym}
-use native.Mathlib.Omega.{arith}
 use Rattle.clearing.proofs.PlaceLaws.{chosen-inside}
 use borrow.Author.Needs.{needs}
 use Rattle.clearing.proofs.hours.hour_at.Statement.{statement}
@@ -14,36 +12,33 @@ chosen-requires-2 c κs = search needs
 held-requires : tie.Need-held-requires
 held-requires c κs = chosen-inside (c .before .chosen .ensures) (c .before .before .before .before .before .before .pre .0)
 
-prices-at-requires : tie.Need-prices-at-requires
-prices-at-requires c κs = (chosen-inside (c .before .before .chosen .ensures) (c .before .before .before .before .before .before .before .pre .0), c .before .before .before .before .before .before .before .pre .1)
-
-energies-at-requires : tie.Need-energies-at-requires
-energies-at-requires c κs = (chosen-inside (c .before .before .before .chosen .ensures) (c .before .before .before .before .before .before .before .before .pre .0), c .before .before .before .before .before .before .before .before .pre .1)
+slots-at-requires : tie.Need-slots-at-requires
+slots-at-requires c κs = (chosen-inside (c .before .before .chosen .ensures) (c .before .before .before .before .before .before .before .pre .0), c .before .before .before .before .before .before .before .pre .1)
 
 held-requires-2 : tie.Need-held-requires-2
-held-requires-2 c κs = chosen-inside (c .before .before .before .chosen2 .ensures) (c .before .before .before .before .before .before .before .before .before .pre .0)
+held-requires-2 c κs = chosen-inside (c .before .before .chosen2 .ensures) (c .before .before .before .before .before .before .before .before .pre .0)
 
-energies-at-requires-2 : tie.Need-energies-at-requires-2
-energies-at-requires-2 c κs = (chosen-inside (c .before .before .before .before .chosen2 .ensures) (c .before .before .before .before .before .before .before .before .before .before .pre .0), c .before .before .before .before .before .before .before .before .before .before .pre .1)
+slots-at-requires-2 : tie.Need-slots-at-requires-2
+slots-at-requires-2 c κs = (chosen-inside (c .before .before .before .chosen2 .ensures) (c .before .before .before .before .before .before .before .before .before .pre .0), c .before .before .before .before .before .before .before .before .before .pre .1)
 
 capacities-at-requires : tie.Need-capacities-at-requires
-capacities-at-requires c κs = c .before .before .before .before .before .before .before .before .before .before .before .pre .1
+capacities-at-requires c κs = c .before .before .before .before .before .before .before .before .before .before .pre .1
 
 offers-of-requires : tie.Need-offers-of-requires
 offers-of-requires c κs = search needs
 
 returns : tie.Need-returns
 returns c = rw (c .before .before .offers-of .ensures) (record {
-  places = c .before .before .before .before .before .before .before .before .before .before .chosen .result;
-  chosen = c .before .before .before .before .before .before .before .before .before .before .chosen .ensures;
-  holders = c .before .before .before .before .before .before .before .before .held .ensures;
-  prices = c .before .before .before .before .before .before .before .prices-at .ensures;
-  offered = c .before .before .before .before .before .before .energies-at .ensures;
-  places′ = c .before .before .before .before .before .before .before .before .before .chosen2 .result;
-  chosen′ = c .before .before .before .before .before .before .before .before .before .chosen2 .ensures;
-  holders′ = c .before .before .before .before .before .held2 .ensures;
-  energies = c .before .before .before .before .energies-at2 .ensures;
-  capacities = c .before .before .before .capacities-at .ensures;
+  places = c .before .before .before .before .before .before .before .before .before .before .before .before .chosen .result;
+  chosen = c .before .before .before .before .before .before .before .before .before .before .before .before .chosen .ensures;
+  holders = c .before .before .before .before .before .before .before .before .before .before .held .ensures;
+  prices = c .before .before .before .before .before .before .before .before .before .slots-at .ensures .prices;
+  offered = c .before .before .before .before .before .before .before .before .before .slots-at .ensures .energies;
+  places′ = c .before .before .before .before .before .before .before .before .before .before .before .chosen2 .result;
+  chosen′ = c .before .before .before .before .before .before .before .before .before .before .before .chosen2 .ensures;
+  holders′ = c .before .before .before .before .before .before .before .before .held2 .ensures;
+  energies = c .before .before .before .before .before .before .before .slots-at2 .ensures .energies;
+  capacities = c .before .before .before .before .before .before .capacities-at .ensures;
 })
 
 pub hour-at-spec : {M : Type 1} → statement M
@@ -53,10 +48,9 @@ hour-at-spec =
     chosen-requires
     chosen-requires-2
     held-requires
-    prices-at-requires
-    energies-at-requires
+    slots-at-requires
     held-requires-2
-    energies-at-requires-2
+    slots-at-requires-2
     capacities-at-requires
     offers-of-requires
     returns)
