@@ -32,7 +32,7 @@ use Rattle.session.specs.declared.Opened.{Opened}
 use Rattle.queries.specs.Replies.{replyIn}
 use Rattle.queries.specs.declared.Reply.{Reply}
 use Rattle.daybook.specs.Runs.{Ran}
-use Rattle.daybook.specs.Demand3.{Asked, figureIn, energyIn, isAcceptance, Judged, matchedOf, executedOf, crossingAt, uncutAt, IsCut, Carried, Holds, Demand3}
+use Rattle.daybook.specs.Demand3.{Asked, figureIn, energyIn, isAcceptance, Judged, matchedOf, executedOf, crossingAt, uncutAt, IsCut, Carried, Holds, Demand3, Demanded}
 use Rattle.daybook.proofs.RunLaws.{day-book}
 use Rattle.daybook.proofs.ReplyLaws.{number-of, energy-of, acceptance-of, limit-of, hidden-of, of-hidden, all-found, all-entries, sum-same, number-good, verdict-given, matched-given, executed-given, market-given, bilateral-given}
 
@@ -136,10 +136,8 @@ module _ (b : Book) (s : R.Sound b) (reply : Q.Query → Reply) (told : (q : Q.Q
       borders = λ border export es first last e. carried border export (hourly es h) first last (hour .borders border export es first last e);
     }
 
--- Demand 3: for every list of calls from opening, each on the session the last one left, and whatever its queries then reply
-pub demand-3 : (d : Date) (o : Opened) {t : Session} {cs : List D.Call} {rs : List D.Answer} (reply : Q.Query → Reply)
-    → Opens d o → Ran (o .session) cs t rs → Asked t reply → Demand3 (D.opening d .book) cs rs reply
-demand-3 d o {cs = cs} reply p ran asked =
+pub demand-3 : Demanded
+demand-3 d o cs t rs reply p ran asked =
     let a = day-book d o p ran in
     let b = D.after (D.opening d .book) cs in
     let told : (q : Q.Query) → replyIn (reply q) ≡ Q.query b q = λ q. asked q b (a .sound) (a .session) in

@@ -6,7 +6,7 @@ use mathlib.Core.List.{List, [], _∷_, _++_, map, append-assoc}
 use native.Mathlib.Omega.{arith}
 use native.Mathlib.Numerals.{add-one}
 use lib.Dec.{leb, eqb}
-use lib.ListN.{length, getD, set, take, drop, length-drop, length-append, length-map}
+use lib.ListN.{length, getD, set, take, drop, length-drop, length-take, length-append, length-map}
 use lib.Seq.{getD-drop, drop-drop, drop-cons}
 use borrow.Author.Tests.{le-leb, lt-leb}
 use Rattle.rules.specs.Lists.{from}
@@ -14,7 +14,7 @@ use Rattle.rules.specs.Hours.{Date}
 use Rattle.rules.specs.Book.{Book}
 use Rattle.rules.specs.DayBook as D
 use Rattle.rules.specs.Sound.{WellTyped}
-use Rattle.rules.proofs.BoolLaws.{by-bool}
+use Rattle.rules.proofs.BoolLaws.{by-bool, both}
 use Rattle.session.specs.Image.{image, Sound}
 use Rattle.session.specs.Steps.{Met, As, said, Opens}
 use Rattle.session.specs.declared.Session.{Session}
@@ -23,7 +23,7 @@ use Rattle.session.specs.declared.Opened.{Opened}
 use Rattle.session.proofs.SoundLaws.{opening-sound, turn-sound}
 use Rattle.session.proofs.LaidLaws.{map-last}
 use Rattle.log.specs.Calls.{callOf, directionsOf, isCall, starts, sizeOf, firstCall, onward, callsIn, bytesIn, answerWord}
-use Rattle.daybook.specs.Replays.{Replays, Running}
+use Rattle.daybook.specs.Replays.{RunsRecord, Replays, Running}
 use Rattle.daybook.specs.declared.Replayed.{Replayed}
 use Rattle.daybook.proofs.RunLaws.{other, notice-typed}
 use Rattle.daybook.proofs.CallLaws.{met-as}
@@ -178,18 +178,30 @@ running-next b log N old s at n words k size word p r w less same whole ek es ep
     let e : callOf k p ≡ firstCall (drop at log) = rw (ep, ek, es) in
     rw es (running-one b log N old s at n words word r w less same whole (rw es at fits) (met-as s _ _ r e met) ew)
 
+-- a whole record is that of a call
+record-known : (log : List ℕ) (at k size : ℕ) (p : List ℕ) → starts (drop at log) ≡ true → k ≡ getD (drop at log) 0 0 → size ≡ sizeOf (drop at log)
+    → p ≡ take size (drop 3 (drop at log)) → at + (3 + size) ≤ length log → isCall k (length p) ≡ true
+unfolding starts
+record-known log at k size p whole ek es ep fits =
+    let l1 = length-take size (drop 3 (drop at log)) in
+    let l2 = length-drop 3 (drop at log) in
+    let l3 = length-drop at log in
+    let many : length p ≡ size = ap length ep ∙ omega arith in
+    rw (many, ek, es) (both (leb (3 + sizeOf (drop at log)) (length (drop at log))) _ whole .1)
+
 -- the same as the code has it: the record's bytes stand from `at + 3` to `to`
 pub running-on : (b : Book) (log : List ℕ) (old : List ℕ) (s : Session) (at n : ℕ) (words : List ℕ) (whole : Bool) (k size to word : ℕ) (p : List ℕ) (r : Turn)
     → Running b log (length old) old s at n words → n < length old → whole ≡ true → whole ≡ starts (drop at log)
     → (k ≡ getD (drop at log) 0 0) × (size ≡ sizeOf (drop at log)) × (at + (3 + size) ≤ length log)
     → to ≡ at + 3 + size → p ≡ take (to - (at + 3)) (drop (at + 3) log)
-    → Met s (callOf k p) r → word ≡ answerWord (said (r .answer))
+    → RunsRecord s k p r → word ≡ answerWord (said (r .answer))
     → Running b log (length old) old (r .session) to (n + 1) (set words n word)
-running-on b log old s at n words whole k size to word p r w less is same head et ep met ew =
+running-on b log old s at n words whole k size to word p r w less is same head et ep runs ew =
     let e : at + 3 + size ≡ at + (3 + size) = omega arith in
     let z : to - (at + 3) ≡ size = omega arith in
     let q : p ≡ take size (drop 3 (drop at log)) = ep ∙ rw (z, drop-drop 3 at log) in
-    rw (et, e) (running-next b log (length old) old s at n words k size word p r w less refl (sym same ∙ is) (head .0) (head .1) q (head .2) met ew)
+    let known = record-known log at k size p (sym same ∙ is) (head .0) (head .1) q (head .2) in
+    rw (et, e) (running-next b log (length old) old s at n words k size word p r w less refl (sym same ∙ is) (head .0) (head .1) q (head .2) (runs .call known) ew)
 
 -- The end
 

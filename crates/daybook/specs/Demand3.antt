@@ -18,12 +18,16 @@ use Rattle.rules.specs.Queries as Q
 use Rattle.rules.specs.DayBook as D
 use Rattle.rules.specs.Demands.{ClosedIn, Passes, ChosenAt, Kept, executionsAt, acceptedExecuted}
 use Rattle.rules.specs.Clearing.{figuresAt}
+use Rattle.session.specs.Steps.{Opens}
 use Rattle.session.specs.declared.Session.{Session}
+use Rattle.session.specs.declared.Opened.{Opened}
+use Rattle.daybook.specs.Runs.{Ran}
 use Rattle.queries.specs.Replies.{replyIn, Answered}
 use Rattle.queries.specs.declared.Reply.{Reply}
 use Rattle.queries.specs.declared.Reply.the-variants.{Refused, Accepted, Hidden, Limit, Number, Absent}
 
--- What the session's queries reply: a reply for each query, of which that query's own contract holds.
+-- What the session's queries reply: a reply for each query, of which that query's own contract holds. (A number that no
+-- function's argument can hold is a query here too; the claim is then wider, and such a reply can be had from the book.)
 abbrev pub Asked : Session → (Q.Query → Reply) → Type 0
 Asked t reply = (q : Q.Query) → Answered t q (reply q)
 
@@ -101,7 +105,7 @@ module _ (b : Book) (reply : Q.Query → Reply) where
       pub borders : (border : ℕ) (export : Bool) (es : List ℕ) → 1 ≤ border → border ≤ 4 → capacityOf (b .capacities) border export ≡ some es
           → Carried border export (hourly es h)
 
--- Demand 3. The book is that after the calls.
+-- What holds after some calls from a book; `D.after start cs` is the book after them.
 pub record Demand3 (start : Book) (cs : List D.Call) (rs : List D.Answer) (reply : Q.Query → Reply) : Type 0 where
   -- "every answer [..] is that of document 01's day book"
   pub answers : rs ≡ D.answers start cs
@@ -114,3 +118,9 @@ pub record Demand3 (start : Book) (cs : List D.Call) (rs : List D.Answer) (reply
   pub closing : D.after start cs .closed ≡ true → All (Judged (D.after start cs) reply) (D.after start cs .standing)
   -- "If clearing was accepted too, all that follows holds in each hour."
   pub clearing : D.after start cs .cleared ≡ true → (h : ℕ) → 1 ≤ h → h ≤ hours (D.after start cs) → Holds (D.after start cs) reply h
+
+-- Demand 3: for every date and list of calls, from the session that opening gave, each call on the session the last one left,
+-- and whatever the queries of the session at the list's end reply
+abbrev pub Demanded : Type 0
+Demanded = (d : Date) (o : Opened) (cs : List D.Call) (t : Session) (rs : List D.Answer) (reply : Q.Query → Reply)
+    → Opens d o → Ran (o .session) cs t rs → Asked t reply → Demand3 (D.opening d .book) cs rs reply

@@ -1,16 +1,25 @@
--- What `replay` promises: the claim of demand 3, of the calls of a log.
+-- What `run` and `replay` promise: of the calls of a log, every answer and the session at their end are the day book's. What
+-- demand 3 says of that book is specs/Demand3.antt.
 use Prim.Native.Nat.{ℕ, _+_, _-_, _≤_}
 use mathlib.Core.Path.{_≡_}
+use mathlib.Core.Bool.{true, false}
 use mathlib.Core.List.{List, _++_, map}
 use lib.ListN.{length, drop}
 use Rattle.rules.specs.Hours.{Date}
 use Rattle.rules.specs.Book.{Book}
 use Rattle.rules.specs.DayBook as D
 use Rattle.session.specs.Image.{image, Sound}
-use Rattle.session.specs.Steps.{said}
+use Rattle.session.specs.Steps.{Met, said}
+use Rattle.session.specs.Parts.{refusedWith}
+use Rattle.session.specs.declared.Turn.{Turn}
 use Rattle.session.specs.declared.Session.{Session}
-use Rattle.log.specs.Calls.{callsIn, bytesIn, answerWord}
+use Rattle.log.specs.Calls.{isCall, callOf, callsIn, bytesIn, answerWord}
 use Rattle.daybook.specs.declared.Replayed.{Replayed}
+
+-- of one record: the call's own promise, or a refusal
+pub record RunsRecord (s : Session) (kind : ℕ) (p : List ℕ) (r : Turn) : Type 0 where
+  pub call : isCall kind (length p) ≡ true → Met s (callOf kind p) r
+  pub none : isCall kind (length p) ≡ false → r ≡ refusedWith s 3 0
 
 -- of a date, a log, room for N answers, what stood there and what stands there now
 pub record Replays (d : Date) (log : List ℕ) (N : ℕ) (old words : List ℕ) (r : Replayed) : Type 0 where

@@ -14,8 +14,8 @@ use Rattle.session.specs.declared.Unit.{Unit}
 use Rattle.session.specs.declared.Key.{Key}
 use Rattle.session.specs.declared.Published.{Published}
 
--- A call was made, with its arguments and what it gave: each premise is the function's own contract, and the call is what the
--- book is fed.
+-- A call was made, with its arguments and what it gave: each premise is the function's own contract (a capacity notice comes in
+-- an array of eight), and the call is what the book is fed.
 pub data Called (s : Session) : D.Call → Turn → Type 0 where
   registers : (u : Unit) {r : Turn} → Met s (D.register (unitIn u)) r → Called s (D.register (unitIn u)) r
   notifies : (ps : List Published) {r : Turn} → length ps ≡ 8 → Met s (D.capacity (capacitiesIn ps)) r → Called s (D.capacity (capacitiesIn ps)) r

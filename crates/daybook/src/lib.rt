@@ -1,5 +1,5 @@
-// Demand 3: the theorem over every list of calls stands in proofs/DayBook.antt. `replay` runs a log of calls, with the same
-// claim for its list: what a recovery and a rehearsal run on.
+// Demand 3: specs/Demand3.antt states it over every list of calls, proofs/DemandLaws.antt proves it. `replay` runs a log of
+// calls: every answer and the session at its end are the day book's, so that a recovery and a rehearsal can run on it.
 ghost use mathlib.Core.Path.{_≡_};
 ghost use mathlib.Core.Bool.{true};
 ghost use Prim.Native.Nat.{_+_, _*_, _≤_};
@@ -7,7 +7,7 @@ ghost use lib.ListN.{length, drop, getD};
 ghost use Rattle.calendar.specs.View.{dateIn};
 ghost use Rattle.session.specs.Steps.{Met};
 ghost use Rattle.log.specs.Calls.{callOf, starts, sizeOf};
-ghost use Rattle.daybook.specs.Replays.{Replays};
+ghost use Rattle.daybook.specs.Replays.{RunsRecord, Replays};
 use calendar::Date;
 use reader::bits::byte_at;
 use session::Answer;
@@ -30,8 +30,8 @@ struct Head {
     size: usize,
 }
 
-// Runs the call of one record.
-pub fn run(s: Session, kind: u8, p: &[u8]) -> Turn
+// The call of a record whose count of bytes is that of its kind.
+fn run_call(s: Session, kind: u8, p: &[u8]) -> Turn
     ensures { λ r. ⌜ Met s (callOf kind (now (p .entry))) r ⌝ }
 {
     if kind == 1 {
@@ -59,6 +59,16 @@ pub fn run(s: Session, kind: u8, p: &[u8]) -> Turn
         return closing::close(s);
     }
     clearing::clear(s)
+}
+
+// Runs the call of one record. What is no call's record is refused as 3 and changes nothing.
+pub fn run(s: Session, kind: u8, p: &[u8]) -> Turn
+    ensures { λ r. ⌜ RunsRecord s kind (now (p .entry)) r ⌝ }
+{
+    if log::is_call(kind, p.len()) {
+        return run_call(s, kind, p);
+    }
+    s.refused(3, 0)
 }
 
 // Two bytes as one number, the first higher.

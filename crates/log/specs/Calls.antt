@@ -18,10 +18,11 @@ use Rattle.session.specs.Laid.{counted}
 unfoldable pub markAt : List ℕ → ℕ → Bool
 markAt p i = not (eqb (getD p i 0) 0)
 
--- 25 numbers of four bytes from place i on
+-- the k-th number of four bytes from place i on
 unfoldable pub numberIn : List ℕ → ℕ → ℕ → ℕ
 numberIn p i k = wordAt p (i + k * 4)
 
+-- 25 of them
 unfoldable pub numbersAt : List ℕ → ℕ → List ℕ
 numbersAt p i = map (numberIn p i) (from 0 25)
 
@@ -52,7 +53,7 @@ directionsOf p = map (directionIn p) (from 0 8)
 
 -- Records
 
--- a record's kind, and whether the count of bytes that follow is that of the kind: register, capacity, available, lodge (a
+-- whether the count of bytes that follow is that of the kind: register, capacity, available, lodge (a
 -- message of any length), annul, close, clear
 unfoldable pub isCall : ℕ → ℕ → Bool
 isCall kind size =
@@ -64,7 +65,7 @@ isCall kind size =
     (cond (eqb kind 6) (eqb size 0)
     (eqb kind 7 && eqb size 0))))))
 
--- the call that the bytes say
+-- the call that the bytes say, of a kind and count that `isCall` admits
 unfoldable pub callOf : ℕ → List ℕ → Call
 callOf kind p =
     cond (eqb kind 1) (register (unitOf p))
@@ -94,12 +95,12 @@ unfoldable pub callsIn : ℕ → List ℕ → List Call
 callsIn zero log = []
 callsIn (suc n) log = cond (starts log) (firstCall log ∷ callsIn n (onward log)) []
 
--- and the bytes of their records
+-- and how many bytes their records have
 unfoldable pub bytesIn : ℕ → List ℕ → ℕ
 bytesIn zero log = 0
 bytesIn (suc n) log = cond (starts log) (3 + sizeOf log + bytesIn n (onward log)) 0
 
--- an answer as one number: its kind, and what it says below
+-- an answer as one number: its kind, and what it says below (a day's steps are at most 25 times 128 times 99,999)
 unfoldable pub answerWord : Answer → ℕ
 answerWord done = 0
 answerWord (refusal n h) = 1152921504606846976 + (n * 256 + h)
