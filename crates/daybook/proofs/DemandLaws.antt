@@ -2,7 +2,7 @@
 use Prim.Native.Nat.{ℕ, _+_, _≤_, _<_}
 use mathlib.Core.Path.{_≡_, refl, sym, ap, ap₂, _∙_}
 use mathlib.Core.Logic.{_↔_}
-use mathlib.Core.Bool.{Bool, true, false, Bool·beq}
+use mathlib.Core.Bool.{Bool, true, false, Bool·beq, false≢true}
 use mathlib.Core.List.{List}
 use mathlib.Core.Option.{some}
 use native.Mathlib.Omega.{arith}
@@ -34,7 +34,7 @@ use Rattle.queries.specs.declared.Reply.{Reply}
 use Rattle.daybook.specs.Runs.{Ran}
 use Rattle.daybook.specs.Demand3.{Asked, figureIn, energyIn, isAcceptance, Judged, matchedOf, executedOf, crossingAt, uncutAt, IsCut, Carried, Holds, Demand3, Demanded}
 use Rattle.daybook.proofs.RunLaws.{day-book}
-use Rattle.daybook.proofs.ReplyLaws.{number-of, energy-of, acceptance-of, limit-of, hidden-of, of-hidden, all-found, all-entries, sum-same, number-good, verdict-given, matched-given, executed-given, market-given, bilateral-given}
+use Rattle.daybook.proofs.ReplyLaws.{number-of, energy-of, acceptance-of, limit-of, hidden-of, of-hidden, told-limit, all-found, all-entries, sum-same, number-good, verdict-given, matched-given, executed-given, market-given, bilateral-given}
 
 module _ (b : Book) (s : R.Sound b) (reply : Q.Query → Reply) (told : (q : Q.Query) → replyIn (reply q) ≡ Q.query b q) where
   -- Closing
@@ -48,6 +48,8 @@ module _ (b : Book) (s : R.Sound b) (reply : Q.Query → Reply) (told : (q : Q.Q
       let a : isAcceptance r ≡ C.isAccepted v = acceptance-of r v e in
       record {
         exactly = λ shown. let k = j .exactly shown in ((λ f. k .0 (sym a ∙ f)), (λ w. a ∙ k .1 w));
+        refused = λ shown f.
+            told-limit r v e (sym a ∙ f) (λ q. absurd (false≢true (sym shown ∙ j .hiding .0 q)));
         chosen = λ n h q. j .chosen n h (limit-of r v e n h q);
         hiding = ((λ q. j .hiding .0 (hidden-of r v e q)), (λ w. of-hidden r (e ∙ ap (λ (x : C.Verdict). given (Q.judged x)) (j .hiding .1 w))));
       }
@@ -123,7 +125,7 @@ module _ (b : Book) (s : R.Sound b) (reply : Q.Query → Reply) (told : (q : Q.Q
         within = rw crossing-as (k .within);
         cut = (
           (λ w. rw uncut-as (k .cut .0 (some-cut-units b s way h .1 (cut-units w)))),
-          (λ p. units-cut (some-cut-units b s way h .0 (k .cut .1 (rw uncut-as at p))))
+          (λ p. units-cut (some-cut-units b s way h .0 (k .cut .1 (rw uncut-as at p)))),
         );
         stands = λ p. crossing-as ∙ k .stands (rw uncut-as at p);
         share = k;

@@ -1,7 +1,7 @@
 -- What the queries reply, on a session that stands for a book.
 use Prim.Native.Nat.{ℕ, _≤_, _<_}
 use mathlib.Core.Path.{_≡_, refl, sym, ap, _∙_}
-use mathlib.Core.Bool.{Bool, true, false, _||_}
+use mathlib.Core.Bool.{Bool, true, false, _||_, false≢true}
 use mathlib.Core.List.{List, [], _∷_, map}
 use native.Mathlib.Omega.{arith}
 use lib.Dec.{eqb, ltb}
@@ -93,6 +93,30 @@ of-hidden Accepted e = let z : _≡_ {A = ℕ} 0 1 = ap isHiding e in absurd (om
 of-hidden (Limit n h) e = let z : _≡_ {A = ℕ} 0 1 = ap isHiding e in absurd (omega arith)
 of-hidden (Number y) e = let z : _≡_ {A = ℕ} 0 1 = ap isHiding e in absurd (omega arith)
 of-hidden Absent e = let z : _≡_ {A = ℕ} 0 1 = ap isHiding e in absurd (omega arith)
+
+-- and only a limit as that limit
+abbrev isLimiting : Outcome Q.Shown → ℕ
+isLimiting (given (Q.judged (C.limit n h))) = 1
+isLimiting (given (Q.judged C.hidden)) = 0
+isLimiting (given (Q.judged C.accepted)) = 0
+isLimiting (given (Q.number z)) = 0
+isLimiting (given Q.absent) = 0
+isLimiting (refused n h) = 0
+
+of-limit : (r : Reply) (n h : ℕ) → replyIn r ≡ given (Q.judged (C.limit n h)) → r ≡ Limit n h
+unfolding replyIn
+of-limit (Limit m k) n h e = cc
+of-limit (Refused m k) n h e = let z : _≡_ {A = ℕ} 0 1 = ap isLimiting e in absurd (omega arith)
+of-limit Accepted n h e = let z : _≡_ {A = ℕ} 0 1 = ap isLimiting e in absurd (omega arith)
+of-limit Hidden n h e = let z : _≡_ {A = ℕ} 0 1 = ap isLimiting e in absurd (omega arith)
+of-limit (Number y) n h e = let z : _≡_ {A = ℕ} 0 1 = ap isLimiting e in absurd (omega arith)
+of-limit Absent n h e = let z : _≡_ {A = ℕ} 0 1 = ap isLimiting e in absurd (omega arith)
+
+pub told-limit : (r : Reply) (v : C.Verdict) → replyIn r ≡ given (Q.judged v) → C.isAccepted v ≡ false → (v ≡ C.hidden → ⊥) → (n : ℕ) × (h : ℕ) × (r ≡ Limit n h)
+unfolding C.isAccepted
+told-limit r C.accepted e a h = absurd (false≢true (sym a))
+told-limit r C.hidden e a h = absurd (h refl)
+told-limit r (C.limit n k) e a h = (n, k, of-limit r n k e)
 
 -- Elements of a list by their number
 

@@ -57,7 +57,9 @@ module _ (b : Book) (reply : Q.Query → Reply) where
     -- "an unhidden lodgement standing at closing was refused there exactly when, in an hour it names, its energy with that
     -- accepted before it on its unit passes the ceiling"
     pub exactly : isHidden (b .standing) l ≡ false → (isAcceptance (reply (Q.verdict (l .number))) ≡ false) ↔ ((h : ℕ) × Passes b l h)
-    -- then the reply is the first limit passed and the lowest hour in which it is
+    -- one that was refused is told so by a limit and an hour,
+    pub refused : isHidden (b .standing) l ≡ false → isAcceptance (reply (Q.verdict (l .number))) ≡ false → (n : ℕ) × (h : ℕ) × (reply (Q.verdict (l .number)) ≡ Limit n h)
+    -- the first limit passed and the lowest hour in which it is
     pub chosen : (n h : ℕ) → reply (Q.verdict (l .number)) ≡ Limit n h → ChosenAt b l n h
     -- a hidden one is told so, and no other
     pub hiding : (reply (Q.verdict (l .number)) ≡ Hidden) ↔ (isHidden (b .standing) l ≡ true)

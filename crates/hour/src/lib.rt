@@ -21,7 +21,8 @@ ghost use Rattle.hour.specs.View.{hourIn, figuresIn, noFigures, AtBorder
 ghost use Rattle.hour.specs.Parts.{Energies, Crossing, Begun, Withdrew, MarketCleared};
 
 // An hour as it is cleared: its accepted offers and executions by rising lodging number with their energies, and its
-// published capacities by direction (`borders::way`).
+// published capacities by direction (`borders::way`). Of the executions the order is the caller's: Share takes them as they
+// stand.
 pub struct Hour {
     pub offers: Offers,
     pub offered: [u32; 128],

@@ -14,7 +14,7 @@ use session::Turn;
 // The refusal table's number for a wrong form.
 pub const FORM: u32 = 3;
 
-// Lodges a message: 2, 3, 4, 5, 6, 9, 10, 11, 12. "After a 3 nothing further is read".
+// Lodges a message: 2, 3, 4, 5, 6, 9, 10, 11, 12; "after a 3 nothing further is read".
 pub fn lodge(s: Session, message: &[u8]) -> Turn
     ensures { λ r. ⌜ Met s (lodge (now (message .entry))) r ⌝ }
 {

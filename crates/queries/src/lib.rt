@@ -38,7 +38,7 @@ const NOT_STANDING: u32 = 13;
 
 // Refusals
 
-// A figure of an hour: 2, 4. No session that the calls leave is unsound.
+// A figure of an hour: 2, 4. A session that the guard rejects is answered 2; no call leaves one.
 fn judge_hour(s: Session, hour: u32) -> Judged
     ensures { λ r. ⌜ Judges s (Q.price hour) r × (r ≡ Judged.Clear → HourFits s hour) ⌝ }
 {

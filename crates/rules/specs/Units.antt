@@ -15,7 +15,7 @@ maxEnergy = 99999
 abbrev pub maxPrice : ℕ
 maxPrice = 18030
 
--- numbers of units, agents and contracts: "each 1 to 65,535"
+-- numbers of units and agents, "each 1 to 65,535", and of an execution's contract
 unfoldable pub badNumber : ℕ → Bool
 badNumber n = eqb n 0 || ltb 65535 n
 

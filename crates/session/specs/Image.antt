@@ -157,7 +157,7 @@ image b = record {
   figures = pad 25 noFigures (map (figuresAs b) (hoursIn b));
 }
 
--- The books that opening and the calls leave: within document 01's ranges, with a capacity notice of 4 times 2 directions
+-- What holds of every book that opening and the calls leave: document 01's ranges, and a capacity notice of 4 times 2 directions
 pub record Sound (b : B.Book) : Type 0 where
   pub ranges : R.Sound b
   pub directions : length (b .capacities) ≡ 8

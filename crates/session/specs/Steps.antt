@@ -30,7 +30,7 @@ pub record As (t : D.Turn) (a : Answer) (s : Session) : Type 0 where
   pub session : s ≡ image (t .book)
 
 -- The promise of every call: on a session that stands for a sound book, the book's turn; on any session, a refusal
--- hands it back.
+-- hands it back. ("nothing is promised of another": there the answer is free.)
 pub record Met (s : Session) (c : D.Call) (r : Turn) : Type 0 where
   pub book : (b : Book) → Sound b → s ≡ image b → As (D.turn b c) (r .answer) (r .session)
   pub kept : isRefusal (r .answer) ≡ true → r .session ≡ s

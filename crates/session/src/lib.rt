@@ -209,7 +209,8 @@ impl Session {
 
     pub const MAX_NUMBER: u32 = 65_535;
 
-    // "A fresh session follows from the date only: no units, no notices, no lodgements."
+    // "A fresh session follows from the date only: no units, no notices, no lodgements." The calls promise something of it
+    // where the date is one; `open` is the way in that tests it.
     pub fn fresh(date: Date) -> Session
         ensures { λ r. ⌜ r ≡ image (fresh (dateIn date)) ⌝ }
     {
