@@ -1,5 +1,4 @@
 // A line run on a session.
-use crate::messages::Draft;
 use crate::messages::message;
 use crate::records::Record;
 use crate::telling::Said;
@@ -22,7 +21,9 @@ use session::Answer;
 use session::Session;
 use session::Turn;
 
-// What a line's first word asks for. The calls have the numbers of their records.
+// What a line's first word asks for. Register to clear are the kinds of the log's records.
+const NO_KIND: u8 = 0;
+
 const REGISTER: u8 = 1;
 
 const CAPACITY: u8 = 2;
@@ -90,7 +91,7 @@ fn call_kind(line: &[u8], w: Word) -> u8 {
     if is_word(line, w, b"execution") {
         return EXECUTION;
     }
-    0
+    NO_KIND
 }
 
 fn query_kind(line: &[u8], w: Word) -> u8 {
@@ -118,12 +119,12 @@ fn query_kind(line: &[u8], w: Word) -> u8 {
     if is_word(line, w, b"bilateral-maximum") {
         return BILATERAL_MAXIMUM;
     }
-    0
+    NO_KIND
 }
 
 fn kind_of(line: &[u8], w: Word) -> u8 {
     let kind = call_kind(line, w);
-    if kind != 0 {
+    if kind != NO_KIND {
         return kind;
     }
     query_kind(line, w)
@@ -156,11 +157,11 @@ fn replied(s: Session, reply: Reply) -> Told {
 
 fn record_of(line: &[u8], p: Scan, kind: u8, record: &mut [u8; 4096]) -> Record {
     match kind {
-        1 => crate::records::register(line, p, record),
-        2 => crate::records::capacity(line, p, record),
-        3 => crate::records::available(line, p, record),
-        4 => crate::records::lodge(line, p, record),
-        5 => crate::records::annul(line, p, record),
+        REGISTER => crate::records::register(line, p, record),
+        CAPACITY => crate::records::capacity(line, p, record),
+        AVAILABLE => crate::records::available(line, p, record),
+        LODGE => crate::records::lodge(line, p, record),
+        ANNUL => crate::records::annul(line, p, record),
         _ => crate::records::bare(line, p),
     }
 }
@@ -301,21 +302,21 @@ fn ask_direction(line: &[u8], p: Scan) -> Question {
 
 fn question_of(line: &[u8], p: Scan, kind: u8) -> Question {
     match kind {
-        11 | 16 => ask_hour(line, p),
-        17 | 18 => ask_direction(line, p),
+        VERDICT | PRICE => ask_hour(line, p),
+        MARKET_MAXIMUM | BILATERAL_MAXIMUM => ask_direction(line, p),
         _ => ask_pair(line, p),
     }
 }
 
 fn reply_to(s: Session, kind: u8, q: Question) -> Reply {
     match kind {
-        11 => queries::verdict(s, q.of),
-        12 => queries::matched(s, q.of, q.hour),
-        13 => queries::executed(s, q.of, q.hour),
-        14 => queries::market(s, q.of, q.hour),
-        15 => queries::bilateral(s, q.of, q.hour),
-        16 => queries::price(s, q.hour),
-        17 => queries::market_maximum(s, q.of, q.import == 0, q.hour),
+        VERDICT => queries::verdict(s, q.of),
+        MATCHED => queries::matched(s, q.of, q.hour),
+        EXECUTED => queries::executed(s, q.of, q.hour),
+        MARKET => queries::market(s, q.of, q.hour),
+        BILATERAL => queries::bilateral(s, q.of, q.hour),
+        PRICE => queries::price(s, q.hour),
+        MARKET_MAXIMUM => queries::market_maximum(s, q.of, q.import == 0, q.hour),
         _ => queries::bilateral_maximum(s, q.of, q.import == 0, q.hour),
     }
 }
@@ -339,11 +340,11 @@ pub fn run(line: &[u8], s: Session) -> Told {
         value: 0,
     };
     match kind {
-        0 => unknown(s),
-        1..=7 => run_record(line, p, kind, s),
-        8 => run_open(line, p, s),
-        9 => run_message(line, p, false, s),
-        10 => run_message(line, p, true, s),
+        NO_KIND => unknown(s),
+        REGISTER..=CLEAR => run_record(line, p, kind, s),
+        OPEN => run_open(line, p, s),
+        OFFER => run_message(line, p, false, s),
+        EXECUTION => run_message(line, p, true, s),
         _ => run_query(line, p, kind, s),
     }
 }

@@ -1,12 +1,12 @@
 // A rehearsal: calls and queries as lines of text on standard input, run on the session that the last one left; each answer
 // is a line (docs/REHEARSAL.md). At the end it says how many were run, refused and not understood.
 use calendar::Date;
+use reader::bits::byte_at;
 use session::Session;
 use telling::Said;
 use telling::put;
 use telling::put_count;
-ghost use mathlib.Core.Path.{_≡_};
-ghost use Prim.Native.Nat.{_≤_, _<_};
+ghost use Prim.Native.Nat.{_≤_};
 ghost use lib.ListN.{length};
 
 mod lines;
@@ -101,21 +101,25 @@ fn run_line(line: &[u8], long: bool, d: Day) -> Day {
     tell(d, session, said)
 }
 
+// A line whose bytes are the first of these.
+fn run_first(line: &[u8], count: usize, long: bool, d: Day) -> Day {
+    if line.len() < count {
+        return d;
+    }
+    run_line(&line[..count], long, d)
+}
+
 // A line's end.
 fn end_line(line: &[u8], f: Fill, before: Day) -> Day {
     let mut d = before;
     d.place = up(d.place);
-    let count = f.count;
-    if count == 0 {
+    if f.count == 0 {
         return d;
     }
-    if line.len() < count {
+    if byte_at(line, 0) == b'#' {
         return d;
     }
-    if line[0] == b'#' {
-        return d;
-    }
-    run_line(&line[..count], f.long, d)
+    run_first(line, f.count, f.long, d)
 }
 
 // A byte of a line.

@@ -1,4 +1,5 @@
-// A line as the record of a call (docs/LOG.md), which `daybook::run` runs.
+// A line as the record of a call (crates/log), which `daybook::run` runs. There is room for as many bytes as a line's
+// hexadecimal digits can give.
 use crate::words::Scan;
 use crate::words::Word;
 use crate::words::after;
@@ -12,9 +13,6 @@ use crate::words::number_in;
 use crate::words::one_of;
 use crate::words::optional;
 use reader::bits::byte_at;
-
-// The bytes of a record: as many as a line's hexadecimal digits can give.
-pub const ROOM: usize = 4096;
 
 // Whether a line is a call, and how many bytes its record has.
 pub struct Record {
@@ -315,17 +313,23 @@ fn all_hex(line: &[u8], from: usize, to: usize) -> bool {
     true
 }
 
-fn put_hex(line: &[u8], from: usize, count: usize, record: &mut [u8; 4096]) {
+// The k-th byte that the digits from a place on give.
+fn put_pair(line: &[u8], from: usize, k: usize, record: &mut [u8; 4096]) {
     if 1_000_000 < from {
         return;
     }
-    if 1_000_000 < count {
+    if 1_000_000 < k {
         return;
     }
+    let at = from + k * 2;
+    let high = hex(byte_at(line, at));
+    let low = hex(byte_at(line, at + 1));
+    put_byte(record, k, joined(high, low));
+}
+
+fn put_hex(line: &[u8], from: usize, count: usize, record: &mut [u8; 4096]) {
     for k in 0..count {
-        let high = hex(byte_at(line, from + k * 2));
-        let low = hex(byte_at(line, from + k * 2 + 1));
-        put_byte(record, k, joined(high, low));
+        put_pair(line, from, k, record);
     }
 }
 

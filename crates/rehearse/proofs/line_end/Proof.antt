@@ -4,8 +4,6 @@ use lib.ListN.{length}
 use borrow.Author.Needs.{needs}
 use Rattle.rehearse.proofs.line_end.Statement.{statement}
 use Rattle.rehearse.proofs.line_end.Tie as tie
-use Rattle.rehearse.proofs.line_end.Reads as reads
-use Rattle.rehearse.proofs.line_end.Lts as lts
 
 abbrev Inv-loop : tie.InvT-loop
 Inv-loop s at i₀ i-end i = (at ≤ i) × (i ≤ length s) × (i-end ≡ length s)
@@ -13,44 +11,5 @@ Inv-loop s at i₀ i-end i = (at ≤ i) × (i ≤ length s) × (i-end ≡ length
 abbrev μ-loop : tie.MeasureT-loop
 μ-loop s at i₀ i-end i = length s - i
 
--- src/main.rt:156:5
-loop-holds : tie.Need-loop-holds Inv-loop μ-loop
-loop-holds c = search needs
-
--- src/main.rt:157:12
-shared-slice-read-if1 : tie.Need-shared-slice-read-if1 Inv-loop μ-loop
-shared-slice-read-if1 c = search needs
-
--- src/main.rt:158:13
-returns : tie.Need-returns Inv-loop μ-loop
-returns c = search needs
-
--- src/main.rt:156:9
-add-i : tie.Need-add-i Inv-loop μ-loop
-add-i c = search needs
-
--- src/main.rt:156:5
-loop-less : tie.Need-loop-less Inv-loop μ-loop
-loop-less c = search needs
-
--- src/main.rt:156:5
-loop-again : tie.Need-loop-again Inv-loop μ-loop
-loop-again c = search needs
-
--- src/main.rt:152:1
-returns-2 : tie.Need-returns-2 Inv-loop μ-loop
-returns-2 c = search needs
-
 pub line-end-spec : {M : Type 1} → statement M
-line-end-spec =
-    tie.close
-    (tie.spec
-    Inv-loop
-    μ-loop
-    loop-holds
-    shared-slice-read-if1
-    returns
-    add-i
-    loop-less
-    loop-again
-    returns-2)
+line-end-spec = tie.close (tie.spec Inv-loop μ-loop (λ c. search needs) (λ c. search needs) (λ c. search needs) (λ c. search needs) (λ c. search needs) (λ c. search needs) (λ c. search needs))
