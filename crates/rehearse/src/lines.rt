@@ -1,25 +1,25 @@
 // A line run on a session.
-use crate::messages::message;
-use crate::records::Record;
 use crate::telling::Said;
 use crate::telling::Told;
-use crate::words::Scan;
-use crate::words::Word;
-use crate::words::after;
-use crate::words::ended;
-use crate::words::find;
-use crate::words::is_ended;
-use crate::words::is_word;
-use crate::words::next_word;
-use crate::words::number;
-use crate::words::number_in;
-use crate::words::one_of;
 use calendar::Date;
 use message::Fields;
 use queries::Reply;
 use session::Answer;
 use session::Session;
 use session::Turn;
+use wording::messages::message;
+use wording::records::Record;
+use wording::words::Scan;
+use wording::words::Word;
+use wording::words::after;
+use wording::words::ended;
+use wording::words::find;
+use wording::words::is_ended;
+use wording::words::is_word;
+use wording::words::next_word;
+use wording::words::number;
+use wording::words::number_in;
+use wording::words::one_of;
 
 // What a line's first word asks for. Register to clear are the kinds of the log's records.
 const NO_KIND: u8 = 0;
@@ -157,12 +157,12 @@ fn replied(s: Session, reply: Reply) -> Told {
 
 fn record_of(line: &[u8], p: Scan, kind: u8, record: &mut [u8; 4096]) -> Record {
     match kind {
-        REGISTER => crate::records::register(line, p, record),
-        CAPACITY => crate::records::capacity(line, p, record),
-        AVAILABLE => crate::records::available(line, p, record),
-        LODGE => crate::records::lodge(line, p, record),
-        ANNUL => crate::records::annul(line, p, record),
-        _ => crate::records::bare(line, p),
+        REGISTER => wording::records::register(line, p, record),
+        CAPACITY => wording::records::capacity(line, p, record),
+        AVAILABLE => wording::records::available(line, p, record),
+        LODGE => wording::records::lodge(line, p, record),
+        ANNUL => wording::records::annul(line, p, record),
+        _ => wording::records::bare(line, p),
     }
 }
 

@@ -6,14 +6,12 @@ use session::Session;
 use telling::Said;
 use telling::put;
 use telling::put_count;
+use wording::words::is_blank;
 ghost use Prim.Native.Nat.{_≤_};
 ghost use lib.ListN.{length};
 
 mod lines;
-mod messages;
-mod records;
 mod telling;
-mod words;
 
 const STDIN: i32 = 0;
 
@@ -132,7 +130,7 @@ fn kept(line: &mut [u8; 8192], f: Fill, b: u8) -> Fill {
         };
     }
     if at == 0 {
-        if words::is_blank(b) {
+        if is_blank(b) {
             return f;
         }
     }

@@ -60,6 +60,12 @@ fn put_row(row: u32) {
         5 => put(b"range"),
         6 => put(b"unit"),
         7 => put(b"taken"),
+        _ => put_later_row(row),
+    }
+}
+
+fn put_later_row(row: u32) {
+    match row {
         8 => put(b"second"),
         9 => put(b"full"),
         10 => put(b"maximum"),
