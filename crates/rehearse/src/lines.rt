@@ -1,0 +1,350 @@
+// A line run on a session.
+use crate::telling::Said;
+use crate::telling::Told;
+use calendar::Date;
+use message::Fields;
+use queries::Reply;
+use session::Answer;
+use session::Session;
+use session::Turn;
+use wording::messages::message;
+use wording::records::Record;
+use wording::words::Scan;
+use wording::words::Word;
+use wording::words::after;
+use wording::words::ended;
+use wording::words::find;
+use wording::words::is_ended;
+use wording::words::is_word;
+use wording::words::next_word;
+use wording::words::number;
+use wording::words::number_in;
+use wording::words::one_of;
+
+// What a line's first word asks for. Register to clear are the kinds of the log's records.
+const NO_KIND: u8 = 0;
+
+const REGISTER: u8 = 1;
+
+const CAPACITY: u8 = 2;
+
+const AVAILABLE: u8 = 3;
+
+const LODGE: u8 = 4;
+
+const ANNUL: u8 = 5;
+
+const CLOSE: u8 = 6;
+
+const CLEAR: u8 = 7;
+
+const OPEN: u8 = 8;
+
+const OFFER: u8 = 9;
+
+const EXECUTION: u8 = 10;
+
+const VERDICT: u8 = 11;
+
+const MATCHED: u8 = 12;
+
+const EXECUTED: u8 = 13;
+
+const MARKET: u8 = 14;
+
+const BILATERAL: u8 = 15;
+
+const PRICE: u8 = 16;
+
+const MARKET_MAXIMUM: u8 = 17;
+
+const BILATERAL_MAXIMUM: u8 = 18;
+
+fn call_kind(line: &[u8], w: Word) -> u8 {
+    if is_word(line, w, b"register") {
+        return REGISTER;
+    }
+    if is_word(line, w, b"capacity") {
+        return CAPACITY;
+    }
+    if is_word(line, w, b"available") {
+        return AVAILABLE;
+    }
+    if is_word(line, w, b"lodge") {
+        return LODGE;
+    }
+    if is_word(line, w, b"annul") {
+        return ANNUL;
+    }
+    if is_word(line, w, b"close") {
+        return CLOSE;
+    }
+    if is_word(line, w, b"clear") {
+        return CLEAR;
+    }
+    if is_word(line, w, b"open") {
+        return OPEN;
+    }
+    if is_word(line, w, b"offer") {
+        return OFFER;
+    }
+    if is_word(line, w, b"execution") {
+        return EXECUTION;
+    }
+    NO_KIND
+}
+
+fn query_kind(line: &[u8], w: Word) -> u8 {
+    if is_word(line, w, b"verdict") {
+        return VERDICT;
+    }
+    if is_word(line, w, b"matched") {
+        return MATCHED;
+    }
+    if is_word(line, w, b"executed") {
+        return EXECUTED;
+    }
+    if is_word(line, w, b"market") {
+        return MARKET;
+    }
+    if is_word(line, w, b"bilateral") {
+        return BILATERAL;
+    }
+    if is_word(line, w, b"price") {
+        return PRICE;
+    }
+    if is_word(line, w, b"market-maximum") {
+        return MARKET_MAXIMUM;
+    }
+    if is_word(line, w, b"bilateral-maximum") {
+        return BILATERAL_MAXIMUM;
+    }
+    NO_KIND
+}
+
+fn kind_of(line: &[u8], w: Word) -> u8 {
+    let kind = call_kind(line, w);
+    if kind != NO_KIND {
+        return kind;
+    }
+    query_kind(line, w)
+}
+
+fn unknown(s: Session) -> Told {
+    Told {
+        session: s,
+        said: Said::Unknown,
+    }
+}
+
+fn called(t: Turn) -> Told {
+    let session = t.session;
+    let answer = t.answer;
+    Told {
+        session,
+        said: Said::Call(answer),
+    }
+}
+
+fn replied(s: Session, reply: Reply) -> Told {
+    Told {
+        session: s,
+        said: Said::Query(reply),
+    }
+}
+
+// Calls by their record
+
+fn record_of(line: &[u8], p: Scan, kind: u8, record: &mut [u8; 4096]) -> Record {
+    match kind {
+        REGISTER => wording::records::register(line, p, record),
+        CAPACITY => wording::records::capacity(line, p, record),
+        AVAILABLE => wording::records::available(line, p, record),
+        LODGE => wording::records::lodge(line, p, record),
+        ANNUL => wording::records::annul(line, p, record),
+        _ => wording::records::bare(line, p),
+    }
+}
+
+// The call of a record's first bytes.
+fn run_first(s: Session, kind: u8, record: &[u8], size: usize) -> Told {
+    if record.len() < size {
+        return unknown(s);
+    }
+    let t = daybook::run(s, kind, &record[..size]);
+    called(t)
+}
+
+fn run_buffer(s: Session, kind: u8, record: &[u8; 4096], size: usize) -> Told {
+    run_first(s, kind, record, size)
+}
+
+fn run_record(line: &[u8], p: Scan, kind: u8, s: Session) -> Told {
+    let mut record = [0u8; 4096];
+    let r = record_of(line, p, kind, &mut record);
+    if !r.good {
+        return unknown(s);
+    }
+    run_buffer(s, kind, &record, r.size)
+}
+
+// A date opened
+
+fn open_date(date: Date) -> Told {
+    let opened = session::open(date);
+    let session = opened.session;
+    let answer = opened.answer;
+    Told {
+        session,
+        said: Said::Call(answer),
+    }
+}
+
+// open 2006-10-29
+fn run_open(line: &[u8], p: Scan, s: Session) -> Told {
+    let w = next_word(line, p.at);
+    let first = find(line, w.from, w.to, b'-');
+    let second = find(line, after(first), w.to, b'-');
+    let year = number_in(line, w.from, first);
+    let month = number_in(line, after(first), second);
+    let day = number_in(line, after(second), w.to);
+    if !year.good {
+        return unknown(s);
+    }
+    if !month.good {
+        return unknown(s);
+    }
+    if !day.good {
+        return unknown(s);
+    }
+    if !is_ended(line, w.to) {
+        return unknown(s);
+    }
+    open_date(Date {
+        year: year.value,
+        month: month.value,
+        day: day.value,
+    })
+}
+
+// A message written and lodged
+
+fn write_and_lodge(m: Fields, s: Session) -> Told {
+    let mut message = [0u8; 108];
+    let w = writer::write(m, &mut message);
+    if w.refusal != 0 {
+        let answer = Answer::Refused(w.refusal, 0);
+        return Told {
+            session: s,
+            said: Said::Call(answer),
+        };
+    }
+    run_first(s, LODGE, &message, w.count)
+}
+
+fn run_message(line: &[u8], p: Scan, execution: bool, s: Session) -> Told {
+    let d = message(line, p, execution);
+    if !d.good {
+        return unknown(s);
+    }
+    let m = d.fields;
+    write_and_lodge(m, s)
+}
+
+// Queries
+
+// What is asked for: a lodging number, a unit or a border; a direction, import 1; an hour.
+struct Question {
+    good: bool,
+    of: u32,
+    import: u32,
+    hour: u32,
+}
+
+// price 3
+fn ask_hour(line: &[u8], p: Scan) -> Question {
+    let hour = number(line, p);
+    let end = ended(line, hour);
+    Question {
+        good: end.good,
+        of: hour.value,
+        import: 0,
+        hour: hour.value,
+    }
+}
+
+// matched 7 3
+fn ask_pair(line: &[u8], p: Scan) -> Question {
+    let of = number(line, p);
+    let hour = number(line, of);
+    let end = ended(line, hour);
+    Question {
+        good: end.good,
+        of: of.value,
+        import: 0,
+        hour: hour.value,
+    }
+}
+
+// market-maximum 1 export 3
+fn ask_direction(line: &[u8], p: Scan) -> Question {
+    let of = number(line, p);
+    let direction = one_of(line, of, b"export", b"import");
+    let hour = number(line, direction);
+    let end = ended(line, hour);
+    Question {
+        good: end.good,
+        of: of.value,
+        import: direction.value,
+        hour: hour.value,
+    }
+}
+
+fn question_of(line: &[u8], p: Scan, kind: u8) -> Question {
+    match kind {
+        VERDICT | PRICE => ask_hour(line, p),
+        MARKET_MAXIMUM | BILATERAL_MAXIMUM => ask_direction(line, p),
+        _ => ask_pair(line, p),
+    }
+}
+
+fn reply_to(s: Session, kind: u8, q: Question) -> Reply {
+    match kind {
+        VERDICT => queries::verdict(s, q.of),
+        MATCHED => queries::matched(s, q.of, q.hour),
+        EXECUTED => queries::executed(s, q.of, q.hour),
+        MARKET => queries::market(s, q.of, q.hour),
+        BILATERAL => queries::bilateral(s, q.of, q.hour),
+        PRICE => queries::price(s, q.hour),
+        MARKET_MAXIMUM => queries::market_maximum(s, q.of, q.import == 0, q.hour),
+        _ => queries::bilateral_maximum(s, q.of, q.import == 0, q.hour),
+    }
+}
+
+fn run_query(line: &[u8], p: Scan, kind: u8, s: Session) -> Told {
+    let q = question_of(line, p, kind);
+    if !q.good {
+        return unknown(s);
+    }
+    let r = reply_to(s, kind, q);
+    replied(s, r)
+}
+
+// A line that is neither blank nor a comment.
+pub fn run(line: &[u8], s: Session) -> Told {
+    let w = next_word(line, 0);
+    let kind = kind_of(line, w);
+    let p = Scan {
+        at: w.to,
+        good: true,
+        value: 0,
+    };
+    match kind {
+        NO_KIND => unknown(s),
+        REGISTER..=CLEAR => run_record(line, p, kind, s),
+        OPEN => run_open(line, p, s),
+        OFFER => run_message(line, p, false, s),
+        EXECUTION => run_message(line, p, true, s),
+        _ => run_query(line, p, kind, s),
+    }
+}
