@@ -22,3 +22,4 @@ pub mod Day21NotOfferedAgain
 pub mod Day22ClosingOrder
 pub mod Day23WhichSide
 pub mod Day24FinerPoints
+pub mod Day25LongDayRefusals
