@@ -17,7 +17,7 @@ mod judging;
 mod turns;
 
 // "normal executions, default executions, offers"
-fn settle(s: Session) -> Turn
+fn give_verdicts(s: Session) -> Turn
     requires { ⌜ Within s ⌝ }
     ensures { λ r. ⌜ Entered s close r ⌝ }
 {
@@ -45,5 +45,5 @@ pub fn close(s: Session) -> Turn
     if s.closed {
         return s.refused(GATE, 0);
     }
-    settle(s)
+    give_verdicts(s)
 }

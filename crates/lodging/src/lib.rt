@@ -1,8 +1,8 @@
 // Lodging and annulling: calls on the session that change its standing lodgements.
 pub mod annulling;
-pub mod beside;
-pub mod entering;
-pub mod judging;
+mod beside;
+mod entering;
+mod judging;
 pub mod keys;
 pub mod lodge;
-pub mod standing;
+mod standing;

@@ -18,6 +18,7 @@ replyIn (Limit n h) = given (judged (C.limit n h))
 replyIn (Number z) = given (number z)
 replyIn Absent = given absent
 
--- The promise of every query: on a session that stands for a sound book, the book's answer.
+-- The promise of every query: on a session that stands for a sound book, the book's answer. ("nothing is promised of another":
+-- there the reply is free.)
 abbrev pub Answered : Session → Query → Reply → Type 0
 Answered s q r = (b : Book) → Sound b → s ≡ image b → replyIn r ≡ query b q

@@ -22,11 +22,11 @@ refused-requires-2 c κs = search needs
 returns-2 : tie.Need-returns-2
 returns-2 c = out-refused _ _ _ _ _ (c .refused2 .ensures) (close-2 (c .before .before .before .before .args .s) (c .before .if2 .taken))
 
-settle-requires : tie.Need-settle-requires
-settle-requires c κs = guarded _ (sym (c .before .before .sound .ensures) ∙ not-false _ (c .before .if1 .left))
+give-verdicts-requires : tie.Need-give-verdicts-requires
+give-verdicts-requires c κs = guarded _ (sym (c .before .before .sound .ensures) ∙ not-false _ (c .before .if1 .left))
 
 returns-3 : tie.Need-returns-3
-returns-3 c = out-entered _ _ _ (close-0 (c .before .before .before .before .args .s) (c .before .if2 .left)) (c .settle .ensures)
+returns-3 c = out-entered _ _ _ (close-0 (c .before .before .before .before .args .s) (c .before .if2 .left)) (c .give-verdicts .ensures)
 
 pub close-spec : {M : Type 1} → statement M
 close-spec =
@@ -37,5 +37,5 @@ close-spec =
     returns
     refused-requires-2
     returns-2
-    settle-requires
+    give-verdicts-requires
     returns-3)
