@@ -18,7 +18,7 @@ use Rattle.session.specs.declared.Session.{Session}
 use Rattle.session.proofs.ImageLaws.{standing-as, lodgements-as, energies-as}
 use Rattle.session.proofs.LaidLaws.{any-map}
 use Rattle.session.proofs.PlaceLaws.{getD-map}
-use Rattle.lodging.specs.Kept.{hiding}
+use Rattle.keys.specs.Keys.{hiding}
 use Rattle.closing.specs.Turns.{beyond, standingAt, isTaken, turnIn, TakesAt}
 
 module _ (s : Session) (b : Book) (e : s ≡ image b) (i : ℕ) (h : i < s .standing) where

@@ -53,7 +53,7 @@ fn run_call(s: Session, kind: u8, p: &[u8]) -> Turn
     }
     if kind == 5 {
         let key = log::key_of(p);
-        return lodging::annulling::annul(s, key);
+        return annulling::annul(s, key);
     }
     if kind == 6 {
         return closing::close(s);

@@ -54,7 +54,7 @@ pub fn lodge(s: &mut Session, message: &[u8]) -> Answer
 pub fn annul(s: &mut Session, key: Key) -> Answer
     ensures { λ r. ⌜ Met (now (s .entry)) (annul (keyIn key)) (record { session = now (s .exit); answer = r }) ⌝ }
 {
-    let t = lodging::annulling::annul(*s, key);
+    let t = annulling::annul(*s, key);
     *s = t.session;
     t.answer
 }

@@ -11,9 +11,9 @@ use Rattle.session.proofs.Key as K
 use Rattle.session.proofs.Key.Laws as K′
 use Rattle.gate.proofs.AppliedTo as law
 use Rattle.gate.proofs.AppliedTo.{Passed, Laws}
-use Rattle.lodging.proofs.annulling.annul.Symbol as step-def
-use Rattle.lodging.proofs.annulling.annul.Symbol.{name as #step}
-use Rattle.lodging.proofs.annulling.annul.Met as step-thm
+use Rattle.annulling.proofs.annul.Symbol as step-def
+use Rattle.annulling.proofs.annul.Symbol.{name as #step}
+use Rattle.annulling.proofs.annul.Met as step-thm
 use Rattle.gate.proofs.annul.Key.{name as #entry}
 use Rattle.gate.proofs.annul as f
 use Rattle.gate.proofs.annul.Statement as stated
@@ -31,4 +31,4 @@ annul-spec 𝓤 H 𝓜 𝓖 𝓡 =
     entered 𝓤 H (tripleOf 𝓤 H (𝓖 .A) f.signature (f.spec 𝓤 H (𝓖 .A) (𝓜 .mem) (𝓡 .run)))
     (tables 𝓤 H 𝓜 𝓡 code.env .C) (tables 𝓤 H 𝓜 𝓡 code.env .Λ) #entry code.function (code.unfolded 𝓤 H 𝓜 𝓡)
     (law.meets passed its-laws #step (λ h u r. Met h (D.annul (keyIn u)) r) 𝓤 H (𝓖 .A) (givenOf 𝓤 H 𝓜 𝓖) (tablesOf 𝓤 H 𝓜 (tables 𝓤 H 𝓜 𝓡 code.env))
-    (cited 𝓤 H (law.Step passed (λ h u r. Met h (D.annul (keyIn u)) r) 𝓤 H (𝓖 .A)) 𝓜 𝓡 code.env #step step-def.routine code.calls-lodging·annulling·annul (step-thm.met 𝓤 H 𝓜 𝓖 𝓡)))
+    (cited 𝓤 H (law.Step passed (λ h u r. Met h (D.annul (keyIn u)) r) 𝓤 H (𝓖 .A)) 𝓜 𝓡 code.env #step step-def.routine code.calls-annulling·annul (step-thm.met 𝓤 H 𝓜 𝓖 𝓡)))
