@@ -3,3 +3,4 @@ pub mod RowLaws
 pub mod BorderLaws
 pub mod NoticeLaws
 pub mod MarkLaws
+pub mod PlaceLaws
