@@ -13,6 +13,9 @@ pub trait Exchange: Sized {
     /// The clock name of an hour.
     fn clock(date: Date, hour: u32) -> Result<Clock, Refusal>;
 
+    /// The hour of a clock name with its mark.
+    fn hour_named(date: Date, clock: Clock) -> Result<u32, Refusal>;
+
     /// The fields of a message, by itself: no day is known here.
     fn read(message: &[u8]) -> Result<Fields, Refusal>;
 
@@ -44,10 +47,10 @@ pub trait Exchange: Sized {
     fn verdict(&self, number: u32) -> Result<Verdict, Refusal>;
 
     /// A unit's matched energy in an hour, after clearing.
-    fn matched(&self, unit: u32, hour: u32) -> Result<i64, Refusal>;
+    fn matched(&self, unit: u32, hour: u32) -> Result<u32, Refusal>;
 
     /// A unit's executed energy in an hour, after clearing.
-    fn executed(&self, unit: u32, hour: u32) -> Result<i64, Refusal>;
+    fn executed(&self, unit: u32, hour: u32) -> Result<u32, Refusal>;
 
     /// A border's final market balance in an hour, exports less imports, after clearing.
     fn market(&self, border: u32, hour: u32) -> Result<i64, Refusal>;
@@ -62,5 +65,5 @@ pub trait Exchange: Sized {
     fn bilateral_maximum(&self, border: u32, direction: Direction, hour: u32) -> Result<Option<i64>, Refusal>;
 
     /// An hour's price, after clearing.
-    fn price(&self, hour: u32) -> Result<i64, Refusal>;
+    fn price(&self, hour: u32) -> Result<u32, Refusal>;
 }

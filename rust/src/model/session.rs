@@ -200,6 +200,10 @@ impl Exchange for Session {
         calendar::clock(date, hour)
     }
 
+    fn hour_named(date: Date, clock: Clock) -> Result<u32, Refusal> {
+        calendar::hour_named(date, clock)
+    }
+
     fn read(bytes: &[u8]) -> Result<Fields, Refusal> {
         message::read(bytes)
     }
@@ -385,14 +389,14 @@ impl Exchange for Session {
         }
     }
 
-    fn matched(&self, unit: u32, hour: u32) -> Result<i64, Refusal> {
+    fn matched(&self, unit: u32, hour: u32) -> Result<u32, Refusal> {
         let figures = self.figures_of(hour)?;
-        Ok(i64::from(figures.matched[self.place_asked(unit)?]))
+        Ok(figures.matched[self.place_asked(unit)?])
     }
 
-    fn executed(&self, unit: u32, hour: u32) -> Result<i64, Refusal> {
+    fn executed(&self, unit: u32, hour: u32) -> Result<u32, Refusal> {
         let figures = self.figures_of(hour)?;
-        Ok(i64::from(figures.executed[self.place_asked(unit)?]))
+        Ok(figures.executed[self.place_asked(unit)?])
     }
 
     fn market(&self, border: u32, hour: u32) -> Result<i64, Refusal> {
@@ -415,7 +419,7 @@ impl Exchange for Session {
         Ok(figures.bilateral_maxima[Session::border_asked(border)?][direction as usize])
     }
 
-    fn price(&self, hour: u32) -> Result<i64, Refusal> {
-        Ok(i64::from(self.figures_of(hour)?.price))
+    fn price(&self, hour: u32) -> Result<u32, Refusal> {
+        Ok(self.figures_of(hour)?.price)
     }
 }
