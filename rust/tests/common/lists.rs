@@ -111,6 +111,8 @@ struct Maker {
     keys: Vec<Key>,
     /// Capacities go up to this share of the scale, in quarters.
     capacity_quarters: u32,
+    /// Purchases in a hundred units, by border.
+    purchases: [u32; 5],
     contracts: u32,
     /// Calls in a hundred that break a rule.
     broken: u32,
@@ -134,12 +136,16 @@ impl Maker {
             Theme::Congested => self.rng.pick(&[0, 0, 1, 1, 2, 3, 4]),
             _ => self.rng.pick(&[0, 0, 0, 1, 1, 2, 3, 4]),
         };
-        let maximum = (self.scale * self.rng.pick(&[1, 2, 2, 3, 4, 4, 6]) / 2).min(LARGEST_ENERGY);
+        let halves = match self.theme {
+            Theme::Congested | Theme::Ladder => self.rng.pick(&[2, 3, 4, 6]),
+            _ => self.rng.pick(&[1, 2, 2, 3, 4, 4, 6]),
+        };
+        let maximum = (self.scale * halves / 2).min(LARGEST_ENERGY);
         let mut unit = Unit {
             number,
             agent: self.rng.between(1, agents),
             border,
-            purchase: self.rng.chance(50),
+            purchase: self.rng.chance(self.purchases[border as usize]),
             maximum,
             legacy: border != 0 && self.rng.chance(22),
         };
@@ -214,18 +220,26 @@ impl Maker {
 
     fn capacity(&mut self) {
         let mut notice = Capacities::none();
-        let published = if self.theme == Theme::Ladder { 75 } else { self.rng.pick(&[20, 60, 60, 90, 100]) };
+        let congested = matches!(self.theme, Theme::Congested | Theme::Ladder);
+        let published = if congested { 85 } else { self.rng.pick(&[20, 60, 60, 90, 100]) };
         let tightest = self.rng.chance(5);
         for border in 1..=4 {
             for way in [Direction::Export, Direction::Import] {
                 if !self.rng.chance(published) {
                     continue;
                 }
-                let quarters = if tightest { 0 } else { self.capacity_quarters };
+                let mut quarters = if tightest { 0 } else { self.capacity_quarters };
+                // Where the sum of both would be a limit, most energy would not get as far as the split.
+                if congested && (way == Direction::Export) != (self.purchases[border] >= 50) {
+                    if self.rng.chance(60) {
+                        continue;
+                    }
+                    quarters = 8;
+                }
                 let most = (self.scale * quarters / 4).min(LARGEST_ENERGY);
                 let least = if self.rng.chance(50) { most / 2 } else { 0 };
                 let energies = self.energies(|rng| rng.between(least, most));
-                notice = notice.with(border, way, energies);
+                notice = notice.with(border as u32, way, energies);
             }
         }
         self.calls.push(Call::Capacity(notice));
@@ -252,17 +266,27 @@ impl Maker {
             }
             let hour = self.named[index] as usize;
             let energy = if self.rng.chance(8) { scale.min(LARGEST_ENERGY) } else { self.rng.between(1, scale) };
-            fields = fields.with(hour, energy, if execution { 0 } else { self.price(purchase) });
+            let price = if execution { 0 } else { self.price(purchase, border) };
+            fields = fields.with(hour, energy, price);
         }
         if fields.map == 0 {
             let hour = self.rng.between(1, self.hours) as usize;
-            fields = fields.with(hour, self.rng.between(1, scale), if execution { 0 } else { self.price(purchase) });
+            let price = if execution { 0 } else { self.price(purchase, border) };
+            fields = fields.with(hour, self.rng.between(1, scale), price);
         }
         fields
     }
 
-    /// Purchases are dearer, for the most part.
-    fn price(&mut self, purchase: bool) -> u32 {
+    /// Purchases are dearer, for the most part. On a ladder a border's sales are the dearest.
+    fn price(&mut self, purchase: bool, border: bool) -> u32 {
+        if self.theme == Theme::Ladder && self.rng.chance(85) {
+            return match (purchase, border) {
+                (false, false) => self.rng.between(900, 902),
+                (false, true) => self.rng.between(1000, 1003),
+                (true, false) => self.rng.between(1001, 1004),
+                (true, true) => self.rng.between(1003, 1006),
+            };
+        }
         let one = self.rng.pick(&self.prices);
         let other = self.rng.pick(&self.prices);
         match (purchase, self.rng.chance(70)) {
@@ -385,6 +409,50 @@ impl Maker {
         }
     }
 
+    /// An hour of many steps: a step takes a tenth or a few, and what leaves or comes with it holds the balance where it was.
+    fn ladder(&mut self) {
+        let hour = self.rng.pick(&self.named.clone()) as usize;
+        let energy = self.rng.pick(&[5, 30, 200, 900]);
+        let unit = |number, border, purchase, legacy| Unit {
+            number,
+            agent: number,
+            border,
+            purchase,
+            maximum: LARGEST_ENERGY,
+            legacy,
+        };
+        // Domestic sale, exports, imports of the same border, legacy exports.
+        let (sale, export) = (unit(101, 0, false, false), unit(111, 1, true, false));
+        let (import, legacy) = (unit(112, 1, false, false), unit(113, 1, true, true));
+        let mirrored = self.rng.chance(50);
+        // The export balance of the first match, and what is lodged for it.
+        let (balance, lodged) = if self.rng.chance(50) {
+            let balance = self.rng.between(1, 5);
+            (balance, [(sale, balance, 1000), (export, energy, 5000), (import, energy, 3000)])
+        } else {
+            (energy, [(sale, energy, 1000), (export, energy, 5000), (legacy, energy, 4000)])
+        };
+        let capacity = if self.rng.chance(60) { balance - 1 } else { self.rng.below(balance) };
+        let (way, other) = match mirrored {
+            false => (Direction::Export, Direction::Import),
+            true => (Direction::Import, Direction::Export),
+        };
+        let hours = self.hours as usize;
+        let notice = Capacities::none().with(1, way, Energies::flat(capacity, hours));
+        let notice = if self.rng.chance(50) { notice.with(1, other, Energies::flat(90_000, hours)) } else { notice };
+        self.calls.push(Call::Capacity(notice));
+        for (mut unit, energy, price) in lodged {
+            unit.purchase ^= mirrored;
+            self.units.push(unit);
+            self.calls.push(Call::Register(unit));
+            let price = if mirrored { 6000 - price } else { price };
+            let key = Key { execution: false, default: false, unit: unit.number, contract: 0 };
+            self.keys.push(key);
+            let fields = Fields::of(key).with(hour, energy, price);
+            self.calls.push(Call::Lodge(packed(1, 0, &fields)));
+        }
+    }
+
     fn some_calls(&mut self, most: u32) {
         for _ in 0..self.rng.below(most + 1) {
             self.any_call();
@@ -438,9 +506,13 @@ pub fn list(seed: u64) -> List {
         units: Vec::new(),
         keys: Vec::new(),
         capacity_quarters: match theme {
-            Theme::Congested => rng.pick(&[2, 4, 6]),
-            Theme::Ladder => rng.pick(&[1, 2, 4]),
+            Theme::Congested => rng.pick(&[1, 2, 4]),
+            Theme::Ladder => rng.pick(&[0, 1, 2]),
             _ => rng.pick(&[2, 4, 8, 16]),
+        },
+        purchases: match theme {
+            Theme::Congested => std::array::from_fn(|border| if border == 0 { 50 } else { rng.pick(&[10, 50, 90]) }),
+            _ => [50; 5],
         },
         contracts: match theme {
             Theme::Full => 20,
@@ -455,7 +527,8 @@ pub fn list(seed: u64) -> List {
     };
     let (units, body) = match theme {
         Theme::Full => (maker.rng.between(50, 75), maker.rng.between(100, 260)),
-        Theme::Ladder => (maker.rng.between(3, 12), maker.rng.between(6, 30)),
+        Theme::Ladder => (maker.rng.between(0, 14), maker.rng.pick(&[0, 5, 15, 30])),
+        Theme::Congested => (maker.rng.between(6, 20), maker.rng.between(15, 50)),
         _ => (maker.rng.between(1, 16), maker.rng.between(2, 50)),
     };
     for _ in 0..units {
@@ -467,8 +540,12 @@ pub fn list(seed: u64) -> List {
     for _ in 0..body {
         maker.any_call();
     }
+    if theme == Theme::Ladder && maker.rng.chance(70) && !maker.named.is_empty() {
+        maker.ladder();
+        maker.some_calls(3);
+    }
     // Late notices.
-    if maker.rng.chance(40) {
+    if maker.rng.chance(if theme == Theme::Ladder { 10 } else { 40 }) {
         maker.capacity();
     }
     if maker.rng.chance(30) {

@@ -3,6 +3,7 @@
 
 pub mod calls;
 pub mod lists;
+pub mod seen;
 pub mod shrink;
 
 /// A generator of numbers from a seed (splitmix64).
