@@ -1,5 +1,0 @@
-pub mod AskedOne
-pub mod AskedTwo
-pub mod AskedWay
-pub mod Applied
-pub mod AppliedTo
