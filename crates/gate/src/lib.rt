@@ -76,3 +76,146 @@ pub extern "C" fn gate_write(fields: Fields, buffer: &mut [u8]) -> Written
 {
     writer::write(fields, buffer)
 }
+
+// Calls
+
+// Registers a unit: 2, 5, 7, 8, 9.
+#[no_mangle]
+pub extern "C" fn gate_register(s: &mut Session, unit: Unit) -> Response
+    ensures { λ r. ⌜ MetAs (now (s .entry)) (register (unitIn unit)) (record { session = now (s .exit); response = r }) ⌝ }
+{
+    let t = response::register(*s, unit);
+    *s = t.session;
+    t.response
+}
+
+// Takes an unavailability notice of a unit: 2, 4, 5, 6.
+#[no_mangle]
+pub extern "C" fn gate_available(s: &mut Session, notice: Availability) -> Response
+    ensures { λ r. ⌜ MetAs (now (s .entry)) (availableIn notice) (record { session = now (s .exit); response = r }) ⌝ }
+{
+    let t = response::available(*s, notice);
+    *s = t.session;
+    t.response
+}
+
+// Takes a capacity notice, export and import of border 1, of 2, of 3, of 4: 2, 4, 5.
+#[no_mangle]
+pub extern "C" fn gate_capacity(s: &mut Session, notice: Capacities) -> Response
+    ensures { λ r. ⌜ MetAs (now (s .entry)) (capacityIn notice) (record { session = now (s .exit); response = r }) ⌝ }
+{
+    let t = response::capacity(*s, notice);
+    *s = t.session;
+    t.response
+}
+
+// Lodges a message: 2, 3, 4, 5, 6, 9, 10, 11, 12.
+#[no_mangle]
+pub extern "C" fn gate_lodge(s: &mut Session, message: &[u8]) -> Response
+    ensures { λ r. ⌜ MetAs (now (s .entry)) (lodge (now (message .entry))) (record { session = now (s .exit); response = r }) ⌝ }
+{
+    let t = response::lodge(*s, message);
+    *s = t.session;
+    t.response
+}
+
+// Annuls the lodgement of a key: 2, 5, 6, 13.
+#[no_mangle]
+pub extern "C" fn gate_annul(s: &mut Session, key: Key) -> Response
+    ensures { λ r. ⌜ MetAs (now (s .entry)) (annul (keyIn key)) (record { session = now (s .exit); response = r }) ⌝ }
+{
+    let t = response::annul(*s, key);
+    *s = t.session;
+    t.response
+}
+
+// Closes the gate: 2.
+#[no_mangle]
+pub extern "C" fn gate_close(s: &mut Session) -> Response
+    ensures { λ r. ⌜ MetAs (now (s .entry)) close (record { session = now (s .exit); response = r }) ⌝ }
+{
+    let t = response::close(*s);
+    *s = t.session;
+    t.response
+}
+
+// Clears the day: 2.
+#[no_mangle]
+pub extern "C" fn gate_clear(s: &mut Session) -> Response
+    ensures { λ r. ⌜ MetAs (now (s .entry)) clear (record { session = now (s .exit); response = r }) ⌝ }
+{
+    let t = response::clear(*s);
+    *s = t.session;
+    t.response
+}
+
+// Queries
+
+// "a lodging number's verdict", after closing: 2, 13.
+#[no_mangle]
+pub extern "C" fn gate_verdict(s: &Session, number: u32) -> Response
+    ensures { λ r. ⌜ AnsweredAs (now (s .entry)) (Q.verdict number) r ⌝ }
+{
+    response::verdict(*s, number)
+}
+
+// A unit's matched energy in an hour: 2, 4, 5, 6.
+#[no_mangle]
+pub extern "C" fn gate_matched(s: &Session, unit: u32, hour: u32) -> Response
+    ensures { λ r. ⌜ AnsweredAs (now (s .entry)) (Q.matched unit hour) r ⌝ }
+{
+    response::matched(*s, unit, hour)
+}
+
+// A unit's executed energy in an hour: 2, 4, 5, 6.
+#[no_mangle]
+pub extern "C" fn gate_executed(s: &Session, unit: u32, hour: u32) -> Response
+    ensures { λ r. ⌜ AnsweredAs (now (s .entry)) (Q.executed unit hour) r ⌝ }
+{
+    response::executed(*s, unit, hour)
+}
+
+// The final market balance of a border: 2, 4, 5.
+#[no_mangle]
+pub extern "C" fn gate_market(s: &Session, border: u32, hour: u32) -> Response
+    ensures { λ r. ⌜ AnsweredAs (now (s .entry)) (Q.market border hour) r ⌝ }
+{
+    response::market(*s, border, hour)
+}
+
+// The final balance of its executions: 2, 4, 5.
+#[no_mangle]
+pub extern "C" fn gate_bilateral(s: &Session, border: u32, hour: u32) -> Response
+    ensures { λ r. ⌜ AnsweredAs (now (s .entry)) (Q.bilateral border hour) r ⌝ }
+{
+    response::bilateral(*s, border, hour)
+}
+
+// The market maximum of a border's direction, "absent without capacity": 2, 4, 5.
+#[no_mangle]
+pub extern "C" fn gate_market_maximum(s: &Session, border: u32, export: bool, hour: u32) -> Response
+    ensures { λ r. ⌜ AnsweredAs (now (s .entry)) (Q.marketMax border export hour) r ⌝ }
+{
+    response::market_maximum(*s, border, export, hour)
+}
+
+// Its bilateral maximum, which may be below zero: 2, 4, 5.
+#[no_mangle]
+pub extern "C" fn gate_bilateral_maximum(
+    s: &Session,
+    border: u32,
+    export: bool,
+    hour: u32,
+) -> Response
+    ensures { λ r. ⌜ AnsweredAs (now (s .entry)) (Q.bilateralMax border export hour) r ⌝ }
+{
+    response::bilateral_maximum(*s, border, export, hour)
+}
+
+// The hour's price: 2, 4.
+#[no_mangle]
+pub extern "C" fn gate_price(s: &Session, hour: u32) -> Response
+    ensures { λ r. ⌜ AnsweredAs (now (s .entry)) (Q.price hour) r ⌝ }
+{
+    response::price(*s, hour)
+}

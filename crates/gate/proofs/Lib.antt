@@ -1,0 +1,5 @@
+pub mod AskedOne
+pub mod AskedTwo
+pub mod AskedWay
+pub mod Applied
+pub mod AppliedTo
