@@ -5,6 +5,7 @@ ghost use Prim.Native.Nat.{_-_, _≤_};
 ghost use Rattle.rules.specs.Hours.{leap, daysOfMonth, isDate, daysBefore, dayNumber, lastSunday, hoursOf, clockName, clockOf, hourOf, hoursAt, clockAt, hourAt};
 ghost use Rattle.calendar.specs.View.{dateIn, clockIn, clockAs, countedAs, namedAs};
 
+#[repr(C)]
 pub struct Date {
     pub year: u32,
     pub month: u32,
@@ -12,6 +13,7 @@ pub struct Date {
 }
 
 // A clock name with its mark: the starting local hour, and whether it is marked "second".
+#[repr(C)]
 pub struct Clock {
     pub name: u32,
     pub second: bool,
