@@ -343,6 +343,13 @@ impl Gate {
     }
 }
 
+impl From<Gate> for Box<ffi::Session> {
+    /// The session as C knows it, to be handed on to C code.
+    fn from(gate: Gate) -> Box<ffi::Session> {
+        gate.session
+    }
+}
+
 impl Exchange for Gate {
     fn opened(day: Date) -> (Result<(), Refusal>, Gate) {
         let opening = ffi::open(date(day));

@@ -68,7 +68,7 @@ pub fn ask<E: Exchange>(exchange: &E, query: Query) -> Answer {
 }
 
 /// The answer to a call that is not `AskAll`.
-fn answer<E: Exchange>(exchange: &mut E, call: &Call) -> Answer {
+pub fn answer<E: Exchange>(exchange: &mut E, call: &Call) -> Answer {
     let done = |result| told(result, |()| Answer::Done);
     match call {
         Call::Register(unit) => done(exchange.register(*unit)),

@@ -26,11 +26,18 @@ pub struct Seen {
     pub negative_bilateral_maxima: u64,
     /// Hours in which two borders or more stand at their market maximum, after steps.
     pub several_borders: u64,
+    /// Directions in an hour whose executions stand at a bilateral maximum above zero.
+    pub at_bilateral_maximum: u64,
+    /// Units refused because 64 are registered.
+    pub full_units: u64,
+    /// Lodgements refused because 128 stand.
+    pub full_lodgements: u64,
     hours: usize,
     steps: u64,
     /// The hour whose maxima are asked, and the borders at their maximum in it.
     at_maximum: (u32, u32),
     balance: i64,
+    executed: i64,
 }
 
 const CALLS: [&str; 7] = ["register", "available", "capacity", "lodge", "annul", "close", "clear"];
@@ -56,23 +63,6 @@ impl Seen {
         self.at_maximum = (0, 0);
     }
 
-    pub fn add(&mut self, other: &Seen) {
-        let sum = |ours: &mut [u64], theirs: &[u64]| ours.iter_mut().zip(theirs).for_each(|(a, b)| *a += b);
-        self.lists += other.lists;
-        self.calls += other.calls;
-        self.queries += other.queries;
-        sum(&mut self.refused, &other.refused);
-        sum(&mut self.refused_queries, &other.refused_queries);
-        sum(&mut self.accepted, &other.accepted);
-        sum(&mut self.cleared, &other.cleared);
-        self.with_steps += other.with_steps;
-        self.most_steps = self.most_steps.max(other.most_steps);
-        sum(&mut self.verdicts, &other.verdicts);
-        self.absent_maxima += other.absent_maxima;
-        self.negative_bilateral_maxima += other.negative_bilateral_maxima;
-        self.several_borders += other.several_borders;
-    }
-
     /// Insists that lists met every refusal of a call, and the rest that is counted.
     pub fn insist(&self) {
         for number in 1..=13 {
@@ -86,6 +76,9 @@ impl Seen {
             &self.absent_maxima,
             &self.negative_bilateral_maxima,
             &self.several_borders,
+            &self.at_bilateral_maximum,
+            &self.full_units,
+            &self.full_lodgements,
         ]);
         assert!(counts.into_iter().all(|count| *count >= 20), "too thin:\n{self}");
     }
@@ -101,7 +94,14 @@ impl Observer for Seen {
     fn called(&mut self, call: &Call, answer: Answer) {
         self.calls += 1;
         match answer {
-            Answer::Refused(refusal) => self.refused[refusal.number() as usize] += 1,
+            Answer::Refused(refusal) => {
+                self.refused[refusal.number() as usize] += 1;
+                match (refusal, call) {
+                    (Refusal::Full, Call::Register(_)) => self.full_units += 1,
+                    (Refusal::Full, _) => self.full_lodgements += 1,
+                    _ => {}
+                }
+            }
             _ => self.accepted[index(call)] += 1,
         }
         if let Answer::Steps(steps) = answer {
@@ -126,7 +126,11 @@ impl Observer for Seen {
             }
             Answer::Maximum(None) => self.absent_maxima += 1,
             Answer::Maximum(Some(maximum)) => match query {
-                Query::BilateralMaximum(..) => self.negative_bilateral_maxima += u64::from(maximum < 0),
+                Query::BilateralMaximum(_, way, _) => {
+                    let executed = if way == Direction::Export { self.executed } else { -self.executed };
+                    self.negative_bilateral_maxima += u64::from(maximum < 0);
+                    self.at_bilateral_maximum += u64::from(maximum > 0 && maximum == executed);
+                }
                 Query::MarketMaximum(_, way, hour) => {
                     let balance = if way == Direction::Export { self.balance } else { -self.balance };
                     if self.steps > 0 && maximum > 0 && balance == maximum {
@@ -137,11 +141,10 @@ impl Observer for Seen {
                 }
                 _ => {}
             },
-            Answer::Figure(balance) => {
-                if let Query::Market(..) = query {
-                    self.balance = balance;
-                }
-            }
+            Answer::Figure(balance) => match query {
+                Query::Market(..) => self.balance = balance,
+                _ => self.executed = balance,
+            },
             _ => {}
         }
     }
@@ -171,8 +174,14 @@ impl fmt::Display for Seen {
         writeln!(f, "verdicts: {accepted} accepted, {hidden} hidden, limit 10: {ten}, 11: {eleven}, 12: {twelve}")?;
         write!(
             f,
-            "maxima: {} absent, {} bilateral below zero; hours with several borders at their maximum: {}",
-            self.absent_maxima, self.negative_bilateral_maxima, self.several_borders
+            "maxima: {} absent, {} bilateral below zero, {} reached by executions; hours with several borders at their \
+             market maximum: {}\nfull: {} units and {} lodgements refused",
+            self.absent_maxima,
+            self.negative_bilateral_maxima,
+            self.at_bilateral_maximum,
+            self.several_borders,
+            self.full_units,
+            self.full_lodgements
         )
     }
 }
