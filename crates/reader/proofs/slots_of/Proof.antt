@@ -1,7 +1,8 @@
 -- `read::slots_of` meets its contract. The invariant: filling the hours that are left of the map, from the bits that are left, gives the slots of the whole.
 -- The measure is the map that is left.
-use Prim.Native.Nat.{_+_, _*_, _≤_}
+use Prim.Native.Nat.{_+_, _*_, _-_, _≤_}
 use native.Mathlib.Omega.{arith}
+use lib.Pow.{pow-mono}
 use lib.ListN.{length}
 use Rattle.reader.proofs.FillLaws.{Filling, Next, next, less, filling-start, filling-end, room-next, filling-next}
 use Rattle.reader.proofs.slots_of.Statement.{statement}
@@ -64,6 +65,11 @@ sub-power c = omega (arith, hour (c .before .before) .inside)
 power-requires : tie.Need-power-requires Inv-loop μ-loop
 power-requires c κs = omega arith
 
+cast-rest : tie.Need-cast-rest Inv-loop μ-loop
+cast-rest c =
+    let m = pow-mono {i = 24 - c .before .before .before .next-hour .result} {j = 24} (omega arith) in
+    record { fits = rw (c .power .ensures) (omega (arith, m)) }
+
 sub-rest : tie.Need-sub-rest Inv-loop μ-loop
 sub-rest c = rw (c .power .ensures) (hour (c .before .before .before) .above)
 
@@ -98,6 +104,7 @@ slots-of-spec =
     add-at-2
     sub-power
     power-requires
+    cast-rest
     sub-rest
     loop-less
     loop-again
