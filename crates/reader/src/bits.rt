@@ -30,6 +30,9 @@ pub fn word_at(s: &[u8], i: usize) -> u64
     if s.len() < i {
         return 0;
     }
+    if 4 <= s.len() - i {
+        return joined(s[i], s[i + 1], s[i + 2], s[i + 3]);
+    }
     joined(
         byte_at(s, i),
         byte_at(s, i + 1),

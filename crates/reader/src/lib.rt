@@ -74,14 +74,16 @@ fn slots_of(s: &[u8], execution: bool, map: u32) -> Slots
         × (r .prices ≡ readSlots (field energyWidth (priceWidth execution)) (slotWidth energyWidth execution) (hourBits map) (drop headWidth (bitsOf (now (s .entry))))) ⌝ }
 {
     let price = price_width(execution);
+    let mask = power(price) as u32 - 1;
     let mut energies = [0u32; 25];
     let mut prices = [0u32; 25];
     let mut at: usize = 64;
     let mut rest = map;
     while rest != 0 {
         let h = next_hour(rest);
-        energies[h] = field_at(s, at, 17);
-        prices[h] = field_at(s, at + 17, price);
+        let slot = field_at(s, at, 17 + price);
+        energies[h] = slot >> price;
+        prices[h] = slot & mask;
         at = at + 17 + price;
         rest = rest - power(24 - h) as u32;
     }
