@@ -1,17 +1,17 @@
 -- The named hours one by one: what is left of the map, of the bits and of the slots to fill.
-use Prim.Native.Nat.{ℕ, zero, suc, _+_, _*_, _-_, _^_, _≤_, _<_}
+use Prim.Native.Nat.{ℕ, zero, suc, _+_, _*_, _-_, _/_, _%_, _^_, _≤_, _<_}
 use mathlib.Core.Path.{_≡_, refl, ap, sym, _∙_}
 use mathlib.Core.Bool.{Bool}
 use mathlib.Core.List.{List, [], _∷_, _++_}
 use native.Mathlib.Omega.{arith}
 use native.Mathlib.Nat.{lt-of-not-le, pos-of-ne-zero, div-eq-of-lt, mul-add-mod-self-right, pow-suc, suc-mul}
 use lib.Count.{leadingZeros, leading-length, leading-top, leading-unique}
-use lib.Pow.{pow-pos, pow-mono, high}
+use lib.Pow.{pow-pos, pow-mono, high, low}
 use lib.ListN.{length, drop, set, replicate, length-set}
 use lib.Seq.{drop-drop}
 use Rattle.rules.specs.Lists.{sum}
 use Rattle.rules.specs.Message.{bits, bitsOf, field, energyWidth, priceWidth, headWidth, slotWidth, setBits, hourBits, readSlots}
-use Rattle.rules.proofs.BitLaws.{length-bits, bits-same, field-drop}
+use Rattle.rules.proofs.BitLaws.{length-bits, length-bitsOf, bitsOf-under, bits-same, field-drop, field-lt, field-add}
 use Rattle.message.proofs.FormLaws.{end-le}
 
 -- A map of w bits whose first set bit has k bits before it and j after it
@@ -129,6 +129,24 @@ module _ {map h : ℕ} (t : Next map h) where
   pub fill-next : (f : List ℕ → ℕ) (n : ℕ) (bs es : List ℕ) → h < length es
       → fillSlots f n (hourBits map) bs es ≡ fillSlots f n (hourBits (map - 2 ^ (24 - h))) (drop n bs) (set es h (f bs))
   fill-next f n bs es l = rw (here, gone) (fill-first f n h (bits (24 - h) (map - 2 ^ (24 - h))) bs es l)
+
+-- A slot as one number: the energy and, below it, the price
+
+module _ (at p : ℕ) (bytes : List ℕ) (h : at + energyWidth + p ≤ 8 * length bytes) where
+  abbrev slot : ℕ
+  slot = field at (energyWidth + p) (bitsOf bytes)
+
+  under : field (at + energyWidth) p (bitsOf bytes) < 2 ^ p
+  under = field-lt (at + energyWidth) p (bitsOf-under bytes)
+
+  joined : slot ≡ field at energyWidth (bitsOf bytes) * 2 ^ p + field (at + energyWidth) p (bitsOf bytes)
+  joined = field-add at energyWidth p (bitsOf bytes) (rw length-bitsOf h)
+
+  pub slot-energy : field at (energyWidth + p) (bitsOf bytes) / 2 ^ p ≡ field at energyWidth (bitsOf bytes)
+  slot-energy = rw joined (high (field at energyWidth (bitsOf bytes)) p under)
+
+  pub slot-price : field at (energyWidth + p) (bitsOf bytes) % 2 ^ p ≡ field (at + energyWidth) p (bitsOf bytes)
+  slot-price = rw joined (low (field at energyWidth (bitsOf bytes)) p under)
 
 -- A loop over the named hours of a message
 

@@ -1,7 +1,8 @@
 // Reading a lodging message.
 pub mod bits;
 
-use bits::word_at;
+use bits::field_at;
+use bits::power;
 use message::Fields;
 use message::Reading;
 use message::blank;
@@ -30,24 +31,6 @@ ghost use Rattle.rules.specs.Message.{
   read as reading,
 };
 ghost use Rattle.message.specs.View.{fieldsIn, readingAs, noFields};
-
-// 2 to the power k.
-fn power(k: usize) -> u32
-    requires { ⌜ k < 32 ⌝ }
-    ensures { λ r. ⌜ r ≡ 2 ^ k ⌝ }
-{
-    1u32 << k
-}
-
-// The number in `width` bits from bit `at` on.
-fn field_at(s: &[u8], at: usize, width: usize) -> u32
-    requires { ⌜ (width ≤ 25) × (at + width ≤ 8 * length (now s)) ⌝ }
-    ensures { λ r. ⌜ (r ≡ field at width (bitsOf (now (s .entry)))) × (r < 2 ^ width) ⌝ }
-{
-    let below = 32 - at % 8 - width;
-    let word = word_at(s, at / 8) >> below;
-    word as u32 % power(width)
-}
 
 // 3: wrong length, form, kind or filling.
 pub fn bad_form(s: &[u8]) -> bool
@@ -91,16 +74,18 @@ fn slots_of(s: &[u8], execution: bool, map: u32) -> Slots
         × (r .prices ≡ readSlots (field energyWidth (priceWidth execution)) (slotWidth energyWidth execution) (hourBits map) (drop headWidth (bitsOf (now (s .entry))))) ⌝ }
 {
     let price = price_width(execution);
+    let mask = power(price) as u32 - 1;
     let mut energies = [0u32; 25];
     let mut prices = [0u32; 25];
     let mut at: usize = 64;
     let mut rest = map;
     while rest != 0 {
         let h = next_hour(rest);
-        energies[h] = field_at(s, at, 17);
-        prices[h] = field_at(s, at + 17, price);
+        let slot = field_at(s, at, 17 + price);
+        energies[h] = slot >> price;
+        prices[h] = slot & mask;
         at = at + 17 + price;
-        rest = rest - power(24 - h);
+        rest = rest - power(24 - h) as u32;
     }
     Slots { energies, prices }
 }

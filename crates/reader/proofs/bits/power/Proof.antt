@@ -1,10 +1,7 @@
 use borrow.Author.Needs.{needs}
 use Rattle.reader.proofs.WordLaws.{shifted-one}
-use Rattle.reader.proofs.power.Statement.{statement}
-use Rattle.reader.proofs.power.Tie as tie
-
-cast-result : tie.Need-cast-result
-cast-result c = search needs
+use Rattle.reader.proofs.bits.power.Statement.{statement}
+use Rattle.reader.proofs.bits.power.Tie as tie
 
 shl-result : tie.Need-shl-result
 shl-result c = search needs
@@ -13,4 +10,4 @@ returns : tie.Need-returns
 returns c = shifted-one _ (c .pre)
 
 pub power-spec : {M : Type 1} → statement M
-power-spec = tie.close (tie.spec cast-result shl-result returns)
+power-spec = tie.close (tie.spec shl-result returns)
