@@ -40,7 +40,7 @@ use Rattle.session.proofs.Session.Laws as T′
 use Rattle.queries.proofs.Reply as N
 use Rattle.queries.proofs.Reply.Laws as N′
 use Rattle.gate.proofs.matched as shape
-use Rattle.queries.proofs.matched as step
+use Rattle.energies.proofs.matched as step
 
 -- the MIR of such a function, by the name of what it calls
 abbrev pub function : Name → Fn

@@ -41,7 +41,7 @@ use Rattle.session.proofs.Session.Laws as T′
 use Rattle.queries.proofs.Reply as N
 use Rattle.queries.proofs.Reply.Laws as N′
 use Rattle.gate.proofs.market_maximum as shape
-use Rattle.queries.proofs.market_maximum as step
+use Rattle.maxima.proofs.market_maximum as step
 
 -- the MIR of such a function, by the name of what it calls
 abbrev pub function : Name → Fn

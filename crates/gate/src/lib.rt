@@ -83,49 +83,49 @@ pub fn clear(s: &mut Session) -> Answer
 pub fn verdict(s: &Session, number: u32) -> Reply
     ensures { λ r. ⌜ Answered (now (s .entry)) (Q.verdict number) r ⌝ }
 {
-    queries::verdict(*s, number)
+    verdicts::verdict(*s, number)
 }
 
 // A unit's matched energy in an hour: 2, 4, 5, 6.
 pub fn matched(s: &Session, unit: u32, hour: u32) -> Reply
     ensures { λ r. ⌜ Answered (now (s .entry)) (Q.matched unit hour) r ⌝ }
 {
-    queries::matched(*s, unit, hour)
+    energies::matched(*s, unit, hour)
 }
 
 // A unit's executed energy in an hour: 2, 4, 5, 6.
 pub fn executed(s: &Session, unit: u32, hour: u32) -> Reply
     ensures { λ r. ⌜ Answered (now (s .entry)) (Q.executed unit hour) r ⌝ }
 {
-    queries::executed(*s, unit, hour)
+    energies::executed(*s, unit, hour)
 }
 
 // The final market balance of a border: 2, 4, 5.
 pub fn market(s: &Session, border: u32, hour: u32) -> Reply
     ensures { λ r. ⌜ Answered (now (s .entry)) (Q.market border hour) r ⌝ }
 {
-    queries::market(*s, border, hour)
+    balances::market(*s, border, hour)
 }
 
 // The final balance of its executions: 2, 4, 5.
 pub fn bilateral(s: &Session, border: u32, hour: u32) -> Reply
     ensures { λ r. ⌜ Answered (now (s .entry)) (Q.bilateral border hour) r ⌝ }
 {
-    queries::bilateral(*s, border, hour)
+    balances::bilateral(*s, border, hour)
 }
 
 // The market maximum of a border's direction, "absent without capacity": 2, 4, 5.
 pub fn market_maximum(s: &Session, border: u32, export: bool, hour: u32) -> Reply
     ensures { λ r. ⌜ Answered (now (s .entry)) (Q.marketMax border export hour) r ⌝ }
 {
-    queries::market_maximum(*s, border, export, hour)
+    maxima::market_maximum(*s, border, export, hour)
 }
 
 // Its bilateral maximum, which may be below zero: 2, 4, 5.
 pub fn bilateral_maximum(s: &Session, border: u32, export: bool, hour: u32) -> Reply
     ensures { λ r. ⌜ Answered (now (s .entry)) (Q.bilateralMax border export hour) r ⌝ }
 {
-    queries::bilateral_maximum(*s, border, export, hour)
+    maxima::bilateral_maximum(*s, border, export, hour)
 }
 
 // The hour's price: 2, 4.
