@@ -34,10 +34,10 @@ use Rattle.limits.specs.Loads.{loadIn}
 use Rattle.limits.specs.Limits.{judgedIn}
 use Rattle.limits.proofs.NoticeLaws.{judged-as}
 use Rattle.limits.proofs.MarkLaws.{load-keep}
-use Rattle.closing.specs.Turns.{beyond, standingAt, verdictAt, isTaken, verdictSoFar, Reached, JudgesAt, countsOn, countsAt, verdictBy}
-use Rattle.closing.proofs.CountLaws.{length-from, places-at, counted-as}
-use Rattle.closing.proofs.TurnLaws.{passed-before, verdict-at}
-use Rattle.closing.proofs.StandingLaws.{stands, lodgement-at, energies-at}
+use Rattle.judging.specs.Turns.{beyond, standingAt, verdictAt, isTaken, verdictSoFar, Reached, JudgesAt, countsOn, countsAt, verdictBy}
+use Rattle.judging.proofs.CountLaws.{length-from, places-at, counted-as}
+use Rattle.judging.proofs.TurnLaws.{passed-before, verdict-at}
+use Rattle.judging.proofs.StandingLaws.{stands, lodgement-at, energies-at}
 
 -- a judgement by the limits, as a verdict
 told-verdict : (o : Option Row) → verdictBy (told o) ≡ verdictAs (C.verdictOfRow o)

@@ -10,7 +10,6 @@ use Rattle.rules.specs.Book.{Book}
 use Rattle.rules.specs.Closing as C
 use Rattle.rules.specs.Demands.{turnOf}
 use Rattle.session.specs.Image.{image, Sound, verdictAs, noVerdict, noLodgement}
-use Rattle.session.specs.declared.Key.{Key}
 use Rattle.session.specs.declared.Lodgement.{Lodgement}
 use Rattle.session.specs.declared.Verdict.{Verdict}
 use Rattle.session.specs.declared.Session.{Session}
@@ -48,26 +47,14 @@ verdictSoFar b turn i j = cond (hasPassed turn i j (standingAt b j)) (verdictAs 
 pub record Reached (b : Book) (turn i : ℕ) (vs : List Verdict) : Type 0 where
   pub at : (j : ℕ) → getD vs j noVerdict ≡ verdictSoFar b turn i j
 
--- What the parts of closing promise to each other
-
--- whether the place is taken
-abbrev pub TakesAt : Session → ℕ → ℕ → Bool → Type 0
-TakesAt s turn i r = (b : Book) → s ≡ image b → r ≡ isTaken b turn i
+-- What judging a lodgement promises
 
 -- the verdict of a place that is taken, by those before it
 abbrev pub JudgesAt : Session → List Verdict → ℕ → Verdict → Type 0
 JudgesAt s vs i r =
     (b : Book) (turn : ℕ) → Sound b → s ≡ image b → Reached b turn (i + 1) vs → isTaken b turn i ≡ true → r ≡ verdictAs (verdictAt b i)
 
--- the verdicts after a turn
-abbrev pub PassesTurn : Session → ℕ → List Verdict → List Verdict → Type 0
-PassesTurn s turn vs r = (b : Book) → Sound b → s ≡ image b → Reached b turn (s .standing) vs → Reached b turn 0 r
-
 -- The code's side
-
--- "normal executions, default executions, offers"
-unfoldable pub turnIn : Key → ℕ
-turnIn k = cond (k .execution) (cond (k .default) 1 0) 2
 
 -- "those accepted before it on its unit"
 unfoldable pub countsOn : ℕ → Verdict → Lodgement → Bool

@@ -23,7 +23,7 @@ use Rattle.session.specs.Laid.{pad}
 use Rattle.session.specs.Image.{verdictAs, noVerdict}
 use Rattle.session.specs.declared.Verdict.{Verdict}
 use Rattle.session.proofs.PlaceLaws.{getD-map}
-use Rattle.closing.specs.Turns.{beyond, standingAt, verdictAt, isTaken, hasPassed, verdictSoFar, Reached}
+use Rattle.judging.specs.Turns.{beyond, standingAt, verdictAt, isTaken, hasPassed, verdictSoFar, Reached}
 
 -- Numbers that rise
 

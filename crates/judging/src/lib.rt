@@ -4,7 +4,7 @@ ghost use mathlib.Core.List.{map};
 ghost use Prim.Native.Nat.{_<_};
 ghost use Rattle.rules.specs.Lists.{from};
 ghost use Rattle.session.specs.Parts.{Within};
-ghost use Rattle.closing.specs.Turns.{countsOn, countsAt, verdictBy, JudgesAt};
+ghost use Rattle.judging.specs.Turns.{countsOn, countsAt, verdictBy, JudgesAt};
 use limits::judge_energy;
 use session::Judged;
 use session::Lodgement;

@@ -4,11 +4,11 @@ use mathlib.Core.List.{map}
 use native.Mathlib.Omega.{arith}
 use lib.ListN.{take, length, length-set}
 use Rattle.rules.specs.Lists.{from}
-use Rattle.closing.specs.Turns.{countsAt}
-use Rattle.closing.proofs.CountLaws.{places-next, places-end}
+use Rattle.judging.specs.Turns.{countsAt}
+use Rattle.judging.proofs.CountLaws.{places-next, places-end}
 use borrow.Author.Needs.{needs}
-use Rattle.closing.proofs.judging.accepted_on.Statement.{statement}
-use Rattle.closing.proofs.judging.accepted_on.Tie as tie
+use Rattle.judging.proofs.accepted_on.Statement.{statement}
+use Rattle.judging.proofs.accepted_on.Tie as tie
 
 abbrev Inv-loop : tie.InvT-loop
 Inv-loop unit verdicts lodgements marks₀ j₀ marks j = (j ≤ 128) × (length marks ≡ 128) × (take j marks ≡ map (countsAt unit verdicts lodgements) (take j (from 0 128)))

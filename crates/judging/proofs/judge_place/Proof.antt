@@ -3,10 +3,10 @@ use mathlib.Core.List.{[]}
 use native.Mathlib.Omega.{arith}
 use Rattle.session.specs.Image.{noLodgement, noUnit}
 use Rattle.limits.proofs.LoadLaws.{bareEnergies}
-use Rattle.closing.proofs.JudgeLaws.{judge-absent, judge-given}
+use Rattle.judging.proofs.JudgeLaws.{judge-absent, judge-given}
 use borrow.Author.Needs.{needs}
-use Rattle.closing.proofs.judging.judge_place.Statement.{statement}
-use Rattle.closing.proofs.judging.judge_place.Tie as tie
+use Rattle.judging.proofs.judge_place.Statement.{statement}
+use Rattle.judging.proofs.judge_place.Tie as tie
 
 mul-l : tie.Need-mul-l
 mul-l c = search needs

@@ -1,8 +1,8 @@
 use mathlib.Core.Path.{sym, ap}
-use Rattle.closing.specs.Turns.{verdictBy}
+use Rattle.judging.specs.Turns.{verdictBy}
 use borrow.Author.Needs.{needs}
-use Rattle.closing.proofs.judging.verdict_by.Statement.{statement}
-use Rattle.closing.proofs.judging.verdict_by.Tie as tie
+use Rattle.judging.proofs.verdict_by.Statement.{statement}
+use Rattle.judging.proofs.verdict_by.Tie as tie
 
 enum-known-j : tie.Need-enum-known-j
 enum-known-j c = search needs

@@ -1,7 +1,7 @@
 use borrow.Author.Tests.{not-true, not-false}
-use Rattle.closing.specs.Turns.{countsOn}
-use Rattle.closing.proofs.judging.counts.Statement.{statement}
-use Rattle.closing.proofs.judging.counts.Tie as tie
+use Rattle.judging.specs.Turns.{countsOn}
+use Rattle.judging.proofs.counts.Statement.{statement}
+use Rattle.judging.proofs.counts.Tie as tie
 
 returns : tie.Need-returns
 unfolding countsOn
