@@ -13,7 +13,6 @@ use turns::NORMAL;
 use turns::OFFERS;
 use turns::pass;
 
-mod judging;
 mod turns;
 
 // "normal executions, default executions, offers"

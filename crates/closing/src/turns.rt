@@ -2,8 +2,8 @@
 ghost use mathlib.Core.Path.{_≡_};
 ghost use Prim.Native.Nat.{_<_};
 ghost use Rattle.session.specs.Parts.{Within};
-ghost use Rattle.closing.specs.Turns.{turnIn, TakesAt, PassesTurn};
-use crate::judging::judge_place;
+ghost use Rattle.closing.specs.Passes.{turnIn, TakesAt, PassesTurn};
+use validation::judge_place;
 use lodging::keys::is_hidden;
 use session::Key;
 use session::Session;

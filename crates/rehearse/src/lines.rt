@@ -310,14 +310,14 @@ fn question_of(line: &[u8], p: Scan, kind: u8) -> Question {
 
 fn reply_to(s: Session, kind: u8, q: Question) -> Reply {
     match kind {
-        VERDICT => queries::verdict(s, q.of),
-        MATCHED => queries::matched(s, q.of, q.hour),
-        EXECUTED => queries::executed(s, q.of, q.hour),
-        MARKET => queries::market(s, q.of, q.hour),
-        BILATERAL => queries::bilateral(s, q.of, q.hour),
+        VERDICT => verdicts::verdict(s, q.of),
+        MATCHED => energies::matched(s, q.of, q.hour),
+        EXECUTED => energies::executed(s, q.of, q.hour),
+        MARKET => balances::market(s, q.of, q.hour),
+        BILATERAL => balances::bilateral(s, q.of, q.hour),
         PRICE => queries::price(s, q.hour),
-        MARKET_MAXIMUM => queries::market_maximum(s, q.of, q.import == 0, q.hour),
-        _ => queries::bilateral_maximum(s, q.of, q.import == 0, q.hour),
+        MARKET_MAXIMUM => maxima::market_maximum(s, q.of, q.import == 0, q.hour),
+        _ => maxima::bilateral_maximum(s, q.of, q.import == 0, q.hour),
     }
 }
 

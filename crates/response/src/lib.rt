@@ -320,7 +320,7 @@ pub fn clear(s: Session) -> Stepped
 pub fn verdict(s: Session, number: u32) -> Response
     ensures { λ r. ⌜ AnsweredAs s (Q.verdict number) r ⌝ }
 {
-    let a = queries::verdict(s, number);
+    let a = verdicts::verdict(s, number);
     of_reply(a)
 }
 
@@ -328,7 +328,7 @@ pub fn verdict(s: Session, number: u32) -> Response
 pub fn matched(s: Session, unit: u32, hour: u32) -> Response
     ensures { λ r. ⌜ AnsweredAs s (Q.matched unit hour) r ⌝ }
 {
-    let a = queries::matched(s, unit, hour);
+    let a = energies::matched(s, unit, hour);
     of_reply(a)
 }
 
@@ -336,7 +336,7 @@ pub fn matched(s: Session, unit: u32, hour: u32) -> Response
 pub fn executed(s: Session, unit: u32, hour: u32) -> Response
     ensures { λ r. ⌜ AnsweredAs s (Q.executed unit hour) r ⌝ }
 {
-    let a = queries::executed(s, unit, hour);
+    let a = energies::executed(s, unit, hour);
     of_reply(a)
 }
 
@@ -344,7 +344,7 @@ pub fn executed(s: Session, unit: u32, hour: u32) -> Response
 pub fn market(s: Session, border: u32, hour: u32) -> Response
     ensures { λ r. ⌜ AnsweredAs s (Q.market border hour) r ⌝ }
 {
-    let a = queries::market(s, border, hour);
+    let a = balances::market(s, border, hour);
     of_reply(a)
 }
 
@@ -352,7 +352,7 @@ pub fn market(s: Session, border: u32, hour: u32) -> Response
 pub fn bilateral(s: Session, border: u32, hour: u32) -> Response
     ensures { λ r. ⌜ AnsweredAs s (Q.bilateral border hour) r ⌝ }
 {
-    let a = queries::bilateral(s, border, hour);
+    let a = balances::bilateral(s, border, hour);
     of_reply(a)
 }
 
@@ -360,7 +360,7 @@ pub fn bilateral(s: Session, border: u32, hour: u32) -> Response
 pub fn market_maximum(s: Session, border: u32, export: bool, hour: u32) -> Response
     ensures { λ r. ⌜ AnsweredAs s (Q.marketMax border export hour) r ⌝ }
 {
-    let a = queries::market_maximum(s, border, export, hour);
+    let a = maxima::market_maximum(s, border, export, hour);
     of_reply(a)
 }
 
@@ -368,7 +368,7 @@ pub fn market_maximum(s: Session, border: u32, export: bool, hour: u32) -> Respo
 pub fn bilateral_maximum(s: Session, border: u32, export: bool, hour: u32) -> Response
     ensures { λ r. ⌜ AnsweredAs s (Q.bilateralMax border export hour) r ⌝ }
 {
-    let a = queries::bilateral_maximum(s, border, export, hour);
+    let a = maxima::bilateral_maximum(s, border, export, hour);
     of_reply(a)
 }
 

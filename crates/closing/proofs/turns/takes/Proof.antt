@@ -1,4 +1,4 @@
-use Rattle.closing.proofs.StandingLaws.{takes-other, takes-shown}
+use Rattle.closing.proofs.TakeLaws.{takes-other, takes-shown}
 use native.Mathlib.Omega.{arith}
 use Rattle.session.specs.Image.{noLodgement}
 use borrow.Author.Needs.{needs}
