@@ -51,7 +51,7 @@ enum {
     GATE_MAX_ENERGY = 99999,
     GATE_MAX_PRICE = 18030,
     GATE_MESSAGE = 108,       /* bytes of the longest message */
-    GATE_STACK = 1048576      /* bytes of stack that a call may use */
+    GATE_STACK = 524288       /* bytes of stack that a call may use */
 };
 
 enum { GATE_DOMESTIC = 0, GATE_FRANCE = 1, GATE_ANDORRA = 2, GATE_PORTUGAL = 3, GATE_MOROCCO = 4 };
