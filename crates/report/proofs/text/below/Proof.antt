@@ -1,9 +1,9 @@
 use mir.Syntax.{w64}
 use mir.Val.{toZ, ofZ}
-use Rattle.rehearse.proofs.SignedLaws.{against, turned}
+use Rattle.report.proofs.SignedLaws.{against, turned}
 use borrow.Author.Needs.{needs}
-use Rattle.rehearse.proofs.telling.below.Statement.{statement}
-use Rattle.rehearse.proofs.telling.below.Tie as tie
+use Rattle.report.proofs.text.below.Statement.{statement}
+use Rattle.report.proofs.text.below.Tie as tie
 
 sub-result : tie.Need-sub-result
 sub-result c = against (toZ w64 (ofZ w64 (c .before .before .args .n))) (c .if2 .taken) (c .before .if1 .left)
