@@ -1,4 +1,4 @@
-//! The rehearsal days of `tests/days`, played on the model: every answer is the stored one.
+//! The rehearsal days of `tests/days`, played on the model and on the proved gate: every answer is the stored one.
 //!
 //! The line format is that of `docs/REHEARSAL.md`; lines are read here by a small parser of the tests' own.
 
@@ -149,10 +149,9 @@ fn maximum(answer: Result<Option<i64>, Refusal>) -> String {
     said(answer.map(|figure| figure.map_or("none".to_string(), |energy| energy.to_string())))
 }
 
-fn write_and_lodge(session: &mut impl Exchange, fields: &Fields) -> String {
+fn write_and_lodge<E: Exchange>(session: &mut E, fields: &Fields) -> String {
     let mut buffer = [0; LONGEST_MESSAGE];
-    // The tests ask whatever they are given; the writer is the model's, the same for every session.
-    match Session::write(fields, &mut buffer) {
+    match E::write(fields, &mut buffer) {
         Ok(length) => lodged(session.lodge(&buffer[..length])),
         Err(refusal) => refusal.to_string(),
     }
@@ -258,4 +257,10 @@ fn play_all<E: Exchange>() {
 #[test]
 fn the_model_answers_as_stored() {
     play_all::<Session>();
+}
+
+#[cfg(feature = "proved")]
+#[test]
+fn the_proved_gate_answers_as_stored() {
+    play_all::<Gate>();
 }
