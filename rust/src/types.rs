@@ -271,7 +271,9 @@ impl fmt::Display for Verdict {
         match self {
             Verdict::Accepted => write!(f, "accepted"),
             Verdict::Hidden => write!(f, "hidden"),
-            Verdict::Passed { limit, hour } => write!(f, "limit {} {} hour {}", limit.number(), limit.word(), hour),
+            Verdict::Passed { limit, hour } => {
+                write!(f, "limit {} {} hour {}", limit.number(), limit.word(), hour)
+            }
         }
     }
 }

@@ -20,7 +20,7 @@ fn energies(word: &str) -> Option<Energies> {
         match part.split_once('x') {
             Some((energy, times)) => {
                 let times = number(times).filter(|times| (1..=100).contains(times))?;
-                all.extend(std::iter::repeat(number(energy)?).take(times as usize));
+                all.extend(std::iter::repeat_n(number(energy)?, times as usize));
             }
             None => all.push(number(part)?),
         }
@@ -66,7 +66,9 @@ fn capacities(words: &[&str]) -> Option<Capacities> {
     let mut notice = Capacities::none();
     let mut seen = Vec::new();
     for three in words.chunks(3) {
-        let [border, way, list] = three else { return None };
+        let [border, way, list] = three else {
+            return None;
+        };
         let (border, way) = (number(border)?, direction(way)?);
         if !(1..=4).contains(&border) || seen.contains(&(border, way)) {
             return None;
@@ -86,7 +88,9 @@ fn key<'w>(execution: bool, words: &'w [&'w str]) -> Option<(Key, &'w [&'w str])
         rest = after;
     }
     if execution {
-        let ["contract", contract, after @ ..] = rest else { return None };
+        let ["contract", contract, after @ ..] = rest else {
+            return None;
+        };
         key.contract = number(contract)?;
         rest = after;
     }

@@ -14,7 +14,9 @@ macro_rules! layout {
     (@word $field:ident) => { stringify!($field) };
 }
 
-fn mirrors() -> Vec<(&'static str, usize, Vec<(&'static str, usize)>)> {
+type Layout = (&'static str, usize, Vec<(&'static str, usize)>);
+
+fn mirrors() -> Vec<Layout> {
     vec![
         ("bool", size_of::<Flag>(), vec![]),
         layout!("GateResponse" Response { kind, row, hour, value, count }),
@@ -75,7 +77,9 @@ fn every_size_and_offset_of_the_header_is_ours() {
     assert_eq!(sizes, mirrors().len(), "a struct whose size the header does not state");
     // Every field stands in the header, in the order of the offsets, so that a name that moved is seen.
     for (name, _, fields) in mirrors() {
-        let Some((_, body)) = header.split_once(&format!("typedef struct {name} {{")) else { continue };
+        let Some((_, body)) = header.split_once(&format!("typedef struct {name} {{")) else {
+            continue;
+        };
         let body = body.split_once(&format!("}} {name};")).expect(name).0;
         let declared: Vec<&str> = body
             .lines()
