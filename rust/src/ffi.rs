@@ -24,7 +24,7 @@ impl From<Flag> for bool {
 
 /// A date.
 #[repr(C)]
-#[derive(Clone, Copy)]
+#[derive(Clone, Copy, PartialEq, Eq)]
 pub struct Date {
     /// The year.
     pub year: u32,
@@ -36,7 +36,7 @@ pub struct Date {
 
 /// A clock name with its mark.
 #[repr(C)]
-#[derive(Clone, Copy)]
+#[derive(Clone, Copy, PartialEq, Eq)]
 pub struct Clock {
     /// The starting local hour.
     pub name: u32,
@@ -46,7 +46,7 @@ pub struct Clock {
 
 /// An hour's clock name with row 0, or the refusal table's number.
 #[repr(C)]
-#[derive(Clone, Copy)]
+#[derive(Clone, Copy, PartialEq, Eq)]
 pub struct ClockName {
     /// 0, or the refusal table's number.
     pub row: u32,
@@ -58,7 +58,7 @@ pub struct ClockName {
 
 /// A unit.
 #[repr(C)]
-#[derive(Clone, Copy)]
+#[derive(Clone, Copy, PartialEq, Eq)]
 pub struct Unit {
     /// Its number.
     pub number: u32,
@@ -76,7 +76,7 @@ pub struct Unit {
 
 /// A lodgement's key.
 #[repr(C)]
-#[derive(Clone, Copy)]
+#[derive(Clone, Copy, PartialEq, Eq)]
 pub struct Key {
     /// An execution.
     pub execution: Flag,
@@ -90,7 +90,7 @@ pub struct Key {
 
 /// A direction of a capacity notice.
 #[repr(C)]
-#[derive(Clone, Copy)]
+#[derive(Clone, Copy, PartialEq, Eq)]
 pub struct Published {
     /// It is published.
     pub published: Flag,
@@ -102,7 +102,7 @@ pub struct Published {
 
 /// A capacity notice: export and import of border 1, of 2, of 3, of 4.
 #[repr(C)]
-#[derive(Clone, Copy)]
+#[derive(Clone, Copy, PartialEq, Eq)]
 pub struct Capacities {
     /// The directions.
     pub directions: [Published; 8],
@@ -110,7 +110,7 @@ pub struct Capacities {
 
 /// An unavailability notice.
 #[repr(C)]
-#[derive(Clone, Copy)]
+#[derive(Clone, Copy, PartialEq, Eq)]
 pub struct Availability {
     /// The unit.
     pub unit: u32,
@@ -122,7 +122,7 @@ pub struct Availability {
 
 /// A message's fields.
 #[repr(C)]
-#[derive(Clone, Copy)]
+#[derive(Clone, Copy, PartialEq, Eq)]
 pub struct Fields {
     /// An execution.
     pub execution: Flag,
@@ -142,7 +142,7 @@ pub struct Fields {
 
 /// What a reader gives.
 #[repr(C)]
-#[derive(Clone, Copy)]
+#[derive(Clone, Copy, PartialEq, Eq)]
 pub struct Reading {
     /// 0, or the refusal table's number.
     pub refusal: u32,
@@ -152,7 +152,7 @@ pub struct Reading {
 
 /// What a writer gives.
 #[repr(C)]
-#[derive(Clone, Copy)]
+#[derive(Clone, Copy, PartialEq, Eq)]
 pub struct Written {
     /// 0, or the refusal table's number.
     pub refusal: u32,
@@ -178,7 +178,7 @@ pub struct Response {
 
 /// What opening gives.
 #[repr(C)]
-#[derive(Clone, Copy)]
+#[derive(Clone, Copy, PartialEq, Eq)]
 pub struct Opening {
     /// The answer.
     pub response: Response,
@@ -188,7 +188,7 @@ pub struct Opening {
 
 /// A notice that stands in a session.
 #[repr(C)]
-#[derive(Clone, Copy)]
+#[derive(Clone, Copy, PartialEq, Eq)]
 pub struct Notice {
     /// It was given.
     pub given: Flag,
@@ -198,7 +198,7 @@ pub struct Notice {
 
 /// A standing lodgement.
 #[repr(C)]
-#[derive(Clone, Copy)]
+#[derive(Clone, Copy, PartialEq, Eq)]
 pub struct Lodgement {
     /// Its key.
     pub key: Key,
@@ -208,7 +208,7 @@ pub struct Lodgement {
 
 /// A standing lodgement's energies and prices.
 #[repr(C)]
-#[derive(Clone, Copy)]
+#[derive(Clone, Copy, PartialEq, Eq)]
 pub struct Energies {
     /// Energies by hour.
     pub energies: [u32; MOST_HOURS],
@@ -218,7 +218,7 @@ pub struct Energies {
 
 /// A verdict.
 #[repr(C)]
-#[derive(Clone, Copy)]
+#[derive(Clone, Copy, PartialEq, Eq)]
 pub struct Verdict {
     /// The lodgement was accepted.
     pub accepted: Flag,
@@ -230,7 +230,7 @@ pub struct Verdict {
 
 /// A cleared hour.
 #[repr(C)]
-#[derive(Clone, Copy)]
+#[derive(Clone, Copy, PartialEq, Eq)]
 pub struct Cleared {
     /// The price.
     pub price: u32,
@@ -248,7 +248,7 @@ pub struct Cleared {
 
 /// A session. Its fields are the gate's own business: they are here because C has to know its size.
 #[repr(C)]
-#[derive(Clone, Copy)]
+#[derive(Clone, Copy, PartialEq, Eq)]
 pub struct Session {
     /// The delivery day.
     pub date: Date,

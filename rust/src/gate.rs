@@ -161,9 +161,7 @@ fn date(date: Date) -> ffi::Date {
 
 fn published(direction: &Option<Energies>) -> ffi::Published {
     match direction {
-        Some(energies) => {
-            ffi::Published { published: true.into(), count: energies.count(), energies: *energies.values() }
-        }
+        Some(energies) => ffi::Published { published: true.into(), count: energies.count(), energies: *energies.values() },
         None => ffi::Published { published: false.into(), count: 0, energies: [0; MOST_HOURS] },
     }
 }

@@ -17,6 +17,9 @@ pub const MOST_ACCEPTED: u32 = 65_535;
 /// The length of the longest message, an offer of 25 hours.
 pub const LONGEST_MESSAGE: usize = 8 + 4 * MOST_HOURS;
 
+/// The bytes of the calling thread's stack that a call of the proved gate may use.
+pub const STACK: usize = 1 << 20;
+
 /// A date. The gate takes 2002-01-01 to 2099-12-31 and refuses every other value.
 #[derive(Clone, Copy, Debug, PartialEq, Eq, Hash)]
 pub struct Date {
@@ -268,7 +271,9 @@ impl fmt::Display for Verdict {
         match self {
             Verdict::Accepted => write!(f, "accepted"),
             Verdict::Hidden => write!(f, "hidden"),
-            Verdict::Passed { limit, hour } => write!(f, "limit {} {} hour {}", limit.number(), limit.word(), hour),
+            Verdict::Passed { limit, hour } => {
+                write!(f, "limit {} {} hour {}", limit.number(), limit.word(), hour)
+            }
         }
     }
 }

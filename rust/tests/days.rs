@@ -1,4 +1,4 @@
-//! The rehearsal days of `tests/days`, played on the model: every answer is the stored one.
+//! The rehearsal days of `tests/days`, played on the model and on the proved gate: every answer is the stored one.
 //!
 //! The line format is that of `docs/REHEARSAL.md`; lines are read here by a small parser of the tests' own.
 
@@ -20,7 +20,7 @@ fn energies(word: &str) -> Option<Energies> {
         match part.split_once('x') {
             Some((energy, times)) => {
                 let times = number(times).filter(|times| (1..=100).contains(times))?;
-                all.extend(std::iter::repeat(number(energy)?).take(times as usize));
+                all.extend(std::iter::repeat_n(number(energy)?, times as usize));
             }
             None => all.push(number(part)?),
         }
@@ -66,7 +66,9 @@ fn capacities(words: &[&str]) -> Option<Capacities> {
     let mut notice = Capacities::none();
     let mut seen = Vec::new();
     for three in words.chunks(3) {
-        let [border, way, list] = three else { return None };
+        let [border, way, list] = three else {
+            return None;
+        };
         let (border, way) = (number(border)?, direction(way)?);
         if !(1..=4).contains(&border) || seen.contains(&(border, way)) {
             return None;
@@ -86,7 +88,9 @@ fn key<'w>(execution: bool, words: &'w [&'w str]) -> Option<(Key, &'w [&'w str])
         rest = after;
     }
     if execution {
-        let ["contract", contract, after @ ..] = rest else { return None };
+        let ["contract", contract, after @ ..] = rest else {
+            return None;
+        };
         key.contract = number(contract)?;
         rest = after;
     }
@@ -149,10 +153,9 @@ fn maximum(answer: Result<Option<i64>, Refusal>) -> String {
     said(answer.map(|figure| figure.map_or("none".to_string(), |energy| energy.to_string())))
 }
 
-fn write_and_lodge(session: &mut impl Exchange, fields: &Fields) -> String {
+fn write_and_lodge<E: Exchange>(session: &mut E, fields: &Fields) -> String {
     let mut buffer = [0; LONGEST_MESSAGE];
-    // The tests ask whatever they are given; the writer is the model's, the same for every session.
-    match Session::write(fields, &mut buffer) {
+    match E::write(fields, &mut buffer) {
         Ok(length) => lodged(session.lodge(&buffer[..length])),
         Err(refusal) => refusal.to_string(),
     }
@@ -258,4 +261,10 @@ fn play_all<E: Exchange>() {
 #[test]
 fn the_model_answers_as_stored() {
     play_all::<Session>();
+}
+
+#[cfg(feature = "proved")]
+#[test]
+fn the_proved_gate_answers_as_stored() {
+    play_all::<Gate>();
 }

@@ -3,7 +3,7 @@
 use crate::types::{Clock, Date, Refusal};
 
 fn leap(year: u32) -> bool {
-    year % 4 == 0 && (year % 100 != 0 || year % 400 == 0)
+    year.is_multiple_of(4) && (!year.is_multiple_of(100) || year.is_multiple_of(400))
 }
 
 fn month_length(year: u32, month: u32) -> u32 {

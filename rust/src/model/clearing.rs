@@ -35,45 +35,65 @@ fn way(purchase: bool) -> usize {
 }
 
 /// The hour's offers by rising lodging number, and the two orders of merit over them.
+#[derive(Default)]
 struct Hour {
     offers: Vec<Offer>,
     /// By rising price, then by lodging number.
     sales: Vec<usize>,
     /// By falling price, then by lodging number.
     purchases: Vec<usize>,
+    /// The offers at a border, by lodging number.
+    abroad: Vec<usize>,
 }
 
 impl Hour {
-    fn new(offers: Vec<Offer>) -> Hour {
-        let mut sales: Vec<usize> = (0..offers.len()).filter(|index| !offers[*index].purchase).collect();
-        let mut purchases: Vec<usize> = (0..offers.len()).filter(|index| offers[*index].purchase).collect();
-        // Both sorts keep the order of equal prices.
-        sales.sort_by_key(|index| offers[*index].price);
-        purchases.sort_by_key(|index| std::cmp::Reverse(offers[*index].price));
-        Hour { offers, sales, purchases }
+    /// Sorts the hour once.
+    fn sort(&mut self) {
+        self.sales.clear();
+        self.purchases.clear();
+        self.abroad.clear();
+        for (index, offer) in self.offers.iter().enumerate() {
+            if offer.purchase { &mut self.purchases } else { &mut self.sales }.push(index);
+            if offer.border > 0 {
+                self.abroad.push(index);
+            }
+        }
+        let offers = &self.offers;
+        self.sales.sort_unstable_by_key(|index| (offers[*index].price, *index));
+        self.purchases.sort_unstable_by_key(|index| (HIGHEST_PRICE - offers[*index].price, *index));
     }
 
-    /// Matches what is offered; gives the price of sale place V, or 0.
+    /// The offers at a border.
+    fn at_borders(&self) -> impl Iterator<Item = &Offer> {
+        self.abroad.iter().map(|index| &self.offers[*index])
+    }
+
+    /// Matches what is offered, by whole offers; gives the price of sale place V, or 0.
     fn match_offers(&mut self) -> u32 {
-        for offer in &mut self.offers {
+        let offers = &mut self.offers[..];
+        for offer in offers.iter_mut() {
             offer.matched = 0;
         }
         let (mut sale, mut purchase, mut price) = (0, 0, 0);
-        while sale < self.sales.len() && purchase < self.purchases.len() {
-            let (seller, buyer) = (self.sales[sale], self.purchases[purchase]);
-            let (selling, buying) = (&self.offers[seller], &self.offers[buyer]);
-            let (left_to_sell, left_to_buy) = (selling.offered - selling.matched, buying.offered - buying.matched);
-            if left_to_sell == 0 {
-                sale += 1;
-            } else if left_to_buy == 0 {
-                purchase += 1;
-            } else if selling.price > buying.price {
+        // What the first sale and the first purchase with energy left have given.
+        let (mut sold, mut bought) = (0, 0);
+        while let (Some(&seller), Some(&buyer)) = (self.sales.get(sale), self.purchases.get(purchase)) {
+            if offers[seller].price > offers[buyer].price {
                 break;
-            } else {
-                price = selling.price;
-                let energy = left_to_sell.min(left_to_buy);
-                self.offers[seller].matched += energy;
-                self.offers[buyer].matched += energy;
+            }
+            let energy = (offers[seller].offered - sold).min(offers[buyer].offered - bought);
+            if energy > 0 {
+                price = offers[seller].price;
+            }
+            sold += energy;
+            bought += energy;
+            offers[seller].matched = sold;
+            offers[buyer].matched = bought;
+            if sold == offers[seller].offered {
+                (sale, sold) = (sale + 1, 0);
+            }
+            if bought == offers[buyer].offered {
+                (purchase, bought) = (purchase + 1, 0);
             }
         }
         price
@@ -82,11 +102,9 @@ impl Hour {
     /// Exports less imports by border, from 0 for border 1.
     fn balances(&self) -> [i64; 4] {
         let mut balances = [0; 4];
-        for offer in &self.offers {
-            if offer.border > 0 {
-                let energy = i64::from(offer.matched);
-                balances[offer.border - 1] += if offer.purchase { energy } else { -energy };
-            }
+        for offer in self.at_borders() {
+            let energy = i64::from(offer.matched);
+            balances[offer.border - 1] += if offer.purchase { energy } else { -energy };
         }
         balances
     }
@@ -94,7 +112,7 @@ impl Hour {
     /// Matched legacy energy by border and direction.
     fn legacy(&self) -> [[i64; 2]; 4] {
         let mut legacy = [[0; 2]; 4];
-        for offer in self.offers.iter().filter(|offer| offer.legacy) {
+        for offer in self.at_borders().filter(|offer| offer.legacy) {
             legacy[offer.border - 1][way(offer.purchase)] += i64::from(offer.matched);
         }
         legacy
@@ -102,17 +120,23 @@ impl Hour {
 
     /// One withdrawal step without its match; `over` is the excess by border and direction, 0 where none.
     fn withdraw(&mut self, over: &[[i64; 2]; 4]) {
-        let is_over = |offer: &Offer| offer.border > 0 && over[offer.border - 1][way(offer.purchase)] > 0;
-        for offer in &mut self.offers {
-            if !offer.legacy && is_over(offer) {
-                offer.offered = offer.matched;
+        let (mut lowest, mut highest) = (None, None);
+        for index in &self.abroad {
+            let offer = &mut self.offers[*index];
+            if offer.legacy || over[offer.border - 1][way(offer.purchase)] == 0 {
+                continue;
+            }
+            offer.offered = offer.matched;
+            if offer.matched == 0 {
+                continue;
+            }
+            if offer.purchase {
+                lowest = Some(lowest.map_or(offer.price, |price: u32| price.min(offer.price)));
+            } else {
+                highest = Some(highest.map_or(offer.price, |price: u32| price.max(offer.price)));
             }
         }
-        let marginal = |purchase: bool| {
-            let here = move |offer: &&Offer| offer.purchase == purchase && !offer.legacy && offer.matched > 0 && is_over(offer);
-            self.offers.iter().filter(here).map(|offer| offer.price)
-        };
-        let gone = match (marginal(true).min(), marginal(false).max()) {
+        let gone = match (lowest, highest) {
             (None, None) => None,
             (Some(price), None) => Some((true, price)),
             (None, Some(price)) => Some((false, price)),
@@ -136,9 +160,9 @@ impl Hour {
                         (offer.border, offer.purchase, offer.legacy, offer.price) == (border, purchase, false, price)
                     }),
                     Some(_) => {}
-                    None => self.take(excess, |offer| {
-                        (offer.border, offer.purchase, offer.legacy) == (border, purchase, true)
-                    }),
+                    None => {
+                        self.take(excess, |offer| (offer.border, offer.purchase, offer.legacy) == (border, purchase, true))
+                    }
                 }
             }
         }
@@ -146,33 +170,43 @@ impl Hour {
 
     /// Takes the lesser of the excess and the group's matched energy by Share; the group then offers matched less taken.
     fn take(&mut self, excess: i64, of_group: impl Fn(&Offer) -> bool) {
-        let group: Vec<usize> = (0..self.offers.len()).filter(|index| of_group(&self.offers[*index])).collect();
-        let amounts: Vec<u32> = group.iter().map(|index| self.offers[*index].matched).collect();
-        let total: i64 = amounts.iter().map(|amount| i64::from(*amount)).sum();
-        let losses = share(excess.min(total), &amounts);
-        for (index, loss) in group.into_iter().zip(losses) {
-            let offer = &mut self.offers[index];
-            offer.offered = offer.matched - loss;
+        let group = || self.at_borders().filter(|offer| of_group(offer)).map(|offer| offer.matched);
+        let total: u64 = group().map(u64::from).sum();
+        let mut share = Share::new(total.min(excess as u64), total, group());
+        for index in &self.abroad {
+            let offer = &mut self.offers[*index];
+            if of_group(offer) {
+                offer.offered = offer.matched - share.loss(offer.matched);
+            }
         }
     }
 }
 
-/// What each of the amounts, by rising lodging number, loses when `taken` is taken from them.
-fn share(taken: i64, amounts: &[u32]) -> Vec<u32> {
-    let total: u64 = amounts.iter().map(|amount| u64::from(*amount)).sum();
-    if total == 0 {
-        return vec![0; amounts.len()];
+/// "To take R from amounts m summing to G": what each amount loses, asked by rising lodging number.
+struct Share {
+    taken: u64,
+    total: u64,
+    /// The leftover units still to be handed out.
+    left: u64,
+}
+
+impl Share {
+    fn new(taken: u64, total: u64, amounts: impl Iterator<Item = u32>) -> Share {
+        let mut share = Share { taken, total, left: 0 };
+        share.left = taken - amounts.map(|amount| share.rounded_down(amount)).sum::<u64>();
+        share
     }
-    let taken = taken as u64;
-    let mut losses: Vec<u32> = amounts.iter().map(|amount| (taken * u64::from(*amount) / total) as u32).collect();
-    let mut left = taken - losses.iter().map(|loss| u64::from(*loss)).sum::<u64>();
-    for (loss, amount) in losses.iter_mut().zip(amounts) {
-        if left > 0 && *amount > 0 {
-            *loss += 1;
-            left -= 1;
-        }
+
+    fn rounded_down(&self, amount: u32) -> u64 {
+        // G 0 loses nothing.
+        (self.taken * u64::from(amount)).checked_div(self.total).unwrap_or(0)
     }
-    losses
+
+    fn loss(&mut self, amount: u32) -> u32 {
+        let more = u64::from(self.left > 0 && amount > 0);
+        self.left -= more;
+        (self.rounded_down(amount) + more) as u32
+    }
 }
 
 /// The market maximum of a direction: capacity, executions' and market balance and matched legacy energy, all in that direction.
@@ -197,107 +231,125 @@ struct Execution {
     lost: u32,
 }
 
-/// Clears an hour (from 0); gives its figures and its withdrawal steps. The lodgements stand by rising number.
-pub(super) fn clear(
-    units: &[Registered],
-    lodgements: &[Lodgement],
-    capacities: &[Option<Hours>; 8],
-    hour: usize,
-) -> (Figures, u64) {
-    let mut offers = Vec::new();
-    let mut executions = Vec::new();
-    for lodgement in lodgements {
-        let energy = lodgement.energies[hour];
-        if lodgement.verdict != Verdict::Accepted || energy == 0 {
-            continue;
-        }
-        let Unit { border, purchase, legacy, .. } = units[lodgement.place].unit;
-        let (place, border) = (lodgement.place, border as usize);
-        if lodgement.key.execution {
-            executions.push(Execution { place, border, purchase, energy, lost: 0 });
-        } else {
-            let price = lodgement.prices[hour];
-            offers.push(Offer { place, purchase, border, legacy, price, offered: energy, matched: 0 });
-        }
-    }
-    let capacity = |border: usize, way: usize| capacities[border * 2 + way].as_ref().map(|hours| i64::from(hours[hour]));
+/// The day's hours, cleared one after another in the same memory.
+#[derive(Default)]
+pub(super) struct Clearing {
+    merit: Hour,
+    executions: Vec<Execution>,
+}
 
-    let mut uncut = [0; 4];
-    for execution in &executions {
-        let energy = i64::from(execution.energy);
-        uncut[execution.border - 1] += if execution.purchase { energy } else { -energy };
-    }
-    let mut merit = Hour::new(offers);
-    let mut price = merit.match_offers();
-    let mut market = merit.balances();
-    let legacy = merit.legacy();
-    let mut market_maxima = [[None; 2]; 4];
-    for border in 0..4 {
-        for (way, sign) in [(0, 1), (1, -1)] {
-            market_maxima[border][way] = capacity(border, way)
-                .map(|capacity| split(capacity, sign * uncut[border], sign * market[border], legacy[border][way]));
+impl Clearing {
+    /// The accepted lodgements that name an hour (from 0). The lodgements stand by rising number.
+    fn load(&mut self, units: &[Registered], lodgements: &[Lodgement], hour: usize) {
+        self.merit.offers.clear();
+        self.executions.clear();
+        for lodgement in lodgements {
+            let energy = lodgement.energies[hour];
+            if lodgement.verdict != Verdict::Accepted || energy == 0 {
+                continue;
+            }
+            let Unit { border, purchase, legacy, .. } = units[lodgement.place].unit;
+            let (place, border) = (lodgement.place, border as usize);
+            if lodgement.key.execution {
+                self.executions.push(Execution { place, border, purchase, energy, lost: 0 });
+            } else {
+                let price = lodgement.prices[hour];
+                self.merit.offers.push(Offer { place, purchase, border, legacy, price, offered: energy, matched: 0 });
+            }
         }
+        self.merit.sort();
     }
 
-    let mut steps = 0;
-    loop {
-        let mut over = [[0; 2]; 4];
-        let mut any = false;
+    /// Clears an hour; gives its figures and its withdrawal steps.
+    pub(super) fn clear(
+        &mut self,
+        units: &[Registered],
+        lodgements: &[Lodgement],
+        capacities: &[Option<Hours>; 8],
+        hour: usize,
+    ) -> (Figures, u64) {
+        self.load(units, lodgements, hour);
+        let Clearing { merit, executions } = self;
+        let capacity = |border: usize, way: usize| capacities[border * 2 + way].as_ref().map(|hours| i64::from(hours[hour]));
+
+        let mut uncut = [0; 4];
+        for execution in executions.iter() {
+            let energy = i64::from(execution.energy);
+            uncut[execution.border - 1] += if execution.purchase { energy } else { -energy };
+        }
+        let mut price = merit.match_offers();
+        let mut market = merit.balances();
+        let legacy = merit.legacy();
+        let mut market_maxima = [[None; 2]; 4];
         for border in 0..4 {
             for (way, sign) in [(0, 1), (1, -1)] {
-                if let Some(maximum) = market_maxima[border][way] {
-                    over[border][way] = (sign * market[border] - maximum).max(0);
-                    any |= over[border][way] > 0;
+                market_maxima[border][way] = capacity(border, way)
+                    .map(|capacity| split(capacity, sign * uncut[border], sign * market[border], legacy[border][way]));
+            }
+        }
+
+        let mut steps = 0;
+        loop {
+            let mut over = [[0; 2]; 4];
+            let mut any = false;
+            for border in 0..4 {
+                for (way, sign) in [(0, 1), (1, -1)] {
+                    if let Some(maximum) = market_maxima[border][way] {
+                        over[border][way] = (sign * market[border] - maximum).max(0);
+                        any |= over[border][way] > 0;
+                    }
+                }
+            }
+            if !any {
+                break;
+            }
+            merit.withdraw(&over);
+            price = merit.match_offers();
+            market = merit.balances();
+            steps += 1;
+        }
+
+        let mut bilateral_maxima = [[None; 2]; 4];
+        for border in 0..4 {
+            for (way, sign) in [(0, 1), (1, -1)] {
+                let Some(capacity) = capacity(border, way) else {
+                    continue;
+                };
+                let maximum = capacity - sign * market[border];
+                bilateral_maxima[border][way] = Some(maximum);
+                let excess = sign * uncut[border] - maximum;
+                if excess > 0 {
+                    let of_group =
+                        |execution: &Execution| execution.border == border + 1 && execution.purchase == (way == 0);
+                    let group = || executions.iter().filter(|execution| of_group(execution)).map(|one| one.energy);
+                    let mut share = Share::new(excess as u64, group().map(u64::from).sum(), group());
+                    for execution in executions.iter_mut().filter(|execution| of_group(execution)) {
+                        execution.lost += share.loss(execution.energy);
+                    }
                 }
             }
         }
-        if !any {
-            break;
-        }
-        merit.withdraw(&over);
-        price = merit.match_offers();
-        market = merit.balances();
-        steps += 1;
-    }
 
-    let mut bilateral_maxima = [[None; 2]; 4];
-    for border in 0..4 {
-        for (way, sign) in [(0, 1), (1, -1)] {
-            let Some(capacity) = capacity(border, way) else { continue };
-            let maximum = capacity - sign * market[border];
-            bilateral_maxima[border][way] = Some(maximum);
-            let excess = sign * uncut[border] - maximum;
-            if excess > 0 {
-                let mut group: Vec<&mut Execution> = executions
-                    .iter_mut()
-                    .filter(|execution| execution.border == border + 1 && execution.purchase == (way == 0))
-                    .collect();
-                let amounts: Vec<u32> = group.iter().map(|execution| execution.energy).collect();
-                for (execution, loss) in group.iter_mut().zip(share(excess, &amounts)) {
-                    execution.lost += loss;
-                }
-            }
+        let mut figures = Figures {
+            price,
+            market,
+            bilateral: [0; 4],
+            market_maxima,
+            bilateral_maxima,
+            matched: [0; MOST_UNITS],
+            executed: [0; MOST_UNITS],
+        };
+        for offer in &merit.offers {
+            figures.matched[offer.place] += offer.matched;
         }
+        for execution in executions.iter() {
+            let energy = execution.energy - execution.lost;
+            figures.executed[execution.place] += energy;
+            figures.bilateral[execution.border - 1] +=
+                if execution.purchase { i64::from(energy) } else { -i64::from(energy) };
+        }
+        (figures, steps)
     }
-
-    let mut figures = Figures {
-        price,
-        market,
-        bilateral: [0; 4],
-        market_maxima,
-        bilateral_maxima,
-        matched: [0; MOST_UNITS],
-        executed: [0; MOST_UNITS],
-    };
-    for offer in &merit.offers {
-        figures.matched[offer.place] += offer.matched;
-    }
-    for execution in &executions {
-        let energy = execution.energy - execution.lost;
-        figures.executed[execution.place] += energy;
-        figures.bilateral[execution.border - 1] += if execution.purchase { i64::from(energy) } else { -i64::from(energy) };
-    }
-    (figures, steps)
 }
 
 #[cfg(test)]
@@ -312,6 +364,15 @@ mod tests {
         assert_eq!(split(100, 0, 0, 0), 100);
         assert_eq!(split(100, 20, 30, 0), 80);
         assert_eq!(split(100, 60, 150, 120), 100);
-        assert_eq!(share(10, &[7, 7, 7]), [4, 3, 3]);
+        assert_eq!(losses(10, &[7, 7, 7]), [4, 3, 3]);
+        assert_eq!(losses(10, &[7, 0, 7, 7]), [4, 0, 3, 3]);
+        assert_eq!(losses(0, &[0, 0]), [0, 0]);
+        assert_eq!(losses(21, &[7, 7, 7]), [7, 7, 7]);
+    }
+
+    fn losses(taken: u64, amounts: &[u32]) -> Vec<u32> {
+        let total = amounts.iter().map(|amount| u64::from(*amount)).sum();
+        let mut share = Share::new(taken, total, amounts.iter().copied());
+        amounts.iter().map(|amount| share.loss(*amount)).collect()
     }
 }

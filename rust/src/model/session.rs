@@ -1,6 +1,6 @@
 //! The session: units and notices, lodging and annulling, closing, queries.
 
-use super::clearing::{self, Figures};
+use super::clearing::{Clearing, Figures};
 use super::{calendar, message};
 use crate::exchange::Exchange;
 use crate::types::*;
@@ -123,14 +123,12 @@ impl Session {
         let mut sums = fields.energies;
         for other in &self.lodgements {
             if other.place == place && other.key.execution != fields.key.execution && !other.hidden {
-                for hour in 0..MOST_HOURS {
-                    sums[hour] += other.energies[hour];
-                }
+                add(&mut sums, &other.energies);
             }
         }
-        for hour in 0..MOST_HOURS {
-            if fields.energies[hour] == 0 {
-                sums[hour] = 0;
+        for (sum, energy) in sums.iter_mut().zip(fields.energies) {
+            if energy == 0 {
+                *sum = 0;
             }
         }
         sums
@@ -176,6 +174,13 @@ impl Session {
         let mut hours = *energies.values();
         hours[self.hours..].fill(0);
         Ok(hours)
+    }
+}
+
+/// Adds hour by hour.
+fn add(sums: &mut Hours, energies: &Hours) {
+    for (sum, energy) in sums.iter_mut().zip(energies) {
+        *sum += energy;
     }
 }
 
@@ -351,9 +356,7 @@ impl Exchange for Session {
                 let verdict = match self.judge(place, &sums, true) {
                     Some((limit, hour)) => Verdict::Passed { limit, hour },
                     None => {
-                        for hour in 0..MOST_HOURS {
-                            accepted[place][hour] += lodgement.energies[hour];
-                        }
+                        add(&mut accepted[place], &lodgement.energies);
                         Verdict::Accepted
                     }
                 };
@@ -370,8 +373,9 @@ impl Exchange for Session {
         }
         let mut steps = 0;
         let mut figures = Vec::with_capacity(self.hours);
+        let mut clearing = Clearing::default();
         for hour in 0..self.hours {
-            let (cleared, taken) = clearing::clear(&self.units, &self.lodgements, &self.capacities, hour);
+            let (cleared, taken) = clearing.clear(&self.units, &self.lodgements, &self.capacities, hour);
             steps += taken;
             figures.push(cleared);
         }

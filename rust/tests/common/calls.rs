@@ -19,7 +19,7 @@ pub enum Query {
 pub enum Call {
     Register(Unit),
     Available(u32, Energies),
-    Capacity(Capacities),
+    Capacity(Box<Capacities>),
     Lodge(Vec<u8>),
     Annul(Key),
     Close,
@@ -60,9 +60,7 @@ pub fn ask<E: Exchange>(exchange: &E, query: Query) -> Answer {
         Query::Market(border, hour) => told(exchange.market(border, hour), Answer::Figure),
         Query::Bilateral(border, hour) => told(exchange.bilateral(border, hour), Answer::Figure),
         Query::MarketMaximum(border, way, hour) => told(exchange.market_maximum(border, way, hour), Answer::Maximum),
-        Query::BilateralMaximum(border, way, hour) => {
-            told(exchange.bilateral_maximum(border, way, hour), Answer::Maximum)
-        }
+        Query::BilateralMaximum(border, way, hour) => told(exchange.bilateral_maximum(border, way, hour), Answer::Maximum),
         Query::Price(hour) => told(exchange.price(hour), Answer::Amount),
     }
 }

@@ -18,7 +18,7 @@ impl Packer {
 
     pub fn push(&mut self, value: u32, width: u32) {
         for bit in (0..width).rev() {
-            if self.bits % 8 == 0 {
+            if self.bits.is_multiple_of(8) {
                 self.bytes.push(0);
             }
             *self.bytes.last_mut().unwrap() |= ((value >> bit & 1) as u8) << (7 - self.bits % 8);
@@ -62,7 +62,9 @@ pub fn date(rng: &mut Rng) -> Date {
         0..=34 => changing(rng, 10),
         35..=49 => changing(rng, 3),
         50..=89 => Date::new(rng.between(2002, 2099), rng.between(1, 12), rng.between(1, 28)),
-        90..=95 => rng.pick(&[Date::new(2002, 1, 1), Date::new(2099, 12, 31), Date::new(2096, 2, 29), Date::new(2006, 10, 31)]),
+        90..=95 => {
+            rng.pick(&[Date::new(2002, 1, 1), Date::new(2099, 12, 31), Date::new(2096, 2, 29), Date::new(2006, 10, 31)])
+        }
         _ => any_date(rng),
     }
 }
@@ -140,7 +142,10 @@ impl Maker {
             Theme::Congested | Theme::Ladder => self.rng.pick(&[2, 3, 4, 6]),
             _ => self.rng.pick(&[1, 2, 2, 3, 4, 4, 6]),
         };
-        let maximum = (self.scale * halves / 2).min(LARGEST_ENERGY);
+        let maximum = match self.theme {
+            Theme::Full if self.rng.chance(90) => LARGEST_ENERGY,
+            _ => (self.scale * halves / 2).min(LARGEST_ENERGY),
+        };
         let mut unit = Unit {
             number,
             agent: self.rng.between(1, agents),
@@ -193,8 +198,7 @@ impl Maker {
     fn energies(&mut self, energy: impl Fn(&mut Rng) -> u32) -> Energies {
         let count = self.count();
         let flat = self.rng.chance(30).then(|| energy(&mut self.rng));
-        let mut values: Vec<u32> =
-            (0..count.min(40)).map(|_| flat.unwrap_or_else(|| energy(&mut self.rng))).collect();
+        let mut values: Vec<u32> = (0..count.min(40)).map(|_| flat.unwrap_or_else(|| energy(&mut self.rng))).collect();
         if self.rng.chance(self.broken) && !values.is_empty() {
             let place = self.rng.below(values.len() as u32) as usize;
             values[place] = self.rng.pick(&[100_000, u32::MAX, 99_999, 100_001]);
@@ -242,7 +246,7 @@ impl Maker {
                 notice = notice.with(border as u32, way, energies);
             }
         }
-        self.calls.push(Call::Capacity(notice));
+        self.calls.push(Call::Capacity(Box::new(notice)));
     }
 
     fn fields(&mut self) -> Fields {
@@ -300,8 +304,7 @@ impl Maker {
         let fields = self.fields();
         self.keys.push(fields.key);
         let kind = u32::from(fields.key.execution);
-        let message =
-            if self.rng.chance(self.broken) { self.broken_message(fields) } else { packed(1, kind, &fields) };
+        let message = if self.rng.chance(self.broken) { self.broken_message(fields) } else { packed(1, kind, &fields) };
         self.calls.push(Call::Lodge(message));
     }
 
@@ -393,6 +396,7 @@ impl Maker {
     /// A call of any sort.
     fn any_call(&mut self) {
         match self.rng.below(1000) {
+            640..=869 if self.theme == Theme::Full && self.rng.chance(85) => self.lodge(),
             0..=639 => self.lodge(),
             640..=719 => self.annul(),
             720..=799 => self.capacity(),
@@ -440,7 +444,7 @@ impl Maker {
         let hours = self.hours as usize;
         let notice = Capacities::none().with(1, way, Energies::flat(capacity, hours));
         let notice = if self.rng.chance(50) { notice.with(1, other, Energies::flat(90_000, hours)) } else { notice };
-        self.calls.push(Call::Capacity(notice));
+        self.calls.push(Call::Capacity(Box::new(notice)));
         for (mut unit, energy, price) in lodged {
             unit.purchase ^= mirrored;
             self.units.push(unit);
@@ -489,6 +493,7 @@ pub fn list(seed: u64) -> List {
     let hours = calendar::hours(date).unwrap_or(24);
     let scale = match theme {
         Theme::Ladder => rng.pick(&[4, 20, 60, 250]),
+        Theme::Full => rng.pick(&[2, 10, 100, 500]),
         _ => rng.pick(&[2, 6, 10, 40, 100, 500, 3_000, 49_999, 99_999]),
     };
     let prices = match rng.below(4) {
@@ -508,6 +513,7 @@ pub fn list(seed: u64) -> List {
         capacity_quarters: match theme {
             Theme::Congested => rng.pick(&[1, 2, 4]),
             Theme::Ladder => rng.pick(&[0, 1, 2]),
+            Theme::Full => rng.pick(&[4, 400]),
             _ => rng.pick(&[2, 4, 8, 16]),
         },
         purchases: match theme {
@@ -515,18 +521,19 @@ pub fn list(seed: u64) -> List {
             _ => [50; 5],
         },
         contracts: match theme {
-            Theme::Full => 20,
+            Theme::Full => 60,
             _ => rng.pick(&[1, 2, 4, 65_535]),
         },
         broken: match theme {
             Theme::Broken => 30,
+            Theme::Full => rng.pick(&[0, 2]),
             _ => rng.pick(&[0, 1, 5]),
         },
         calls: Vec::new(),
         rng,
     };
     let (units, body) = match theme {
-        Theme::Full => (maker.rng.between(50, 75), maker.rng.between(100, 260)),
+        Theme::Full => (maker.rng.between(50, 75), maker.rng.between(180, 360)),
         Theme::Ladder => (maker.rng.between(0, 14), maker.rng.pick(&[0, 5, 15, 30])),
         Theme::Congested => (maker.rng.between(6, 20), maker.rng.between(15, 50)),
         _ => (maker.rng.between(1, 16), maker.rng.between(2, 50)),

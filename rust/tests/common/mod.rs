@@ -25,7 +25,7 @@ impl Rng {
 
     /// 0 to `bound` less 1; 0 for a bound of 0.
     pub fn below(&mut self, bound: u32) -> u32 {
-        ((self.next() >> 32) * u64::from(bound) >> 32) as u32
+        (((self.next() >> 32) * u64::from(bound)) >> 32) as u32
     }
 
     pub fn between(&mut self, low: u32, high: u32) -> u32 {

@@ -169,7 +169,11 @@ impl fmt::Display for Seen {
         rows(f, "refused calls by number", &self.refused)?;
         rows(f, "refused queries by number", &self.refused_queries)?;
         let [short, plain, long] = self.cleared;
-        writeln!(f, "\ncleared days: {short} of 23 hours, {plain} of 24, {long} of 25; {} with steps, at most {}", self.with_steps, self.most_steps)?;
+        writeln!(
+            f,
+            "\ncleared days: {short} of 23 hours, {plain} of 24, {long} of 25; {} with steps, at most {}",
+            self.with_steps, self.most_steps
+        )?;
         let [accepted, hidden, ten, eleven, twelve] = self.verdicts;
         writeln!(f, "verdicts: {accepted} accepted, {hidden} hidden, limit 10: {ten}, 11: {eleven}, 12: {twelve}")?;
         write!(

@@ -23,7 +23,9 @@ fn simpler(call: &Call) -> Vec<Call> {
     let mut all = Vec::new();
     match call {
         Call::Lodge(bytes) => {
-            let Ok(fields) = message::read(bytes) else { return all };
+            let Ok(fields) = message::read(bytes) else {
+                return all;
+            };
             let mut lodge = |fields: Fields| {
                 let mut buffer = [0; LONGEST_MESSAGE];
                 if let Ok(length) = message::write(&fields, &mut buffer) {
@@ -71,11 +73,14 @@ fn simpler(call: &Call) -> Vec<Call> {
             };
             for (gone, direction) in &every {
                 let Some(energies) = direction else { continue };
-                all.push(Call::Capacity(build(&|index, energies| (index != *gone).then_some(energies))));
+                all.push(Call::Capacity(Box::new(build(&|index, energies| (index != *gone).then_some(energies)))));
                 for value in [0, energies.values()[0], 99_999] {
                     let flat = Energies::flat(value, energies.count());
-                    if flat != *energies && (value != 99_999 || energies.values().iter().any(|v| *v != energies.values()[0])) {
-                        all.push(Call::Capacity(build(&|index, same| Some(if index == *gone { flat } else { same }))));
+                    if flat != *energies && (value != 99_999 || energies.values().iter().any(|v| *v != energies.values()[0]))
+                    {
+                        all.push(Call::Capacity(Box::new(build(&|index, same| {
+                            Some(if index == *gone { flat } else { same })
+                        }))));
                     }
                 }
             }
