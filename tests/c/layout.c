@@ -316,6 +316,25 @@ static void cuts(void) {
     CHECK(canaries());
 }
 
+/* A message of every hour with one bit turned, for each bit: lodging refuses it as reading does, and on any refusal the session stays. */
+static void each_bit(void) {
+    uint8_t bytes[GATE_MESSAGE];
+    CHECK(gate_write(every_hour(false, false, 7, 0, 200, 18000), bytes, sizeof bytes).count == GATE_MESSAGE);
+    static GateSession scratch;
+    unsigned rows[15] = {0};
+    for (size_t bit = 0; bit < 8 * GATE_MESSAGE; bit++) {
+        scratch = *s;
+        bytes[bit / 8] ^= (uint8_t)(0x80 >> bit % 8);
+        GateReading r = gate_read(bytes, sizeof bytes);
+        GateResponse a = gate_lodge(&scratch, bytes, sizeof bytes);
+        bytes[bit / 8] ^= (uint8_t)(0x80 >> bit % 8);
+        if (a.kind == GATE_REFUSED) CHECK(same_session(&scratch, s) && (r.refusal == 0 ? a.row >= GATE_REFUSED_UNIT : is(a, GATE_REFUSED, r.refusal, 0, 0, 0)));
+        else CHECK(numbered(a, 1) && r.refusal == 0 && scratch.standing == 1);
+        rows[a.row]++;
+    }
+    CHECK(rows[0] > 0 && rows[GATE_REFUSED_FORM] > 0 && rows[GATE_REFUSED_RANGE] > 0 && rows[GATE_REFUSED_UNIT] > 0 && rows[GATE_REFUSED_MAXIMUM] > 0);
+}
+
 /* Any bytes may be passed as a message, of any length; a refused call leaves the session as it was. */
 static void any_bytes(void) {
     open_day(LONG_DAY);
@@ -343,6 +362,7 @@ static void any_bytes(void) {
     }
     CHECK(refusals == 20000);
     CHECK(same_session(&before, s));
+    each_bit();
     GateFields m = every_hour(false, false, 7, 0, 276, 18005);
     uint8_t bytes[GATE_MESSAGE];
     memset(bytes, 0xEE, sizeof bytes);
