@@ -10,16 +10,15 @@
  *         too early or too late is refused and changes nothing.
  *
  * Ownership. The caller owns every struct, message and buffer. Nothing is kept after a call returns, nothing is allocated, there
- * is no global state, and nothing else is called: no system call, no callback. A session is plain data: it may be copied
- * with =, written to a file and read back by the same build, and freed without ceremony. A call that changes a session needs it for
- * itself while it runs; queries may share it; different sessions may be used by different threads at once.
+ * is no global state, and nothing is called but memcpy, memmove and memset: no system call, no callback. A session is plain data:
+ * it may be copied with =, written to a file and read back by the same build, and dropped at any time. A call that changes a
+ * session needs it for itself while it runs; queries may share it; different sessions may be used by different threads at once.
  * A call uses at most GATE_STACK bytes of the calling thread's stack.
  *
  * What may be passed. Any bytes may be passed as a message, and any numbers as arguments: what is wrong is refused by the table
- * below, the lowest row first. Two things are owed by the caller, as of any C function: a pointer is to what its type says (not NULL,
- * also where a length is 0, and message and buffer do not overlap the session), and a bool is 0 or 1. The rules promise
- * something of the sessions that gate_open and the calls leave. A session made in another way is answered with something, and
- * nothing is promised of what.
+ * below, the lowest row first. Two things are owed by the caller: a pointer is to what its type says (not NULL, also where a
+ * length is 0, and message and buffer do not overlap the session), and a bool is 0 or 1. The promises are of the sessions that
+ * gate_open and the calls leave. A call on any other session returns too, and nothing is promised of its answer.
  *
  * Units of measure: energy in tenths of a MWh, 0 to 99,999; price in hundredths of a euro per MWh, 0 to 18,030. An hour is a number, 1 to
  * the day's 23, 24 or 25, never a clock name. Balances are exports less imports. At a border a sale is an import, a purchase an
@@ -51,7 +50,7 @@ enum {
     GATE_MAX_ENERGY = 99999,
     GATE_MAX_PRICE = 18030,
     GATE_MESSAGE = 108,       /* bytes of the longest message */
-    GATE_STACK = 1048576      /* bytes of stack that a call may use */
+    GATE_STACK = 524288       /* bytes of stack that a call may use */
 };
 
 enum { GATE_DOMESTIC = 0, GATE_FRANCE = 1, GATE_ANDORRA = 2, GATE_PORTUGAL = 3, GATE_MOROCCO = 4 };

@@ -1,34 +1,23 @@
--- What the calls and queries promise, from the contract under them; and that a response loses nothing of what it tells.
+-- What a call promises, from the contract under it; and that a response loses nothing of what it tells.
 use Prim.Native.Nat.{ℕ}
 use mathlib.Core.Path.{_≡_, refl, sym, _∙_, ap, subst}
 use mathlib.Core.Bool.{cond}
 use lib.Dec.{eqb}
 use lib.IntN.{ℤ, pos, negsuc}
-use Rattle.rules.specs.Hours as H
 use Rattle.rules.specs.DayBook as D
-use Rattle.rules.specs.Queries.{Query}
-use Rattle.session.specs.Steps.{Met, Opens}
+use Rattle.session.specs.Steps.{Met}
 use Rattle.session.specs.declared.Session.{Session}
 use Rattle.session.specs.declared.Turn.{Turn}
-use Rattle.session.specs.declared.Opened.{Opened}
 use Rattle.session.specs.declared.Answer.{Answer}
 use Rattle.session.specs.declared.Answer.the-variants as A
-use Rattle.queries.specs.Replies.{Answered}
 use Rattle.queries.specs.declared.Reply.{Reply}
 use Rattle.queries.specs.declared.Reply.the-variants as R
-use Rattle.response.specs.Told.{ofAnswer, ofReply, steppedAs, OpensAs, MetAs, AnsweredAs}
+use Rattle.response.specs.Told.{ofAnswer, ofReply, steppedAs, MetAs}
 use Rattle.response.specs.declared.Response.{Response}
 use Rattle.response.specs.declared.Stepped.{Stepped}
-use Rattle.response.specs.declared.Opening.{Opening}
 
 pub met-as : (s : Session) (c : D.Call) (t : Turn) (r : Stepped) → Met s c t → r ≡ steppedAs t → MetAs s c r
 met-as s c t r m e = subst (MetAs s c) (sym e) (record { answer = t .answer; met = m; told = refl })
-
-pub opens-as : (d : H.Date) (o : Opened) (a : Response) → Opens d o → a ≡ ofAnswer (o .answer) → OpensAs d (record { response = a; session = o .session })
-opens-as d o a m e = record { answer = o .answer; opens = m; told = e }
-
-pub answered-as : (s : Session) (q : Query) (a : Reply) (r : Response) → Answered s q a → r ≡ ofReply a → AnsweredAs s q r
-answered-as s q a r m e = record { reply = a; answered = m; told = e }
 
 -- Nothing is lost: an answer and a reply are found again from what they are told as
 
