@@ -1,6 +1,6 @@
 //! The proved gate timed beside the model, in one run: the least time of many for each, and the ratio.
 //!
-//!     cargo run --release --offline --bin bench
+//!     cargo run --release --offline --bin bench            (or only what has a word in its name: .. --bin bench -- lodge)
 //!
 //! Both are called through the same Rust trait, on sessions made by the same calls. Times are in microseconds; what takes less
 //! than a microsecond is repeated within a turn. The turns of the two alternate, so that a busy machine slows both.
@@ -309,7 +309,8 @@ fn main() {
 
     println!("| {:<46} | {:>10} | {:>10} | {:>7} |", "", "gate, µs", "model, µs", "ratio");
     println!("|{:-<48}|{:->11}:|{:->11}:|{:->8}:|", "", "", "", "");
-    for case in &mut cases {
+    let wanted = std::env::args().nth(1).unwrap_or_default();
+    for case in cases.iter_mut().filter(|case| case.name.contains(&wanted)) {
         time(case);
     }
     if let Ok(load) = std::fs::read_to_string("/proc/loadavg") {
