@@ -312,9 +312,10 @@ mod declared {
 // else, and bytes that are there up to their length. The interface asks for nothing more, so none of them has a condition.
 
 /// Opens the session of a date.
-pub fn open(date: Date) -> Box<Opening> {
+pub fn open(date: Date) -> (Response, Box<Session>) {
     // SAFETY: the date is passed by value, and nothing is lent.
-    Box::new(unsafe { declared::gate_open(date) })
+    let opening = unsafe { declared::gate_open(date) };
+    (opening.response, Box::new(opening.session))
 }
 
 /// The hours of a date.

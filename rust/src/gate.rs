@@ -350,8 +350,8 @@ impl From<Gate> for Box<ffi::Session> {
 
 impl Exchange for Gate {
     fn opened(day: Date) -> (Result<(), Refusal>, Gate) {
-        let opening = ffi::open(date(day));
-        (done(opening.response), Gate { session: Box::new(opening.session) })
+        let (response, session) = ffi::open(date(day));
+        (done(response), Gate { session })
     }
     fn hours(day: Date) -> Result<u32, Refusal> {
         Gate::hours(day)

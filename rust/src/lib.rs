@@ -6,11 +6,12 @@
 //!
 //! Without the feature `proved`, which is on by default, the crate is the model alone and links no archive.
 #![deny(missing_docs)]
+#![deny(unsafe_code)]
 #![deny(unsafe_op_in_unsafe_fn)]
-#![cfg_attr(not(feature = "proved"), forbid(unsafe_code))]
 
 mod exchange;
 #[cfg(feature = "proved")]
+#[allow(unsafe_code)]
 pub mod ffi;
 #[cfg(feature = "proved")]
 mod gate;

@@ -18,7 +18,7 @@ pub const MOST_ACCEPTED: u32 = 65_535;
 pub const LONGEST_MESSAGE: usize = 8 + 4 * MOST_HOURS;
 
 /// The bytes of the calling thread's stack that a call of the proved gate may use.
-pub const STACK: usize = 1 << 20;
+pub const STACK: usize = 512 * 1024;
 
 /// A date. The gate takes 2002-01-01 to 2099-12-31 and refuses every other value.
 #[derive(Clone, Copy, Debug, PartialEq, Eq, Hash)]

@@ -2,23 +2,28 @@
 
 mod common;
 
-use common::calls::{compare, Nobody};
+use common::calls::List;
 use common::lists::list;
 use common::shrink::{difference, report, shrink};
 use jeddyspangle::model::Session;
 use jeddyspangle::*;
 
-/// The model with the fault of the first demand: it files by the clock name, so hour 4 of a long day reads as hour 3.
+/// It files by the clock name, so hour 4 of a long day reads as hour 3.
+const BY_NAME: u8 = 0;
+/// It has no place for hour 25.
+const NO_LAST_HOUR: u8 = 1;
+
+/// The model with a fault.
 #[derive(Clone)]
-struct ByName {
+struct Planted<const FAULT: u8> {
     session: Session,
     long: bool,
 }
 
-impl Exchange for ByName {
-    fn opened(date: Date) -> (Result<(), Refusal>, ByName) {
+impl<const FAULT: u8> Exchange for Planted<FAULT> {
+    fn opened(date: Date) -> (Result<(), Refusal>, Self) {
         let (answer, session) = Session::opened(date);
-        (answer, ByName { session, long: Session::hours(date) == Ok(25) })
+        (answer, Planted { session, long: Session::hours(date) == Ok(25) })
     }
     fn hours(date: Date) -> Result<u32, Refusal> {
         Session::hours(date)
@@ -60,7 +65,8 @@ impl Exchange for ByName {
         self.session.verdict(number)
     }
     fn matched(&self, unit: u32, hour: u32) -> Result<u32, Refusal> {
-        self.session.matched(unit, if self.long && hour == 4 { 3 } else { hour })
+        let by_name = FAULT == BY_NAME && self.long && hour == 4;
+        self.session.matched(unit, if by_name { 3 } else { hour })
     }
     fn executed(&self, unit: u32, hour: u32) -> Result<u32, Refusal> {
         self.session.executed(unit, hour)
@@ -78,19 +84,33 @@ impl Exchange for ByName {
         self.session.bilateral_maximum(border, direction, hour)
     }
     fn price(&self, hour: u32) -> Result<u32, Refusal> {
-        self.session.price(hour)
+        let price = self.session.price(hour);
+        assert!(FAULT != NO_LAST_HOUR || hour != 25 || price.is_err(), "no hour {hour}");
+        price
     }
+}
+
+/// The first list that shows a fault, with the report of it.
+fn found<const FAULT: u8>() -> (List, String) {
+    let differs = |seed: &u64| difference::<Planted<FAULT>, Session>(&list(*seed)).is_some();
+    let seed = (0..500).find(differs).expect("500 lists and no difference");
+    let big = list(seed);
+    let words = report::<Planted<FAULT>, Session>(seed, &big);
+    println!("{words}");
+    (shrink(&big, |list| difference::<Planted<FAULT>, Session>(list).is_some()), words)
 }
 
 #[test]
 fn a_planted_difference_is_found_and_made_small() {
-    let found = (0..500).find(|seed| compare::<ByName, Session>(&list(*seed), &mut Nobody).is_err());
-    let seed = found.expect("500 lists and no difference");
-    let big = list(seed);
-    // A sale and a purchase, two units, closing, clearing, the query: seven calls are the least that show it.
-    let small = shrink(&big, |list| difference::<ByName, Session>(list).is_some());
-    assert!(small.calls.len() <= 7, "{} calls of {}:\n{small}", small.calls.len(), big.calls.len());
-    let words = report::<ByName, Session>(seed, &big);
+    // Two units, a sale and a purchase, closing, clearing, the query: seven calls are the least that show it.
+    let (small, words) = found::<BY_NAME>();
+    assert!(small.calls.len() <= 7, "{} calls:\n{small}", small.calls.len());
     assert!(words.contains("matched") && words.contains("open "), "{words}");
-    println!("{words}");
+}
+
+#[test]
+fn a_planted_panic_is_found_and_made_small() {
+    let (small, words) = found::<NO_LAST_HOUR>();
+    assert!(small.calls.len() <= 3, "{} calls:\n{small}", small.calls.len());
+    assert!(words.contains("panic: no hour 25"), "{words}");
 }

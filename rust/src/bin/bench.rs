@@ -1,6 +1,6 @@
 //! The proved gate timed beside the model, in one run: the least time of many for each, and the ratio.
 //!
-//!     cargo run --release --offline --bin bench
+//!     cargo run --release --offline --bin bench            (or only what has a word in its name: .. --bin bench -- lodge)
 //!
 //! Both are called through the same Rust trait, on sessions made by the same calls. Times are in microseconds; what takes less
 //! than a microsecond is repeated within a turn. The turns of the two alternate, so that a busy machine slows both.
@@ -8,7 +8,7 @@
 use jeddyspangle::model::Session;
 use jeddyspangle::*;
 use std::hint::black_box;
-use std::time::{Duration, Instant};
+use std::time::Instant;
 
 const LONG_DAY: Date = Date::new(2006, 10, 29);
 
@@ -118,17 +118,17 @@ fn adversarial<E: Exchange>() -> E {
 struct Case<'a> {
     name: String,
     turns: usize,
-    gate: Box<dyn FnMut() -> Duration + 'a>,
-    model: Box<dyn FnMut() -> Duration + 'a>,
+    gate: Box<dyn FnMut() -> f64 + 'a>,
+    model: Box<dyn FnMut() -> f64 + 'a>,
 }
 
-/// The time of one of `count` runs of `run`.
-fn each(count: u32, mut run: impl FnMut(u32)) -> Duration {
+/// The time of one of `count` runs of `run`, in microseconds.
+fn each(count: u32, mut run: impl FnMut(u32)) -> f64 {
     let start = Instant::now();
     for index in 0..count {
         run(index);
     }
-    start.elapsed() / count
+    start.elapsed().as_nanos() as f64 / 1e3 / f64::from(count)
 }
 
 /// A result is made, and not looked at.
@@ -141,7 +141,7 @@ fn on_copy<'a, E: Exchange + Clone + 'a>(
     base: &'a E,
     count: u32,
     run: impl Fn(&mut E, u32) + 'a,
-) -> Box<dyn FnMut() -> Duration + 'a> {
+) -> Box<dyn FnMut() -> f64 + 'a> {
     Box::new(move || {
         let mut copy = base.clone();
         each(count, |index| run(&mut copy, index))
@@ -149,7 +149,7 @@ fn on_copy<'a, E: Exchange + Clone + 'a>(
 }
 
 /// A turn that only reads.
-fn repeated<'a>(count: u32, run: impl Fn(u32) + 'a) -> Box<dyn FnMut() -> Duration + 'a> {
+fn repeated<'a>(count: u32, run: impl Fn(u32) + 'a) -> Box<dyn FnMut() -> f64 + 'a> {
     Box::new(move || each(count, &run))
 }
 
@@ -172,13 +172,12 @@ impl<E: Exchange + Clone> Day<E> {
 }
 
 fn time(case: &mut Case) {
-    let (mut gate, mut model) = (Duration::MAX, Duration::MAX);
+    let (mut gate, mut model) = (f64::MAX, f64::MAX);
     for _ in 0..case.turns {
         gate = gate.min((case.gate)());
         model = model.min((case.model)());
     }
-    let (gate, model) = (gate.as_nanos() as f64 / 1e3, model.as_nanos() as f64 / 1e3);
-    println!("| {:<46} | {gate:>10.3} | {model:>10.3} | {:>7.2} |", case.name, gate / model);
+    println!("| {:<46} | {gate:>10.3} | {model:>10.4} | {:>7.1} |", case.name, gate / model);
 }
 
 fn main() {
@@ -288,7 +287,7 @@ fn main() {
         congested.closed,
         |exchange, index| exchange.clear().unwrap()
     );
-    change!(format!("clear, one hour of {} steps", hard.0.steps), 7, 1, hard.closed, |exchange, index| exchange
+    change!(format!("clear, one hour of {} steps", hard.0.steps), 40, 1, hard.closed, |exchange, index| exchange
         .clear()
         .unwrap());
     read_only!("verdict", |exchange, index| exchange.verdict(index % 128 + 1));
@@ -310,7 +309,11 @@ fn main() {
 
     println!("| {:<46} | {:>10} | {:>10} | {:>7} |", "", "gate, µs", "model, µs", "ratio");
     println!("|{:-<48}|{:->11}:|{:->11}:|{:->8}:|", "", "", "", "");
-    for case in &mut cases {
+    let wanted = std::env::args().nth(1).unwrap_or_default();
+    for case in cases.iter_mut().filter(|case| case.name.contains(&wanted)) {
         time(case);
+    }
+    if let Ok(load) = std::fs::read_to_string("/proc/loadavg") {
+        println!("\nThe least of many turns; load of the machine at the end: {}", load.trim());
     }
 }

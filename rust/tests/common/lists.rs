@@ -493,7 +493,7 @@ pub fn list(seed: u64) -> List {
     let hours = calendar::hours(date).unwrap_or(24);
     let scale = match theme {
         Theme::Ladder => rng.pick(&[4, 20, 60, 250]),
-        Theme::Full => rng.pick(&[2, 10, 100, 500]),
+        Theme::Full => rng.pick(&[2, 10, 100, 500, 49_999, 99_999]),
         _ => rng.pick(&[2, 6, 10, 40, 100, 500, 3_000, 49_999, 99_999]),
     };
     let prices = match rng.below(4) {

@@ -3,7 +3,7 @@
 use super::calls::{compare, Call, List, Nobody};
 use jeddyspangle::model::message;
 use jeddyspangle::*;
-use std::panic::{catch_unwind, AssertUnwindSafe};
+use std::panic::{catch_unwind, set_hook, take_hook, AssertUnwindSafe};
 
 /// Whether two exchanges differ on a list, and how; a panic is a difference.
 pub fn difference<A: Exchange, B: Exchange>(list: &List) -> Option<String> {
@@ -153,6 +153,9 @@ pub fn shrink(list: &List, bad: impl Fn(&List) -> bool) -> List {
 
 /// A difference told in full: the seed, how the two differ, the smallest list that shows it.
 pub fn report<A: Exchange, B: Exchange>(seed: u64, list: &List) -> String {
+    // A panic is tried again many times here, and told once at the end.
+    let hook = take_hook();
+    set_hook(Box::new(|_| {}));
     let before = difference::<A, B>(list).expect("the list differs");
     let mut least = shrink(list, |list| difference::<A, B>(list).is_some());
     // Of every query only the one that differs.
@@ -166,5 +169,6 @@ pub fn report<A: Exchange, B: Exchange>(seed: u64, list: &List) -> String {
         }
     }
     let after = difference::<A, B>(&least).expect("a smaller list still differs");
+    set_hook(hook);
     format!("seed {seed}: {before}\nmade smaller: {after}\n\n{least}")
 }
