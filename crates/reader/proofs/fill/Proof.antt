@@ -1,4 +1,4 @@
--- `slots_of` meets its contract. The invariant: filling the hours that are left of the map, from the bits that are left, gives the slots of the whole.
+-- `fill` meets its contract. The invariant: filling the hours that are left of the map, from the bits that are left, gives the slots of the whole.
 -- The measure is the map that is left.
 use Prim.Native.Nat.{_+_, _*_, _-_, _/_, _%_, _^_, _≤_}
 use mathlib.Core.Path.{_≡_, ap, _∙_}
@@ -8,14 +8,14 @@ use lib.Pow.{pow-pos, pow-mono}
 use lib.ListN.{length}
 use Rattle.rules.specs.Message.{bitsOf, field}
 use Rattle.reader.proofs.FillLaws.{Filling, Next, next, less, filling-start, filling-end, room-next, filling-next, slot-energy, slot-price}
-use Rattle.reader.proofs.slots_of.Statement.{statement}
-use Rattle.reader.proofs.slots_of.Tie as tie
+use Rattle.reader.proofs.fill.Statement.{statement}
+use Rattle.reader.proofs.fill.Tie as tie
 
 abbrev Inv-loop : tie.InvT-loop
-Inv-loop s execution map price mask energies₀ prices₀ at₀ rest₀ energies prices at rest = Filling s execution map energies prices at rest
+Inv-loop s execution map energies₀ prices₀ price mask at₀ rest₀ bad₀ energies prices at rest bad = Filling s execution map energies prices at rest bad
 
 abbrev μ-loop : tie.MeasureT-loop
-μ-loop s execution map price mask energies₀ prices₀ at₀ rest₀ energies prices at rest = rest
+μ-loop s execution map energies₀ prices₀ price mask at₀ rest₀ bad₀ energies prices at rest bad = rest
 
 -- the hour and the slot of a turn
 hour : (c : tie.After-next-hour Inv-loop μ-loop) → Next (c .before .before .loop .rest) (c .next-hour .result)
@@ -39,7 +39,7 @@ sub-mask : tie.Need-sub-mask Inv-loop μ-loop
 sub-mask c = rw (c .power .ensures) (pow-pos _)
 
 loop-holds : tie.Need-loop-holds Inv-loop μ-loop
-loop-holds c = filling-start _ _ _ (c .before .before .before .pre .0) (c .before .before .before .pre .1)
+loop-holds c = rw (c .before .before .before .pre .2, c .before .before .before .pre .3) (filling-start _ _ _ (c .before .before .before .pre .0) (c .before .before .before .pre .1))
 
 next-hour-requires : tie.Need-next-hour-requires Inv-loop μ-loop
 next-hour-requires c κs = c .before .loop .inv .small
@@ -50,46 +50,52 @@ add-field-at c = omega (arith, slot c)
 field-at-requires : tie.Need-field-at-requires Inv-loop μ-loop
 field-at-requires c κs = omega (arith, slot c, c .before .before .before .before .price-width .ensures .1)
 
-cast-energies : tie.Need-cast-energies Inv-loop μ-loop
-cast-energies c = omega (arith, c .before .before .before .before .before .price-width .ensures .1)
+cast-e : tie.Need-cast-e Inv-loop μ-loop
+cast-e c = omega (arith, c .before .before .before .before .before .price-width .ensures .1)
 
-shr-energies : tie.Need-shr-energies Inv-loop μ-loop
-shr-energies c = omega (arith, c .before .before .before .before .before .price-width .ensures .1)
+shr-e : tie.Need-shr-e Inv-loop μ-loop
+shr-e c = omega (arith, c .before .before .before .before .before .price-width .ensures .1)
 
 mul-energies : tie.Need-mul-energies Inv-loop μ-loop
 mul-energies c = omega (arith, hour (c .before) .inside)
 
-array-write-energies : tie.Need-array-write-energies Inv-loop μ-loop
-array-write-energies c = hour (c .before) .inside
+element-write-energies : tie.Need-element-write-energies Inv-loop μ-loop
+element-write-energies c = hour (c .before) .inside
 
 mul-prices : tie.Need-mul-prices Inv-loop μ-loop
 mul-prices c = omega (arith, hour (c .before) .inside)
 
-array-write-prices : tie.Need-array-write-prices Inv-loop μ-loop
-array-write-prices c = hour (c .before) .inside
+element-write-prices : tie.Need-element-write-prices Inv-loop μ-loop
+element-write-prices c = hour (c .before) .inside
+
+bad-slot-requires : tie.Need-bad-slot-requires Inv-loop μ-loop
+bad-slot-requires c κs = tt
+
+either-requires : tie.Need-either-requires Inv-loop μ-loop
+either-requires c κs = tt
 
 add-at : tie.Need-add-at Inv-loop μ-loop
-add-at c = omega (arith, slot (c .before))
+add-at c = omega (arith, slot (c .before .before .before))
 
 add-at-2 : tie.Need-add-at-2 Inv-loop μ-loop
-add-at-2 c = omega (arith, slot (c .before))
+add-at-2 c = omega (arith, slot (c .before .before .before))
 
 sub-power : tie.Need-sub-power Inv-loop μ-loop
-sub-power c = omega (arith, hour (c .before) .inside)
+sub-power c = omega (arith, hour (c .before .before .before) .inside)
 
 power-requires-2 : tie.Need-power-requires-2 Inv-loop μ-loop
 power-requires-2 c κs = omega arith
 
 cast-rest : tie.Need-cast-rest Inv-loop μ-loop
 cast-rest c =
-    let m = pow-mono {i = 24 - c .before .before .next-hour .result} {j = 24} (omega arith) in
+    let m = pow-mono {i = 24 - c .before .before .before .before .next-hour .result} {j = 24} (omega arith) in
     record { fits = rw (c .power2 .ensures) (omega (arith, m)) }
 
 sub-rest : tie.Need-sub-rest Inv-loop μ-loop
-sub-rest c = rw (c .power2 .ensures) (hour (c .before .before) .above)
+sub-rest c = rw (c .power2 .ensures) (hour (c .before .before .before .before) .above)
 
 loop-less : tie.Need-loop-less Inv-loop μ-loop
-loop-less c = rw (c .power2 .ensures) (less (hour (c .before .before)))
+loop-less c = rw (c .power2 .ensures) (less (hour (c .before .before .before .before)))
 
 -- the two numbers of a slot
 energy : (c : tie.After-field-at Inv-loop μ-loop)
@@ -110,14 +116,14 @@ price c =
 
 loop-again : tie.Need-loop-again Inv-loop μ-loop
 loop-again c =
-    rw (energy (c .before), price (c .before), c .power2 .ensures, c .before .before .before .before .before .before .price-width .ensures .0)
-    (filling-next _ _ _ (c .before .before .before .before .loop .inv) _ (hour (c .before .before)))
+    rw (c .before .either .ensures, c .before .before .bad-slot .ensures, energy (c .before .before .before), price (c .before .before .before), c .power2 .ensures, c .before .before .before .before .before .before .before .before .price-width .ensures .0)
+    (filling-next _ _ _ (c .before .before .before .before .before .before .loop .inv) _ (hour (c .before .before .before .before)))
 
 returns : tie.Need-returns Inv-loop μ-loop
 returns c = filling-end _ _ _ (c .before .loop .inv) (c .loop-test .left)
 
-pub slots-of-spec : {M : Type 1} → statement M
-slots-of-spec =
+pub fill-spec : {M : Type 1} → statement M
+fill-spec =
     tie.close
     (tie.spec
     Inv-loop
@@ -130,12 +136,14 @@ slots-of-spec =
     next-hour-requires
     add-field-at
     field-at-requires
-    cast-energies
-    shr-energies
+    cast-e
+    shr-e
     mul-energies
-    array-write-energies
+    element-write-energies
     mul-prices
-    array-write-prices
+    element-write-prices
+    bad-slot-requires
+    either-requires
     add-at
     add-at-2
     sub-power
