@@ -140,6 +140,7 @@ fn excess_at(w: usize, flags: &[bool; 10], maxima: &[u32; 10], market: &[u32; 10
 pub fn excesses(flags: &[bool; 10], maxima: &[u32; 10], market: &[u32; 10]) -> [u32; 10]
     ensures { λ r. ⌜ ((os : List Offer) → MarketFlows (now (market .entry)) os → overIn r ≡ overruns (publishedIn (now (flags .entry)) (now (maxima .entry))) os) ⌝ }
     ensures { λ r. ⌜ ((e : Bool) → getD r (wayOf 0 e) 0 ≡ 0) ⌝ }
+    ensures { λ r. ⌜ ((w : ℕ) → 2 ≤ w → w < 10 → getD r w 0 ≡ excessIn (now (flags .entry)) (now (maxima .entry)) (now (market .entry)) w) ⌝ }
 {
     let mut over = [0u32; 10];
     for w in 2..10 {
