@@ -1,18 +1,15 @@
 // An hour with its clock name beside it: the first cells of a row.
 use crate::text::put;
 use crate::text::put_left;
-use crate::text::put_number;
 use crate::text::put_number_right;
+use crate::text::put_two_digits;
 use calendar::Clock;
 use calendar::Date;
 use calendar::Named;
 
 // "02 second"
 fn put_clock(c: Clock) {
-    if c.name < 10 {
-        put(b"0");
-    }
-    put_number(c.name);
+    put_two_digits(c.name);
     if c.second {
         put(b" second");
     } else {

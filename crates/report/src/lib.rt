@@ -4,6 +4,7 @@ use calendar::Date;
 use session::Session;
 use text::put;
 use text::put_number;
+use text::put_two_digits;
 
 pub mod asked;
 mod borders;
@@ -12,13 +13,6 @@ pub mod replies;
 pub mod text;
 mod units;
 mod verdicts;
-
-fn put_two_digits(n: u32) {
-    if n < 10 {
-        put(b"0");
-    }
-    put_number(n);
-}
 
 // "2006-10-29, 25 hours"
 fn put_day(date: Date, hours: u32) {

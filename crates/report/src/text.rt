@@ -13,6 +13,13 @@ pub fn put_number(n: u32) {
     io::print_decimal(STDOUT, n as u64);
 }
 
+pub fn put_two_digits(n: u32) {
+    if n < 10 {
+        put(b"0");
+    }
+    put_number(n);
+}
+
 pub fn put_signed(n: i64) {
     if n < 0 {
         put(b"-");

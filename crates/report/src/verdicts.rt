@@ -3,7 +3,6 @@ use crate::asked::VERDICT;
 use crate::asked::reply_to;
 use crate::replies::put_reply;
 use crate::text::put;
-use crate::text::put_left;
 use crate::text::put_number_right;
 use crate::text::put_right;
 use session::Key;
