@@ -36,17 +36,17 @@ fn run_call(s: Session, kind: u8, p: &[u8]) -> Turn
 {
     if kind == 1 {
         let u = log::unit_of(p);
-        return s.register(u);
+        return registry::register(s, u);
     }
     if kind == 2 {
         let directions = log::directions_of(p);
-        return s.capacity(directions);
+        return capacities::capacity(s, directions);
     }
     if kind == 3 {
         let number = log::number_at(p, 0);
         let count = log::number_at(p, 4) as usize;
         let energies = log::numbers_at(p, 8);
-        return s.available(number, count, energies);
+        return notices::available(s, number, count, energies);
     }
     if kind == 4 {
         return lodging::lodge::lodge(s, p);

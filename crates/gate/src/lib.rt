@@ -18,7 +18,7 @@ use session::Unit;
 pub fn register(s: &mut Session, u: Unit) -> Answer
     ensures { λ r. ⌜ Met (now (s .entry)) (register (unitIn u)) (record { session = now (s .exit); answer = r }) ⌝ }
 {
-    let t = Session::register(*s, u);
+    let t = registry::register(*s, u);
     *s = t.session;
     t.answer
 }
@@ -27,7 +27,7 @@ pub fn register(s: &mut Session, u: Unit) -> Answer
 pub fn available(s: &mut Session, number: u32, count: usize, energies: [u32; 25]) -> Answer
     ensures { λ r. ⌜ Met (now (s .entry)) (available number (counted count energies)) (record { session = now (s .exit); answer = r }) ⌝ }
 {
-    let t = Session::available(*s, number, count, energies);
+    let t = notices::available(*s, number, count, energies);
     *s = t.session;
     t.answer
 }
@@ -36,7 +36,7 @@ pub fn available(s: &mut Session, number: u32, count: usize, energies: [u32; 25]
 pub fn capacity(s: &mut Session, directions: [Published; 8]) -> Answer
     ensures { λ r. ⌜ Met (now (s .entry)) (capacity (capacitiesIn directions)) (record { session = now (s .exit); answer = r }) ⌝ }
 {
-    let t = Session::capacity(*s, directions);
+    let t = capacities::capacity(*s, directions);
     *s = t.session;
     t.answer
 }

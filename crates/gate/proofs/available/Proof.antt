@@ -52,10 +52,10 @@ use Rattle.session.proofs.Turn as G
 use Rattle.session.proofs.Turn.Laws as G′
 use Rattle.session.proofs.Answer as N
 use Rattle.session.proofs.Answer.Laws as N′
-use Rattle.session.proofs.Session.available as step
-use Rattle.session.proofs.Session.available.Symbol as step-def
-use Rattle.session.proofs.Session.available.Symbol.{name as #step}
-use Rattle.session.proofs.Session.available.Met as step-thm
+use Rattle.notices.proofs.available as step
+use Rattle.notices.proofs.available.Symbol as step-def
+use Rattle.notices.proofs.available.Symbol.{name as #step}
+use Rattle.notices.proofs.available.Met as step-thm
 use Rattle.gate.proofs.available.Key.{name as #entry}
 use Rattle.gate.proofs.available as f
 use Rattle.gate.proofs.available.Statement as stated
@@ -166,4 +166,4 @@ available-spec 𝓤 H 𝓜 𝓖 𝓡 =
     entered 𝓤 H (tripleOf 𝓤 H (𝓖 .A) f.signature (f.spec 𝓤 H (𝓖 .A) (𝓜 .mem) (𝓡 .run)))
     (tables 𝓤 H 𝓜 𝓡 code.env .C) (tables 𝓤 H 𝓜 𝓡 code.env .Λ) #entry code.function (code.unfolded 𝓤 H 𝓜 𝓡)
     (meets 𝓤 H (𝓖 .A) (givenOf 𝓤 H 𝓜 𝓖) (𝓜 .mem) (𝓡 .run) (tablesOf 𝓤 H 𝓜 (tables 𝓤 H 𝓜 𝓡 code.env))
-    (cited 𝓤 H (Step 𝓤 H (𝓖 .A) (𝓜 .mem) (𝓡 .run)) 𝓜 𝓡 code.env #step step-def.routine code.calls-session·Session·available (step-thm.met 𝓤 H 𝓜 𝓖 𝓡)))
+    (cited 𝓤 H (Step 𝓤 H (𝓖 .A) (𝓜 .mem) (𝓡 .run)) 𝓜 𝓡 code.env #step step-def.routine code.calls-notices·available (step-thm.met 𝓤 H 𝓜 𝓖 𝓡)))

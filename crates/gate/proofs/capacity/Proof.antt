@@ -15,9 +15,9 @@ use Rattle.session.proofs.Published as P
 use Rattle.session.proofs.Published.Laws as P′
 use Rattle.gate.proofs.AppliedTo as law
 use Rattle.gate.proofs.AppliedTo.{Passed, Laws}
-use Rattle.session.proofs.Session.capacity.Symbol as step-def
-use Rattle.session.proofs.Session.capacity.Symbol.{name as #step}
-use Rattle.session.proofs.Session.capacity.Met as step-thm
+use Rattle.capacities.proofs.capacity.Symbol as step-def
+use Rattle.capacities.proofs.capacity.Symbol.{name as #step}
+use Rattle.capacities.proofs.capacity.Met as step-thm
 use Rattle.gate.proofs.capacity.Key.{name as #entry}
 use Rattle.gate.proofs.capacity as f
 use Rattle.gate.proofs.capacity.Statement as stated
@@ -35,4 +35,4 @@ capacity-spec 𝓤 H 𝓜 𝓖 𝓡 =
     entered 𝓤 H (tripleOf 𝓤 H (𝓖 .A) f.signature (f.spec 𝓤 H (𝓖 .A) (𝓜 .mem) (𝓡 .run)))
     (tables 𝓤 H 𝓜 𝓡 code.env .C) (tables 𝓤 H 𝓜 𝓡 code.env .Λ) #entry code.function (code.unfolded 𝓤 H 𝓜 𝓡)
     (law.meets passed its-laws #step (λ h u r. Met h (D.capacity (capacitiesIn u)) r) 𝓤 H (𝓖 .A) (givenOf 𝓤 H 𝓜 𝓖) (tablesOf 𝓤 H 𝓜 (tables 𝓤 H 𝓜 𝓡 code.env))
-    (cited 𝓤 H (law.Step passed (λ h u r. Met h (D.capacity (capacitiesIn u)) r) 𝓤 H (𝓖 .A)) 𝓜 𝓡 code.env #step step-def.routine code.calls-session·Session·capacity (step-thm.met 𝓤 H 𝓜 𝓖 𝓡)))
+    (cited 𝓤 H (law.Step passed (λ h u r. Met h (D.capacity (capacitiesIn u)) r) 𝓤 H (𝓖 .A)) 𝓜 𝓡 code.env #step step-def.routine code.calls-capacities·capacity (step-thm.met 𝓤 H 𝓜 𝓖 𝓡)))

@@ -11,9 +11,9 @@ use Rattle.session.proofs.Unit as U
 use Rattle.session.proofs.Unit.Laws as U′
 use Rattle.gate.proofs.AppliedTo as law
 use Rattle.gate.proofs.AppliedTo.{Passed, Laws}
-use Rattle.session.proofs.Session.register.Symbol as step-def
-use Rattle.session.proofs.Session.register.Symbol.{name as #step}
-use Rattle.session.proofs.Session.register.Met as step-thm
+use Rattle.registry.proofs.register.Symbol as step-def
+use Rattle.registry.proofs.register.Symbol.{name as #step}
+use Rattle.registry.proofs.register.Met as step-thm
 use Rattle.gate.proofs.register.Key.{name as #entry}
 use Rattle.gate.proofs.register as f
 use Rattle.gate.proofs.register.Statement as stated
@@ -31,4 +31,4 @@ register-spec 𝓤 H 𝓜 𝓖 𝓡 =
     entered 𝓤 H (tripleOf 𝓤 H (𝓖 .A) f.signature (f.spec 𝓤 H (𝓖 .A) (𝓜 .mem) (𝓡 .run)))
     (tables 𝓤 H 𝓜 𝓡 code.env .C) (tables 𝓤 H 𝓜 𝓡 code.env .Λ) #entry code.function (code.unfolded 𝓤 H 𝓜 𝓡)
     (law.meets passed its-laws #step (λ h u r. Met h (D.register (unitIn u)) r) 𝓤 H (𝓖 .A) (givenOf 𝓤 H 𝓜 𝓖) (tablesOf 𝓤 H 𝓜 (tables 𝓤 H 𝓜 𝓡 code.env))
-    (cited 𝓤 H (law.Step passed (λ h u r. Met h (D.register (unitIn u)) r) 𝓤 H (𝓖 .A)) 𝓜 𝓡 code.env #step step-def.routine code.calls-session·Session·register (step-thm.met 𝓤 H 𝓜 𝓖 𝓡)))
+    (cited 𝓤 H (law.Step passed (λ h u r. Met h (D.register (unitIn u)) r) 𝓤 H (𝓖 .A)) 𝓜 𝓡 code.env #step step-def.routine code.calls-registry·register (step-thm.met 𝓤 H 𝓜 𝓖 𝓡)))
