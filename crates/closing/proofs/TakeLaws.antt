@@ -13,7 +13,7 @@ use Rattle.session.specs.declared.Lodgement.{Lodgement}
 use Rattle.session.specs.declared.Session.{Session}
 use Rattle.session.proofs.ImageLaws.{lodgements-as}
 use Rattle.session.proofs.LaidLaws.{any-map}
-use Rattle.lodging.specs.Kept.{hiding}
+use Rattle.keys.specs.Keys.{hiding}
 use Rattle.validation.specs.Turns.{standingAt, isTaken}
 use Rattle.validation.proofs.StandingLaws.{lodgement-at}
 use Rattle.closing.specs.Passes.{turnIn, TakesAt}

@@ -4,7 +4,7 @@ ghost use Prim.Native.Nat.{_<_};
 ghost use Rattle.session.specs.Parts.{Within};
 ghost use Rattle.closing.specs.Passes.{turnIn, TakesAt, PassesTurn};
 use validation::judge_place;
-use lodging::keys::is_hidden;
+use keys::is_hidden;
 use session::Key;
 use session::Session;
 use session::Verdict;

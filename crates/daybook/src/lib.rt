@@ -36,14 +36,14 @@ fn run_register(s: Session, p: &[u8]) -> Turn
     ensures { λ r. ⌜ Met s (callOf 1 (now (p .entry))) r ⌝ }
 {
     let u = log::unit_of(p);
-    s.register(u)
+    registry::register(s, u)
 }
 
 fn run_capacity(s: Session, p: &[u8]) -> Turn
     ensures { λ r. ⌜ Met s (callOf 2 (now (p .entry))) r ⌝ }
 {
     let directions = log::directions_of(p);
-    s.capacity(directions)
+    capacities::capacity(s, directions)
 }
 
 fn run_available(s: Session, p: &[u8]) -> Turn
@@ -52,14 +52,14 @@ fn run_available(s: Session, p: &[u8]) -> Turn
     let number = log::number_at(p, 0);
     let count = log::number_at(p, 4) as usize;
     let energies = log::numbers_at(p, 8);
-    s.available(number, count, energies)
+    notices::available(s, number, count, energies)
 }
 
 fn run_annul(s: Session, p: &[u8]) -> Turn
     ensures { λ r. ⌜ Met s (callOf 5 (now (p .entry))) r ⌝ }
 {
     let key = log::key_of(p);
-    lodging::annulling::annul(s, key)
+    annulling::annul(s, key)
 }
 
 // The call of a record whose count of bytes is that of its kind.

@@ -1,5 +1,4 @@
-pub mod LoadLaws
+pub mod WrittenLaws
 pub mod RowLaws
 pub mod BorderLaws
 pub mod NoticeLaws
-pub mod MarkLaws

@@ -15,8 +15,8 @@ use Rattle.session.specs.declared.Judged.{Judged}
 use Rattle.session.specs.declared.Judged.the-variants.{No}
 use Rattle.session.proofs.ImageLaws.{closed-as}
 use Rattle.session.proofs.StepLaws.{open-row}
+use Rattle.judging.specs.Judging.{fieldRows, lastRows, JudgesFields}
 use Rattle.lodging.specs.Entries.{EnteredFields}
-use Rattle.lodging.specs.Judging.{fieldRows, lastRows, JudgesFields}
 
 -- rows that do not apply are passed over
 past : (t u : Bool) (rows : List Row) → t ≡ false → u ≡ false → firstRow (row 2 t ∷ row 3 u ∷ rows) ≡ firstRow rows

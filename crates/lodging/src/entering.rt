@@ -1,26 +1,15 @@
 // Entering a message that no row refuses.
-ghost use mathlib.Core.Path.{_≡_};
-ghost use Rattle.lodging.specs.Entries.{keyFor, Room, EnteredFields};
-use crate::standing::drop_key;
+ghost use Rattle.keys.specs.Keys.{keyFor};
+ghost use Rattle.judging.specs.Judging.{Room};
+ghost use Rattle.lodging.specs.Entries.{EnteredFields};
+use keys::key_of;
 use message::Fields;
 use session::Answer;
 use session::Energies;
-use session::Key;
 use session::Lodgement;
 use session::Session;
 use session::Turn;
-
-// The key of a message.
-pub fn key_of(m: Fields) -> Key
-    ensures { λ r. ⌜ r ≡ keyFor m ⌝ }
-{
-    Key {
-        execution: m.execution,
-        default: m.default,
-        unit: m.unit,
-        contract: m.contract,
-    }
-}
+use standing::drop_key;
 
 // "A lodgement replaces the one with its key, and takes and answers the next lodging number"
 pub fn enter(s: Session, m: Fields) -> Turn

@@ -1,8 +1,3 @@
-// Lodging and annulling: calls on the session that change its standing lodgements.
-pub mod annulling;
-mod beside;
+// Lodging: a call on the session that enters a message.
 mod entering;
-mod judging;
-pub mod keys;
 pub mod lodge;
-mod standing;

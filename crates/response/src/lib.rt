@@ -260,7 +260,7 @@ pub fn clock(date: Date, hour: u32) -> ClockName
 pub fn register(s: Session, unit: Unit) -> Stepped
     ensures { λ r. ⌜ MetAs s (register (unitIn unit)) r ⌝ }
 {
-    let t = s.register(unit);
+    let t = registry::register(s, unit);
     of_turn(t)
 }
 
@@ -269,7 +269,7 @@ pub fn available(s: Session, notice: Availability) -> Stepped
     ensures { λ r. ⌜ MetAs s (availableIn notice) r ⌝ }
 {
     let energies = notice.energies;
-    let t = s.available(notice.unit, notice.count, energies);
+    let t = notices::available(s, notice.unit, notice.count, energies);
     of_turn(t)
 }
 
@@ -278,7 +278,7 @@ pub fn capacity(s: Session, notice: Capacities) -> Stepped
     ensures { λ r. ⌜ MetAs s (capacityIn notice) r ⌝ }
 {
     let directions = notice.directions;
-    let t = s.capacity(directions);
+    let t = capacities::capacity(s, directions);
     of_turn(t)
 }
 
@@ -294,7 +294,7 @@ pub fn lodge(s: Session, message: &[u8]) -> Stepped
 pub fn annul(s: Session, key: Key) -> Stepped
     ensures { λ r. ⌜ MetAs s (annul (keyIn key)) r ⌝ }
 {
-    let t = lodging::annulling::annul(s, key);
+    let t = annulling::annul(s, key);
     of_turn(t)
 }
 

@@ -1,4 +1,4 @@
-// The session by value: the day book laid into arrays, and the calls on it.
+// The session by value: the day book laid into arrays, and its opening.
 ghost use mathlib.Core.Path.{_≡_};
 ghost use Rattle.rules.specs.Book.{fresh};
 ghost use Rattle.calendar.specs.View.{dateIn};
@@ -7,8 +7,6 @@ ghost use Rattle.session.specs.Steps.{Opens};
 ghost use Rattle.session.specs.Parts.{within, refusedWith};
 use calendar::Date;
 
-mod capacities;
-mod notices;
 pub mod units;
 
 // Number and agent are 1 to 65,535; border is 0 domestic, 1 France, 2 Andorra, 3 Portugal, 4 Morocco.
@@ -153,7 +151,7 @@ fn no_unit() -> Unit
     }
 }
 
-fn no_notice() -> Notice
+pub fn no_notice() -> Notice
     ensures { λ r. ⌜ r ≡ noNotice ⌝ }
 {
     Notice {

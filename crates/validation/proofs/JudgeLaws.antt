@@ -30,10 +30,10 @@ use Rattle.session.specs.declared.Verdict.{Verdict}
 use Rattle.session.specs.declared.Judged.{Judged}
 use Rattle.session.proofs.ImageLaws.{standing-as, hours-as, capacities-as, energies-as, registered-as, unit-as, notice-as}
 use Rattle.session.proofs.PlaceLaws.{placed, getD-map}
-use Rattle.limits.specs.Loads.{loadIn}
+use Rattle.loads.specs.Loads.{loadIn}
 use Rattle.limits.specs.Limits.{judgedIn}
 use Rattle.limits.proofs.NoticeLaws.{judged-as}
-use Rattle.limits.proofs.MarkLaws.{load-keep}
+use Rattle.loads.proofs.MarkLaws.{load-keep}
 use Rattle.validation.specs.Turns.{beyond, standingAt, verdictAt, isTaken, verdictSoFar, Reached, JudgesAt, countsOn, countsAt, verdictBy}
 use Rattle.validation.proofs.CountLaws.{length-from, places-at, counted-as}
 use Rattle.validation.proofs.TurnLaws.{passed-before, verdict-at}

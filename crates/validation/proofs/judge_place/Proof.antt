@@ -2,7 +2,7 @@ use mathlib.Core.Bool.{false}
 use mathlib.Core.List.{[]}
 use native.Mathlib.Omega.{arith}
 use Rattle.session.specs.Image.{noLodgement, noUnit}
-use Rattle.limits.proofs.LoadLaws.{bareEnergies}
+use Rattle.loads.proofs.LoadLaws.{bareEnergies}
 use Rattle.validation.proofs.JudgeLaws.{judge-absent, judge-given}
 use borrow.Author.Needs.{needs}
 use Rattle.validation.proofs.judge_place.Statement.{statement}

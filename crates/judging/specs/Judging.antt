@@ -1,0 +1,47 @@
+-- The rows that a message's fields are judged by, and the room that a message not refused by them finds.
+use Prim.Native.Nat.{ℕ, _<_}
+use mathlib.Core.Path.{_≡_}
+use mathlib.Core.Bool.{Bool, not, _&&_, _||_}
+use mathlib.Core.List.{List, _∷_}
+use lib.Dec.{leb}
+use lib.ListN.{length, take}
+use Rattle.rules.specs.Lists.{any, keep}
+use Rattle.rules.specs.Refusals.{Row, row, firstRow}
+use Rattle.rules.specs.Units as U
+use Rattle.rules.specs.Message.{Fields, badMap, badFields}
+use Rattle.rules.specs.Lodging.{keyOf, judgedAt, judgedBy, limitRows, namesBeyond}
+use Rattle.rules.specs.Book.{Book, hours}
+use Rattle.rules.specs.DayBook.{badHolder, full}
+use Rattle.session.specs.Image.{image}
+use Rattle.session.specs.Parts.{Within, told}
+use Rattle.session.specs.declared.Key.{Key}
+use Rattle.session.specs.declared.Lodgement.{Lodgement}
+use Rattle.session.specs.declared.Session.{Session}
+use Rattle.session.specs.declared.Judged.{Judged}
+use Rattle.keys.specs.Keys.{ofKey, ofOther}
+
+-- a place and a number are free once the key's lodgement is dropped
+pub record Room (s : Session) (k : Key) : Type 0 where
+  pub within : Within s
+  pub place : length (keep (ofOther k) (take (s .standing) (s .lodgements))) < 128
+  pub number : s .last < 65535
+
+-- "128 lodgements and none of this key; 65,535 accepted"
+unfoldable pub fullIn : List Lodgement → ℕ → ℕ → Key → Bool
+fullIn ls n last k = (leb 128 n && not (any (ofKey k) ls)) || leb 65535 last
+
+-- limits 10 to 12
+unfoldable pub lastRows : Book → Fields → List Row
+lastRows b m = limitRows (hours b) (m .energies) (judgedAt (b .standing) m) (judgedBy (b .capacities) (U.unitOf (b .units) (m .unit)) (m .default))
+
+-- the table's rows after 3
+unfoldable pub fieldRows : Book → Fields → List Row
+fieldRows b m =
+    row 4 (badMap (m .map) || namesBeyond (hours b) (m .map)) ∷ row 5 (badFields m) ∷ row 6 (badHolder b (keyOf m)) ∷ row 9 (full b (keyOf m)) ∷ lastRows b m
+
+-- a judgement of a message's fields
+abbrev pub JudgesFields : Session → Fields → Judged → Type 0
+JudgesFields s m j = (b : Book) → s ≡ image b → j ≡ told (firstRow (fieldRows b m))
+
+abbrev pub JudgesLimits : Session → Fields → Judged → Type 0
+JudgesLimits s m j = (b : Book) → s ≡ image b → j ≡ told (firstRow (lastRows b m))

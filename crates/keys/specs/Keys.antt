@@ -1,0 +1,31 @@
+-- A message's key, and what is looked for among the session's lodgements and units by a key.
+use Prim.Native.Nat.{ℕ, _<_}
+use mathlib.Core.Bool.{Bool, not}
+use lib.ListN.{take}
+use Rattle.rules.specs.Lodging.{sameKey, hides}
+use Rattle.message.specs.declared.Fields.{Fields}
+use Rattle.session.specs.Image.{keyIn}
+use Rattle.session.specs.Parts.{numberIs, placeOf}
+use Rattle.session.specs.declared.Key.{Key}
+use Rattle.session.specs.declared.Lodgement.{Lodgement}
+use Rattle.session.specs.declared.Session.{Session}
+
+-- the key of a message
+abbrev pub keyFor : Fields → Key
+keyFor m = record { execution = m .execution; default = m .default; unit = m .unit; contract = m .contract }
+
+-- a lodgement of a key
+abbrev pub ofKey : Key → Lodgement → Bool
+ofKey k l = sameKey (keyIn (l .key)) (keyIn k)
+
+-- one of another key
+abbrev pub ofOther : Key → Lodgement → Bool
+ofOther k l = not (ofKey k l)
+
+-- one that hides those of a key
+abbrev pub hiding : Key → Lodgement → Bool
+hiding k l = hides (keyIn (l .key)) (keyIn k)
+
+-- the unit with a number stands at one of the places enrolled
+unfoldable pub Enrolled : Session → ℕ → Type 0
+Enrolled s n = placeOf (numberIs n) (take (s .enrolled) (s .units)) < s .enrolled

@@ -1,0 +1,125 @@
+// Keys: a message's key, which lodgements are of a key, which hide those of it, and what a key is refused for.
+ghost use mathlib.Core.Path.{_≡_};
+ghost use mathlib.Core.Bool.{false};
+ghost use Prim.Native.Nat.{_≤_};
+ghost use lib.ListN.{take};
+ghost use Rattle.rules.specs.Lists.{any};
+ghost use Rattle.rules.specs.Lodging.{sameButDefault, sameKey, hides, badKey};
+ghost use Rattle.rules.specs.Book.{Book};
+ghost use Rattle.rules.specs.DayBook.{badHolder};
+ghost use Rattle.session.specs.Image.{image, keyIn};
+ghost use Rattle.session.specs.Parts.{Within};
+ghost use Rattle.keys.specs.Keys.{keyFor, ofKey, hiding, Enrolled};
+use message::Fields;
+use message::judge::bad_contract;
+use session::Key;
+use session::Lodgement;
+use session::Session;
+use session::units::bad_number;
+use session::units::place;
+
+// The key of a message.
+pub fn key_of(m: Fields) -> Key
+    ensures { λ r. ⌜ r ≡ keyFor m ⌝ }
+{
+    Key {
+        execution: m.execution,
+        default: m.default,
+        unit: m.unit,
+        contract: m.contract,
+    }
+}
+
+// Two keys that agree but for the default mark.
+fn same_but_default(a: Key, b: Key) -> bool
+    ensures { λ r. ⌜ r ≡ sameButDefault (keyIn a) (keyIn b) ⌝ }
+{
+    if a.execution != b.execution {
+        return false;
+    }
+    if a.unit != b.unit {
+        return false;
+    }
+    a.contract == b.contract
+}
+
+// "A key is kind, default mark, unit and contract."
+pub fn same_key(a: Key, b: Key) -> bool
+    ensures { λ r. ⌜ r ≡ sameKey (keyIn a) (keyIn b) ⌝ }
+{
+    if same_but_default(a, b) {
+        return a.default == b.default;
+    }
+    false
+}
+
+// "A normal lodgement, while it stands, hides the default one that agrees with it in the rest of the key"
+pub fn hides(a: Key, b: Key) -> bool
+    ensures { λ r. ⌜ r ≡ hides (keyIn a) (keyIn b) ⌝ }
+{
+    if same_but_default(a, b) {
+        if a.default {
+            return false;
+        }
+        return b.default;
+    }
+    false
+}
+
+// Whether one of the first n lodgements is of this key.
+pub fn is_standing(lodgements: [Lodgement; 128], n: usize, key: Key) -> bool
+    requires { ⌜ n ≤ 128 ⌝ }
+    ensures { λ r. ⌜ r ≡ any (ofKey key) (take n lodgements) ⌝ }
+{
+    for i in 0..n {
+        let l = lodgements[i];
+        let k = l.key;
+        if same_key(k, key) {
+            return true;
+        }
+    }
+    false
+}
+
+// Whether one of the first n lodgements hides those of this key.
+pub fn is_hidden(lodgements: [Lodgement; 128], n: usize, key: Key) -> bool
+    requires { ⌜ n ≤ 128 ⌝ }
+    ensures { λ r. ⌜ r ≡ any (hiding key) (take n lodgements) ⌝ }
+{
+    for i in 0..n {
+        let l = lodgements[i];
+        let k = l.key;
+        if hides(k, key) {
+            return true;
+        }
+    }
+    false
+}
+
+// Row 5, of a key: unit and contract.
+pub fn bad_key(key: Key) -> bool
+    ensures { λ r. ⌜ r ≡ badKey (keyIn key) ⌝ }
+{
+    if bad_number(key.unit) {
+        return true;
+    }
+    bad_contract(key.execution, key.contract)
+}
+
+// Row 6, of a key: "unregistered, or domestic for an execution".
+pub fn bad_holder(s: Session, key: Key) -> bool
+    requires { ⌜ Within s ⌝ }
+    ensures { λ r. ⌜ ((b : Book) → s ≡ image b → r ≡ badHolder b (keyIn key)) × (r ≡ false → Enrolled s (key .unit)) ⌝ }
+{
+    let units = s.units;
+    let n = s.enrolled;
+    let at = place(units, n, key.unit);
+    if n <= at {
+        return true;
+    }
+    if key.execution {
+        let u = units[at];
+        return u.border == 0;
+    }
+    false
+}
