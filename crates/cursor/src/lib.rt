@@ -1,5 +1,4 @@
 // "A reader set over the message moves on through its bits": the message and the position of its next bit.
-use reader::bits::Taken;
 use reader::bits::has_at;
 use reader::bits::take_at;
 ghost use mathlib.Core.Path.{_≡_};

@@ -39,8 +39,9 @@ pub field-read : (at w : ℕ) {bytes : List ℕ} → Under 256 bytes → w ≤ 3
     → (wordAt bytes (at / 8) * 256 + getD bytes (at / 8 + 4) 0) / 2 ^ (40 - at % 8 - w) % 2 ^ w ≡ field at w (bitsOf bytes)
 field-read at w {bytes} u h l = sym (rw word-five at (field-word 5 at w u (omega arith) l))
 
-pub shifted-one : (k : ℕ) → k ≤ 32 → 1 * 2 ^ k % 18446744073709551616 ≡ 2 ^ k
-shifted-one k h = rw one-mul (mod-eq-of-lt (pow-lt {i = k} {j = 64} (omega arith)))
+-- one bit shifted, in a word of w bits
+pub shifted-one : (w k : ℕ) → k < w → 1 * 2 ^ k % 2 ^ w ≡ 2 ^ k
+shifted-one w k h = rw one-mul (mod-eq-of-lt (pow-lt {i = k} {j = w} h))
 
 -- of a field that reaches beyond the end, the bits that are there
 take-there : (w : ℕ) (l : List ℕ) → take w l ≡ take (min w (length l)) l
