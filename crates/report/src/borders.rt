@@ -5,10 +5,10 @@ use crate::asked::MARKET;
 use crate::asked::MARKET_MAXIMUM;
 use crate::asked::PRICE;
 use crate::asked::reply_to;
+use crate::figures::is_number;
+use crate::figures::is_some;
+use crate::figures::put_figure;
 use crate::hours::put_hour;
-use crate::replies::is_number;
-use crate::replies::is_some;
-use crate::replies::put_figure;
 use crate::text::put;
 use session::Session;
 

@@ -8,6 +8,7 @@ use text::put_two_digits;
 
 pub mod asked;
 mod borders;
+mod figures;
 mod hours;
 pub mod replies;
 pub mod text;
