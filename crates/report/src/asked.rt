@@ -1,4 +1,6 @@
 // The session's queries, each by a number.
+ghost use Rattle.queries.specs.Replies.{Answered};
+ghost use Rattle.report.specs.Asked.{asked};
 use queries::Reply;
 use session::Session;
 
@@ -19,15 +21,29 @@ pub const MARKET_MAXIMUM: u8 = 17;
 pub const BILATERAL_MAXIMUM: u8 = 18;
 
 // A query of a lodging number, a unit or a border, of a direction and of an hour, where its kind asks for them.
-pub fn reply_to(s: Session, kind: u8, of: u32, export: bool, hour: u32) -> Reply {
-    match kind {
-        VERDICT => verdicts::verdict(s, of),
-        MATCHED => energies::matched(s, of, hour),
-        EXECUTED => energies::executed(s, of, hour),
-        MARKET => balances::market(s, of, hour),
-        BILATERAL => balances::bilateral(s, of, hour),
-        PRICE => queries::price(s, hour),
-        MARKET_MAXIMUM => maxima::market_maximum(s, of, export, hour),
-        _ => maxima::bilateral_maximum(s, of, export, hour),
+pub fn reply_to(s: Session, kind: u8, of: u32, export: bool, hour: u32) -> Reply
+    ensures { λ r. ⌜ Answered s (asked kind of export hour) r ⌝ }
+{
+    if kind == VERDICT {
+        return queries::verdict(s, of);
     }
+    if kind == MATCHED {
+        return queries::matched(s, of, hour);
+    }
+    if kind == EXECUTED {
+        return queries::executed(s, of, hour);
+    }
+    if kind == MARKET {
+        return queries::market(s, of, hour);
+    }
+    if kind == BILATERAL {
+        return queries::bilateral(s, of, hour);
+    }
+    if kind == PRICE {
+        return queries::price(s, hour);
+    }
+    if kind == MARKET_MAXIMUM {
+        return queries::market_maximum(s, of, export, hour);
+    }
+    queries::bilateral_maximum(s, of, export, hour)
 }

@@ -1,14 +1,14 @@
 // The hours with their prices, and in each hour a row for each border.
-use crate::asked::BILATERAL;
-use crate::asked::BILATERAL_MAXIMUM;
-use crate::asked::MARKET;
-use crate::asked::MARKET_MAXIMUM;
-use crate::asked::PRICE;
-use crate::asked::reply_to;
+use asking::BILATERAL;
+use asking::BILATERAL_MAXIMUM;
+use asking::MARKET;
+use asking::MARKET_MAXIMUM;
+use asking::PRICE;
+use asking::reply_to;
+use crate::figures::is_number;
+use crate::figures::is_some;
+use crate::figures::put_figure;
 use crate::hours::put_hour;
-use crate::replies::is_number;
-use crate::replies::is_some;
-use crate::replies::put_figure;
 use crate::text::put;
 use session::Session;
 

@@ -6,8 +6,9 @@ use text::put;
 use text::put_number;
 use text::put_two_digits;
 
-pub mod asked;
+
 mod borders;
+mod figures;
 mod hours;
 pub mod replies;
 pub mod text;
@@ -32,8 +33,8 @@ fn put_figures(s: Session) {
         b"\n  Energies in tenths of MWh, prices in hundredths of a euro per MWh, balances exports less imports.\n",
     );
     borders::put_hours(s);
-    units::put_energies(s, asked::MATCHED);
-    units::put_energies(s, asked::EXECUTED);
+    units::put_energies(s, asking::MATCHED);
+    units::put_energies(s, asking::EXECUTED);
 }
 
 pub fn put_report(s: Session) {

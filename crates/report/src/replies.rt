@@ -1,9 +1,7 @@
 // What the gate says, in words.
 use crate::text::put;
 use crate::text::put_number;
-use crate::text::put_right;
 use crate::text::put_signed;
-use crate::text::put_signed_right;
 use queries::Reply;
 
 // The word of a row of the refusal table.
@@ -65,28 +63,5 @@ pub fn put_reply(r: Reply) {
         Reply::Limit(row, hour) => put_limit(row, hour),
         Reply::Number(n) => put_signed(n),
         Reply::Absent => put(b"none"),
-    }
-}
-
-// A figure in a cell: "-" for a maximum without capacity.
-pub fn put_figure(r: Reply, width: usize) {
-    match r {
-        Reply::Number(n) => put_signed_right(n, width),
-        _ => put_right(b"-", width),
-    }
-}
-
-pub fn is_number(r: Reply) -> bool {
-    match r {
-        Reply::Number(n) => true,
-        _ => false,
-    }
-}
-
-// Whether it is a number other than 0.
-pub fn is_some(r: Reply) -> bool {
-    match r {
-        Reply::Number(n) => n != 0,
-        _ => false,
     }
 }

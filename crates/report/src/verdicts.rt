@@ -1,6 +1,6 @@
 // The verdicts: a row for each lodgement that stood at closing.
-use crate::asked::VERDICT;
-use crate::asked::reply_to;
+use asking::VERDICT;
+use asking::reply_to;
 use crate::replies::put_reply;
 use crate::text::put;
 use crate::text::put_number_right;
