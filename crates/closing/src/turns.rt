@@ -3,11 +3,11 @@ ghost use mathlib.Core.Path.{_≡_};
 ghost use Prim.Native.Nat.{_<_};
 ghost use Rattle.session.specs.Parts.{Within};
 ghost use Rattle.closing.specs.Passes.{turnIn, TakesAt, PassesTurn};
-use validation::judge_place;
 use keys::is_hidden;
 use session::Key;
 use session::Session;
 use session::Verdict;
+use validation::judge_place;
 
 // The turns in which lodgements are taken.
 pub const NORMAL: u32 = 0;

@@ -22,7 +22,7 @@ use Rattle.session.specs.Parts.{numberIs}
 use Rattle.session.proofs.PlaceLaws.{getD-map}
 use Rattle.session.proofs.ImageLaws.{units-as, standing-as}
 use Rattle.gathering.specs.declared.Places.{Places}
-use Rattle.gathering.specs.Built.{unitAmong, holderIn, Holders, bareEnergies, counts, countsAt, placesOf, Chosen}
+use Rattle.gathering.specs.Built.{unitAmong, holderIn, Holders, bareEnergies, counts, countsAt, energyOn, Chosen}
 use Rattle.gathering.proofs.ListLaws.{front-places, all-places, laid-at, first-map}
 
 abbrev pub blank : L.Lodgement
@@ -121,11 +121,10 @@ module _ (s : Session) (b : B.Book) (e : s ≡ I.image b) where
 
   module _ (closed : b .closed ≡ true) (execution : Bool) (k : ℕ) where
     counts-as : (i : ℕ) → i < length (b .standing) → countsAt (s .verdicts) (s .lodgements) (s .energies) execution k i ≡ chosenIn b execution k (standing b i)
-    unfolding countsAt counts chosenIn
+    unfolding countsAt counts energyOn chosenIn
     counts-as i h = rw (verdict-at closed i h, lodgement-at i h, energies-at i h)
 
-    places-as : placesOf (s .verdicts) (s .lodgements) (s .energies) (s .standing) execution k ≡ keep (λ i. chosenIn b execution k (standing b i)) (from 0 (length (b .standing)))
-    unfolding placesOf
+    places-as : keep (countsAt (s .verdicts) (s .lodgements) (s .energies) execution k) (from 0 (s .standing)) ≡ keep (λ i. chosenIn b execution k (standing b i)) (from 0 (length (b .standing)))
     places-as =
         rw (← (standing-as s b e))
         (keep-same _ _ (from-all _ 0 (length (b .standing)) (λ i l h. counts-as i (omega arith))))

@@ -36,7 +36,7 @@ use Rattle.session.proofs.ImageLaws.{capacities-as}
 use Rattle.gathering.specs.declared.Places.{Places}
 use Rattle.gathering.specs.declared.Published.{Published}
 use Rattle.gathering.specs.Columns.{Column}
-use Rattle.gathering.specs.Built.{Holders, Held, holdersIn, numberAt, unitAt, borderAt, sideAt, legacyAt, energyAt, priceAt, noticeAt, givenAt, capacityAt, bareNotice, Given, Built}
+use Rattle.gathering.specs.Built.{Holders, Held, holdersIn, numberAt, unitAt, borderAt, sideAt, legacyAt, energyOn, priceOn, energyAt, priceAt, noticeAt, givenAt, capacityAt, bareNotice, Given, Built}
 use Rattle.gathering.proofs.ListLaws.{flat, kept-flat, eight}
 use Rattle.gathering.proofs.DayLaws.{standing, chosenIn, lodgement-at, energies-at, holder-at, gathered, named-offers, named-executions}
 
@@ -113,11 +113,11 @@ module _ (s : Session) (b : B.Book) (e : s ≡ I.image b) (hs : List Unit) (hold
 
   module _ (k n : ℕ) (l : i < n) (a : List ℕ) where
     energy-as : Column (energyAt (s .energies) k at) 0 n 128 a → getD a i 0 ≡ L.energyAt here (suc k)
-    unfolding energyAt L.energyAt
+    unfolding energyAt energyOn L.energyAt
     energy-as c = c .at i l ∙ (ap (λ (g : Energies). getD (g .energies) k 0) (energies-at s b e (getD at i 0) m) ∙ sym (hourly-suc (here .energies) k))
 
     price-as : Column (priceAt (s .energies) k at) 0 n 128 a → getD a i 0 ≡ hourly (here .prices) (suc k)
-    unfolding priceAt
+    unfolding priceAt priceOn
     price-as c = c .at i l ∙ (ap (λ (g : Energies). getD (g .prices) k 0) (energies-at s b e (getD at i 0) m) ∙ sym (hourly-suc (here .prices) k))
 
 module _ (s : Session) (b : B.Book) (e : s ≡ I.image b) (closed : b .closed ≡ true) (hs : List Unit) (holders : Holders s hs) (k : ℕ) (h : Hour) (t : Built s hs k h) where

@@ -10,18 +10,20 @@ use lib.ListN.{getD, set, take, length, length-take, List·getD-eq-default}
 use lib.Seq.{getD-take, take-suc-set}
 use borrow.Author.Tests.{lt-ltb, le-ltb}
 use Rattle.rules.specs.Lists.{All, keep, from}
-use Rattle.rules.proofs.ListLaws.{all-keep, all-at}
+use Rattle.rules.proofs.ListLaws.{all-keep, all-at, keep-same}
 use Rattle.arrays.proofs.PlaceLaws.{from-next, from-end, from-all, none-off}
 use Rattle.session.specs.declared.Unit.{Unit}
 use Rattle.session.specs.declared.Notice.{Notice}
 use Rattle.session.specs.declared.Lodgement.{Lodgement}
 use Rattle.session.specs.declared.Energies.{Energies}
 use Rattle.session.specs.declared.Verdict.{Verdict}
-use Rattle.session.specs.Image.{noUnit, noNotice}
+use Rattle.session.specs.Image.{noUnit, noNotice, noLodgement, noVerdict}
 use Rattle.session.specs.Parts.{numberIs, placeOf}
 use Rattle.session.proofs.PlaceLaws.{place-first}
 use Rattle.gathering.specs.declared.Places.{Places}
-use Rattle.gathering.specs.Built.{unitAmong, counts, countsAt, placesOf, Chosen, Inside, noticeAt, bareNotice}
+use Rattle.gathering.specs.declared.Slots.{Slots}
+use Rattle.gathering.specs.Columns.{Column}
+use Rattle.gathering.specs.Built.{unitAmong, counts, countsIn, countsAt, Selected, Chosen, Slotted, pickedAt, energyAt, priceAt, Inside, noticeAt, bareNotice}
 
 -- The unit of a number
 
@@ -38,16 +40,16 @@ module _ (us : List Unit) (n m p : ℕ) (at : p ≡ placeOf (numberIs m) (take n
 
 -- A lodgement that counts
 
-module _ (execution : Bool) (k : ℕ) (v : Verdict) (l : Lodgement) (e : Energies) where
-  pub count-refused : v .accepted ≡ false → false ≡ counts execution k v l e
+module _ (execution : Bool) (v : Verdict) (l : Lodgement) (energy : ℕ) where
+  pub count-refused : v .accepted ≡ false → false ≡ counts execution v l energy
   unfolding counts
   count-refused h = rw h
 
-  pub count-kind : v .accepted ≡ true → Bool·beq (l .key .execution) execution ≡ true → ltb 0 (getD (e .energies) k 0) ≡ counts execution k v l e
+  pub count-kind : v .accepted ≡ true → Bool·beq (l .key .execution) execution ≡ true → ltb 0 energy ≡ counts execution v l energy
   unfolding counts
   count-kind h q = rw (h, q)
 
-  pub count-other : v .accepted ≡ true → Bool·beq (l .key .execution) execution ≡ false → false ≡ counts execution k v l e
+  pub count-other : v .accepted ≡ true → Bool·beq (l .key .execution) execution ≡ false → false ≡ counts execution v l energy
   unfolding counts
   count-other h q = rw (h, q)
 
@@ -75,12 +77,11 @@ module _ (p : ℕ → Bool) (n : ℕ) where
   unfolding chosenSo keep
   chosen-end at count i h = rw (from-end n i h) (append-nil (take count at))
 
-pub chosen-done : (vs : List Verdict) (ls : List Lodgement) (es : List Energies) (n : ℕ) (execution : Bool) (k : ℕ) (at : List ℕ) (count i : ℕ) → count ≤ n → n ≤ length at → n ≤ i
-    → chosenSo (countsAt vs ls es execution k) at count i n ≡ placesOf vs ls es n execution k → Chosen vs ls es n execution k (record { count = count; at = at })
-unfolding placesOf
-chosen-done vs ls es n execution k at count i c l h e =
-    let q = sym (chosen-end (countsAt vs ls es execution k) n at count i h) ∙ e in
-    let a : All (λ j. j < n) (take count at) = rw q (all-keep (countsAt vs ls es execution k) (from-all (λ j. j < n) 0 n (λ j a b. omega arith))) in
+pub chosen-done : (p : ℕ → Bool) (n : ℕ) (at : List ℕ) (count i : ℕ) → count ≤ n → n ≤ length at → n ≤ i → chosenSo p at count i n ≡ keep p (from 0 n)
+    → Selected p n (record { count = count; at = at })
+chosen-done p n at count i c l h e =
+    let q = sym (chosen-end p n at count i h) ∙ e in
+    let a : All (λ j. j < n) (take count at) = rw q (all-keep p (from-all (λ j. j < n) 0 n (λ j a b. omega arith))) in
     record {
       few = c;
       long = l;
@@ -88,8 +89,28 @@ chosen-done vs ls es n execution k at count i c l h e =
       named = q;
     }
 
-pub chosen-inside : {vs : List Verdict} {ls : List Lodgement} {es : List Energies} {n : ℕ} {execution : Bool} {k : ℕ} {p : Places} → Chosen vs ls es n execution k p → n ≤ 128 → Inside p
+pub chosen-inside : {p : ℕ → Bool} {n : ℕ} {r : Places} → Selected p n r → n ≤ 128 → Inside r
 chosen-inside c h = record { few = omega (arith, c .few); inside = λ i l. omega (arith, c .inside i l) }
+
+-- What the lodgements have in an hour, read from the numbers of all
+
+module _ (es : List Energies) (k : ℕ) (r : Slots) (s : Slotted es k r) where
+  pub chosen-as : (vs : List Verdict) (ls : List Lodgement) (n : ℕ) (execution : Bool) (p : Places) → n ≤ 128 → Selected (countsIn vs ls (r .energy) execution) n p → Chosen vs ls es n execution k p
+  unfolding countsIn countsAt
+  chosen-as vs ls n execution p h c = record {
+    few = c .few;
+    long = c .long;
+    inside = c .inside;
+    named = c .named ∙ keep-same _ _ (from-all _ 0 n (λ i l m. ap (counts execution (getD vs i noVerdict) (getD ls i noLodgement)) (s .energies .at i (omega arith))));
+  }
+
+  pub energies-as : (p : Places) (a : List ℕ) → Inside p → Column (pickedAt (r .energy) (p .at)) 0 (p .count) 128 a → Column (energyAt es k (p .at)) 0 (p .count) 128 a
+  unfolding pickedAt energyAt
+  energies-as p a o c = record { at = λ i h. c .at i h ∙ s .energies .at (getD (p .at) i 0) (o .inside i h); behind = c .behind; long = c .long }
+
+  pub prices-as : (p : Places) (a : List ℕ) → Inside p → Column (pickedAt (r .price) (p .at)) 0 (p .count) 128 a → Column (priceAt es k (p .at)) 0 (p .count) 128 a
+  unfolding pickedAt priceAt
+  prices-as p a o c = record { at = λ i h. c .at i h ∙ s .prices .at (getD (p .at) i 0) (o .inside i h); behind = c .behind; long = c .long }
 
 -- The notice at a way
 

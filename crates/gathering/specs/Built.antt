@@ -45,22 +45,38 @@ Holders s hs = Column (holderIn (s .units) (s .enrolled) (s .lodgements)) noUnit
 
 -- Places
 
--- a lodgement of the kind, accepted at closing, that names the hour at place k
-unfoldable pub counts : Bool → ℕ → Verdict → Lodgement → Energies → Bool
-counts execution k v l e = v .accepted && (Bool·beq (l .key .execution) execution && ltb 0 (getD (e .energies) k 0))
+-- what the lodgement at a place has in the hour at place k
+unfoldable pub energyOn : List Energies → ℕ → ℕ → ℕ
+energyOn es k i = getD (getD es i bareEnergies .energies) k 0
+
+unfoldable pub priceOn : List Energies → ℕ → ℕ → ℕ
+priceOn es k i = getD (getD es i bareEnergies .prices) k 0
+
+-- what all have in it
+pub record Slotted (es : List Energies) (k : ℕ) (r : Slots) : Type 0 where
+  pub energies : Column (energyOn es k) 0 128 128 (r .energy)
+  pub prices : Column (priceOn es k) 0 128 128 (r .price)
+
+-- a lodgement of the kind, accepted at closing, that names an hour, in which it has some energy
+unfoldable pub counts : Bool → Verdict → Lodgement → ℕ → Bool
+counts execution v l energy = v .accepted && (Bool·beq (l .key .execution) execution && ltb 0 energy)
+
+-- the one at a place, by what all have in the hour
+unfoldable pub countsIn : List Verdict → List Lodgement → List ℕ → Bool → ℕ → Bool
+countsIn vs ls energy execution i = counts execution (getD vs i noVerdict) (getD ls i noLodgement) (getD energy i 0)
 
 unfoldable pub countsAt : List Verdict → List Lodgement → List Energies → Bool → ℕ → ℕ → Bool
-countsAt vs ls es execution k i = counts execution k (getD vs i noVerdict) (getD ls i noLodgement) (getD es i bareEnergies)
+countsAt vs ls es execution k i = counts execution (getD vs i noVerdict) (getD ls i noLodgement) (energyOn es k i)
 
--- the places of those among the first n
-unfoldable pub placesOf : List Verdict → List Lodgement → List Energies → ℕ → Bool → ℕ → List ℕ
-placesOf vs ls es n execution k = keep (countsAt vs ls es execution k) (from 0 n)
-
-pub record Chosen (vs : List Verdict) (ls : List Lodgement) (es : List Energies) (n : ℕ) (execution : Bool) (k : ℕ) (p : Places) : Type 0 where
+-- the places, among the first n, of those that count
+pub record Selected (counted : ℕ → Bool) (n : ℕ) (p : Places) : Type 0 where
   pub few : p .count ≤ n
   pub long : n ≤ length (p .at)
   pub inside : (i : ℕ) → i < p .count → getD (p .at) i 0 < n
-  pub named : take (p .count) (p .at) ≡ placesOf vs ls es n execution k
+  pub named : take (p .count) (p .at) ≡ keep counted (from 0 n)
+
+abbrev pub Chosen : List Verdict → List Lodgement → List Energies → ℕ → Bool → ℕ → Places → Type 0
+Chosen vs ls es n execution k p = Selected (countsAt vs ls es execution k) n p
 
 -- What stands at a place
 
@@ -79,11 +95,14 @@ sideAt us at i = getD us (getD at i 0) noUnit .purchase
 unfoldable pub legacyAt : List Unit → List ℕ → ℕ → Bool
 legacyAt us at i = getD us (getD at i 0) noUnit .legacy
 
+unfoldable pub pickedAt : List ℕ → List ℕ → ℕ → ℕ
+pickedAt column at i = getD column (getD at i 0) 0
+
 unfoldable pub energyAt : List Energies → ℕ → List ℕ → ℕ → ℕ
-energyAt es k at i = getD (getD es (getD at i 0) bareEnergies .energies) k 0
+energyAt es k at i = energyOn es k (getD at i 0)
 
 unfoldable pub priceAt : List Energies → ℕ → List ℕ → ℕ → ℕ
-priceAt es k at i = getD (getD es (getD at i 0) bareEnergies .prices) k 0
+priceAt es k at i = priceOn es k (getD at i 0)
 
 -- places that can be read
 pub record Inside (p : Places) : Type 0 where
@@ -98,11 +117,6 @@ pub record Held (ls : List Lodgement) (us : List Unit) (p : Places) (x : Executi
   pub borders : Column (borderAt us (p .at)) 0 (p .count) 128 (x .border)
   pub sides : Column (sideAt us (p .at)) false (p .count) 128 (x .purchase)
   pub marks : Column (legacyAt us (p .at)) false (p .count) 128 (x .legacy)
-
--- and what they have in an hour
-pub record Slotted (es : List Energies) (k : ℕ) (p : Places) (r : Slots) : Type 0 where
-  pub energies : Column (energyAt es k (p .at)) 0 (p .count) 128 (r .energy)
-  pub prices : Column (priceAt es k (p .at)) 0 (p .count) 128 (r .price)
 
 -- Capacities
 

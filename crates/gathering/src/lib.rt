@@ -3,7 +3,8 @@ ghost use mathlib.Core.Path.{_≡_};
 ghost use Prim.Native.Nat.{_≤_, _<_};
 ghost use lib.ListN.{take};
 ghost use Rattle.session.specs.Parts.{Within};
-ghost use Rattle.gathering.specs.Built.{unitAmong, Holders, counts, Chosen, Inside, Held, Slotted, noticeAt, Given, offersAt, Built};
+ghost use Rattle.gathering.specs.Columns.{Column};
+ghost use Rattle.gathering.specs.Built.{unitAmong, Holders, Slotted, counts, countsIn, Selected, Inside, pickedAt, Held, noticeAt, Given, offersAt, Built};
 use borders::Executions;
 use hour::Hour;
 use matching::Offers;
@@ -20,7 +21,7 @@ pub struct Places {
     pub at: [usize; 128],
 }
 
-// What the lodgements at some places have in an hour.
+// What the standing lodgements have in an hour, by place.
 pub struct Slots {
     pub energy: [u32; 128],
     pub price: [u32; 128],
@@ -77,31 +78,44 @@ pub fn holders(s: Session) -> [Unit; 128]
     found
 }
 
-// Whether a lodgement is of the kind, accepted at closing, and names the hour at place k.
-fn counts(execution: bool, k: usize, v: Verdict, l: Lodgement, e: Energies) -> bool
+// What the lodgements have in the hour at place k, by place: each is read once, and all that follows works on the numbers.
+fn slots_at(energies: [Energies; 128], k: usize) -> Slots
     requires { ⌜ k < 25 ⌝ }
-    ensures { λ r. ⌜ r ≡ counts execution k v l e ⌝ }
+    ensures { λ r. ⌜ Slotted energies k r ⌝ }
+{
+    let mut energy = [0u32; 128];
+    let mut price = [0u32; 128];
+    for i in 0..128 {
+        let e = energies[i];
+        energy[i] = e.energies[k];
+        price[i] = e.prices[k];
+    }
+    Slots { energy, price }
+}
+
+// Whether a lodgement is of the kind, accepted at closing, and names an hour, in which it has some energy.
+fn counts(execution: bool, v: Verdict, l: Lodgement, energy: u32) -> bool
+    ensures { λ r. ⌜ r ≡ counts execution v l energy ⌝ }
 {
     if !v.accepted {
         return false;
     }
     if l.key.execution == execution {
-        return 0 < e.energies[k];
+        return 0 < energy;
     }
     false
 }
 
-// The places of the lodgements of a kind, among the first n, that the hour at place k is cleared from.
+// The places of the lodgements of a kind, among the first n, that an hour is cleared from; `energy` is what all have in it.
 fn chosen(
     verdicts: [Verdict; 128],
     lodgements: [Lodgement; 128],
-    energies: [Energies; 128],
+    energy: [u32; 128],
     n: usize,
     execution: bool,
-    k: usize,
 ) -> Places
-    requires { ⌜ (n ≤ 128) × (k < 25) ⌝ }
-    ensures { λ r. ⌜ Chosen verdicts lodgements energies n execution k r ⌝ }
+    requires { ⌜ n ≤ 128 ⌝ }
+    ensures { λ r. ⌜ Selected (countsIn verdicts lodgements energy execution) n r ⌝ }
 {
     let mut at = [0usize; 128];
     let mut count: usize = 0;
@@ -111,8 +125,7 @@ fn chosen(
         next += 1;
         let v = verdicts[i];
         let l = lodgements[i];
-        let e = energies[i];
-        if counts(execution, k, v, l, e) {
+        if counts(execution, v, l, energy[i]) {
             at[count] = i;
             count += 1;
         }
@@ -152,22 +165,18 @@ fn held(lodgements: [Lodgement; 128], units: [Unit; 128], p: Places) -> Executio
     }
 }
 
-// What the lodgements at some places have in the hour at place k.
-fn slots_at(energies: [Energies; 128], k: usize, p: Places) -> Slots
-    requires { ⌜ Inside p × (k < 25) ⌝ }
-    ensures { λ r. ⌜ Slotted energies k p r ⌝ }
+// The numbers at some places.
+fn picked(column: [u32; 128], p: Places) -> [u32; 128]
+    requires { ⌜ Inside p ⌝ }
+    ensures { λ r. ⌜ Column (pickedAt column (p .at)) 0 (p .count) 128 r ⌝ }
 {
     let at = p.at;
     let count = p.count;
-    let mut energy = [0u32; 128];
-    let mut price = [0u32; 128];
+    let mut found = [0u32; 128];
     for i in 0..count {
-        let j = at[i];
-        let e = energies[j];
-        energy[i] = e.energies[k];
-        price[i] = e.prices[k];
+        found[i] = column[at[i]];
     }
-    Slots { energy, price }
+    found
 }
 
 // The capacity notice of the direction at a way; border 0 has none.
@@ -229,16 +238,17 @@ pub fn hour_at(s: Session, holders: [Unit; 128], k: usize) -> Hour
     let energies = s.energies;
     let capacities = s.capacities;
     let n = s.standing;
-    let p = chosen(verdicts, lodgements, energies, n, false, k);
-    let q = chosen(verdicts, lodgements, energies, n, true, k);
+    let slots = slots_at(energies, k);
+    let energies = slots.energy;
+    let prices = slots.price;
+    let p = chosen(verdicts, lodgements, energies, n, false);
+    let q = chosen(verdicts, lodgements, energies, n, true);
     let o = held(lodgements, holders, p);
-    let named = slots_at(energies, k, p);
     let executions = held(lodgements, holders, q);
-    let executed = slots_at(energies, k, q);
+    let price = picked(prices, p);
+    let offered = picked(energies, p);
+    let energy = picked(energies, q);
     let c = capacities_at(capacities, k);
-    let price = named.price;
-    let offered = named.energy;
-    let energy = executed.energy;
     let offers = offers_of(o, price);
     let published = c.flags;
     let capacity = c.energies;

@@ -2,22 +2,22 @@ use Prim.Native.Nat.{ℕ, _≤_, _-_}
 use mathlib.Core.Path.{_≡_, sym, _∙_}
 use native.Mathlib.Omega.{arith}
 use lib.ListN.{length, length-set}
-use Rattle.gathering.specs.Built.{countsAt, placesOf}
+use Rattle.rules.specs.Lists.{keep, from}
+use Rattle.gathering.specs.Built.{countsIn}
 use Rattle.gathering.proofs.PlaceLaws.{chosenSo, chosen-start, chosen-next, chosen-skip, chosen-done}
 use borrow.Author.Needs.{needs}
 use Rattle.gathering.proofs.chosen.Statement.{statement}
 use Rattle.gathering.proofs.chosen.Tie as tie
 
 abbrev Inv-loop : tie.InvT-loop
-Inv-loop n execution k verdicts lodgements energies at₀ count₀ next₀ at count next =
+Inv-loop n execution verdicts lodgements energy at₀ count₀ next₀ at count next =
     (next ≤ n) × (count ≤ next) × (length at ≡ 128)
-    × (chosenSo (countsAt verdicts lodgements energies execution k) at count next n ≡ placesOf verdicts lodgements energies n execution k)
+    × (chosenSo (countsIn verdicts lodgements energy execution) at count next n ≡ keep (countsIn verdicts lodgements energy execution) (from 0 n))
 
 abbrev μ-loop : tie.MeasureT-loop
-μ-loop n execution k verdicts lodgements energies at₀ count₀ next₀ at count next = n - next
+μ-loop n execution verdicts lodgements energy at₀ count₀ next₀ at count next = n - next
 
 loop-holds : tie.Need-loop-holds Inv-loop μ-loop
-unfolding placesOf
 loop-holds c = (omega arith, omega arith, omega arith, chosen-start _ _ _)
 
 add-next : tie.Need-add-next Inv-loop μ-loop
@@ -35,11 +35,11 @@ mul-l c = search needs
 array-copy-out-l : tie.Need-array-copy-out-l Inv-loop μ-loop
 array-copy-out-l c = search needs
 
-mul-e : tie.Need-mul-e Inv-loop μ-loop
-mul-e c = search needs
+mul-counts : tie.Need-mul-counts Inv-loop μ-loop
+mul-counts c = search needs
 
-array-copy-out-e : tie.Need-array-copy-out-e Inv-loop μ-loop
-array-copy-out-e c = search needs
+array-read-counts : tie.Need-array-read-counts Inv-loop μ-loop
+array-read-counts c = search needs
 
 counts-requires : tie.Need-counts-requires Inv-loop μ-loop
 counts-requires c κs = search needs
@@ -57,20 +57,20 @@ loop-less : tie.Need-loop-less Inv-loop μ-loop
 loop-less c = search needs
 
 loop-again : tie.Need-loop-again Inv-loop μ-loop
-unfolding countsAt
-loop-again c = let l = c .before .before .before .before .before .before .loop in
+unfolding countsIn
+loop-again c = let l = c .before .before .before .before .before .loop in
     (omega arith, omega arith, length-set {A = ℕ} (l .at) (l .count) (l .next) ∙ l .inv .2, chosen-next _ _ _ _ _ (omega arith) (omega arith) (sym (c .before .counts .ensures) ∙ c .if1 .taken) ∙ l .inv .3)
 
 loop-less-2 : tie.Need-loop-less-2 Inv-loop μ-loop
 loop-less-2 c = search needs
 
 loop-again-2 : tie.Need-loop-again-2 Inv-loop μ-loop
-unfolding countsAt
-loop-again-2 c = let l = c .before .before .before .before .before .before .loop in
+unfolding countsIn
+loop-again-2 c = let l = c .before .before .before .before .before .loop in
     (omega arith, omega arith, l .inv .2, chosen-skip _ _ _ _ _ (omega arith) (sym (c .before .counts .ensures) ∙ c .if1 .left) ∙ l .inv .3)
 
 returns : tie.Need-returns Inv-loop μ-loop
-returns c = let l = c .before .loop in chosen-done _ _ _ _ _ _ _ _ _ (omega arith) (omega arith) (omega arith) (l .inv .3)
+returns c = let l = c .before .loop in chosen-done _ _ _ _ _ (omega arith) (omega arith) (omega arith) (l .inv .3)
 
 pub chosen-spec : {M : Type 1} → statement M
 chosen-spec =
@@ -84,8 +84,8 @@ chosen-spec =
     array-copy-out-v
     mul-l
     array-copy-out-l
-    mul-e
-    array-copy-out-e
+    mul-counts
+    array-read-counts
     counts-requires
     mul-at
     array-write-at

@@ -2,32 +2,26 @@ use Prim.Native.Nat.{_≤_, _-_}
 use mathlib.Core.Path.{refl}
 use native.Mathlib.Omega.{arith}
 use Rattle.gathering.specs.Columns.{Column}
-use Rattle.gathering.specs.Built.{energyAt, priceAt}
+use Rattle.gathering.specs.Built.{energyOn, priceOn}
 use Rattle.gathering.proofs.ColumnLaws.{column-start, column-next, column-end}
 use borrow.Author.Needs.{needs}
 use Rattle.gathering.proofs.slots_at.Statement.{statement}
 use Rattle.gathering.proofs.slots_at.Tie as tie
 
 abbrev Inv-loop : tie.InvT-loop
-Inv-loop k energies at count energy₀ price₀ i₀ energy price i = (i ≤ count) × Column (energyAt energies k at) 0 i 128 energy × Column (priceAt energies k at) 0 i 128 price
+Inv-loop k energies energy₀ price₀ i₀ energy price i = (i ≤ 128) × Column (energyOn energies k) 0 i 128 energy × Column (priceOn energies k) 0 i 128 price
 
 abbrev μ-loop : tie.MeasureT-loop
-μ-loop k energies at count energy₀ price₀ i₀ energy price i = count - i
+μ-loop k energies energy₀ price₀ i₀ energy price i = 128 - i
 
 loop-holds : tie.Need-loop-holds Inv-loop μ-loop
 loop-holds c = (omega arith, column-start _ _ _, column-start _ _ _)
 
-mul-j : tie.Need-mul-j Inv-loop μ-loop
-mul-j c = search needs
-
-array-read-j : tie.Need-array-read-j Inv-loop μ-loop
-array-read-j c = search needs
-
 mul-e : tie.Need-mul-e Inv-loop μ-loop
-mul-e c = omega (arith, c .before .before .before .pre .0 .inside (c .before .loop .i) (omega arith))
+mul-e c = search needs
 
 array-copy-out-e : tie.Need-array-copy-out-e Inv-loop μ-loop
-array-copy-out-e c = omega (arith, c .before .before .before .pre .0 .inside (c .before .loop .i) (omega arith))
+array-copy-out-e c = search needs
 
 mul-energy : tie.Need-mul-energy Inv-loop μ-loop
 mul-energy c = search needs
@@ -60,7 +54,7 @@ loop-less : tie.Need-loop-less Inv-loop μ-loop
 loop-less c = search needs
 
 loop-again : tie.Need-loop-again Inv-loop μ-loop
-unfolding energyAt priceAt
+unfolding energyOn priceOn
 loop-again c = let v = c .before .before .before .before .loop .inv in
     (omega arith, column-next _ _ _ _ _ _ (v .1) (omega arith) refl, column-next _ _ _ _ _ _ (v .2) (omega arith) refl)
 
@@ -76,8 +70,6 @@ slots-at-spec =
     Inv-loop
     μ-loop
     loop-holds
-    mul-j
-    array-read-j
     mul-e
     array-copy-out-e
     mul-energy
