@@ -1,6 +1,6 @@
 // The session's queries, each by a number.
 ghost use Rattle.queries.specs.Replies.{Answered};
-ghost use Rattle.report.specs.Asked.{asked};
+ghost use Rattle.asking.specs.Asked.{asked};
 use queries::Reply;
 use session::Session;
 
@@ -25,25 +25,25 @@ pub fn reply_to(s: Session, kind: u8, of: u32, export: bool, hour: u32) -> Reply
     ensures { λ r. ⌜ Answered s (asked kind of export hour) r ⌝ }
 {
     if kind == VERDICT {
-        return queries::verdict(s, of);
+        return verdicts::verdict(s, of);
     }
     if kind == MATCHED {
-        return queries::matched(s, of, hour);
+        return energies::matched(s, of, hour);
     }
     if kind == EXECUTED {
-        return queries::executed(s, of, hour);
+        return energies::executed(s, of, hour);
     }
     if kind == MARKET {
-        return queries::market(s, of, hour);
+        return balances::market(s, of, hour);
     }
     if kind == BILATERAL {
-        return queries::bilateral(s, of, hour);
+        return balances::bilateral(s, of, hour);
     }
     if kind == PRICE {
         return queries::price(s, hour);
     }
     if kind == MARKET_MAXIMUM {
-        return queries::market_maximum(s, of, export, hour);
+        return maxima::market_maximum(s, of, export, hour);
     }
-    queries::bilateral_maximum(s, of, export, hour)
+    maxima::bilateral_maximum(s, of, export, hour)
 }
