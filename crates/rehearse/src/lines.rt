@@ -1,9 +1,6 @@
 // A line run on a session.
 use crate::telling::Said;
 use crate::telling::Told;
-use calendar::Date;
-use message::Fields;
-use queries::Reply;
 use asking::BILATERAL;
 use asking::BILATERAL_MAXIMUM;
 use asking::EXECUTED;
@@ -13,6 +10,9 @@ use asking::MATCHED;
 use asking::PRICE;
 use asking::VERDICT;
 use asking::reply_to;
+use calendar::Date;
+use message::Fields;
+use queries::Reply;
 use session::Answer;
 use session::Session;
 use session::Turn;

@@ -1,15 +1,15 @@
 // The hours with their prices, and in each hour a row for each border.
+use crate::figures::is_number;
+use crate::figures::is_some;
+use crate::figures::put_figure;
+use crate::hours::put_hour;
+use crate::text::put;
 use asking::BILATERAL;
 use asking::BILATERAL_MAXIMUM;
 use asking::MARKET;
 use asking::MARKET_MAXIMUM;
 use asking::PRICE;
 use asking::reply_to;
-use crate::figures::is_number;
-use crate::figures::is_some;
-use crate::figures::put_figure;
-use crate::hours::put_hour;
-use crate::text::put;
 use session::Session;
 
 // Whether a border has a capacity, or a balance other than 0, in an hour.

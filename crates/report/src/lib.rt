@@ -6,7 +6,6 @@ use text::put;
 use text::put_number;
 use text::put_two_digits;
 
-
 mod borders;
 mod figures;
 mod hours;

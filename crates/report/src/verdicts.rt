@@ -1,10 +1,10 @@
 // The verdicts: a row for each lodgement that stood at closing.
-use asking::VERDICT;
-use asking::reply_to;
 use crate::replies::put_reply;
 use crate::text::put;
 use crate::text::put_number_right;
 use crate::text::put_right;
+use asking::VERDICT;
+use asking::reply_to;
 use session::Key;
 use session::Lodgement;
 use session::Session;
