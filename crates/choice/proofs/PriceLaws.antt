@@ -57,15 +57,15 @@ module _ (side : Bool) (over border : List ℕ) (purchase legacy : List Bool) (p
   unfolding pricesFrom extreme keep
   found-none = no-price 65535 refl ∙ rw (from-end n n (le-refl n))
 
-  pub found-in : (i v best r : ℕ) → i ≡ v + 1 → i ≤ n → priced v ≡ true → priceIn best ≡ found i
+  pub found-in : (i v best r : ℕ) {b : Bool} → i ≡ v + 1 → i ≤ n → b ≡ priced v → b ≡ true → priceIn best ≡ found i
       → priceIn r ≡ some (further (outer side) (getD price v 0) (priceIn best)) → priceIn r ≡ found v
   unfolding pricesFrom extreme keep
-  found-in i v best r o h t eb er =
-      er ∙ rw (from-next n v (omega arith), t) (ap (λ x. some (further (outer side) (getD price v 0) x)) (eb ∙ ap found o))
+  found-in i v best r o h p t eb er =
+      er ∙ rw (from-next n v (omega arith), sym p ∙ t) (ap (λ x. some (further (outer side) (getD price v 0) x)) (eb ∙ ap found o))
 
-  pub found-out : (i v best : ℕ) → i ≡ v + 1 → i ≤ n → priced v ≡ false → priceIn best ≡ found i → priceIn best ≡ found v
+  pub found-out : (i v best : ℕ) {b : Bool} → i ≡ v + 1 → i ≤ n → b ≡ priced v → b ≡ false → priceIn best ≡ found i → priceIn best ≡ found v
   unfolding pricesFrom keep
-  found-out i v best o h t eb = rw (from-next n v (omega arith), t) (eb ∙ ap found o)
+  found-out i v best o h p t eb = rw (from-next n v (omega arith), sym p ∙ t) (eb ∙ ap found o)
 
 -- What is past a price
 

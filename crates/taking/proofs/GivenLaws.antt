@@ -90,3 +90,18 @@ gives-none over g o h =
     let p = o .holder .purchase in
     pick-none (runsOver over b p) (inside g p (o .holder .legacy) (o .price)) (wayOf b p) (way-above over b p)
     ∙ sym (rw (any-and (groupIn g) o (overIn over), among over o h, in-group g o))
+
+-- Each way out of the test
+
+module _ (over : List ℕ) (g : Group) (b : ℕ) (p l : Bool) (price : ℕ) {o : Bool} (eo : o ≡ runsOver over b p) where
+  pub given-here : {w : ℕ} {t : Bool} → o ≡ true → t ≡ inside g p l price → t ≡ true → w ≡ wayOf b p → w ≡ givenOf over g b p l price
+  unfolding givenOf
+  given-here h et t e = e ∙ sym (rw (sym eo ∙ h, sym et ∙ t))
+
+  pub given-outside : {t : Bool} → o ≡ true → t ≡ inside g p l price → t ≡ false → 0 ≡ givenOf over g b p l price
+  unfolding givenOf
+  given-outside h et t = rw (sym eo ∙ h, sym et ∙ t)
+
+  pub given-nowhere : o ≡ false → 0 ≡ givenOf over g b p l price
+  unfolding givenOf
+  given-nowhere h = rw (sym eo ∙ h)

@@ -24,6 +24,10 @@ use Rattle.choice.specs.Prices.{groupIn}
 use Rattle.taking.specs.Given.{Lower}
 use Rattle.withdrawal.specs.Steps.{Stepped}
 
+-- what is written anew is as long as before
+pub anew-long : (f : ℕ → ℕ → ℕ) (n : ℕ) (e : List ℕ) {l : List ℕ} → l ≡ layOn f n 0 e → length e ≡ 128 → length l ≡ 128
+anew-long f n e q h = ap length q ∙ lay-length f n 0 e ∙ h
+
 module _ (over : List ℕ) (m : List ℕ) (n : ℕ) (border : List ℕ) (purchase legacy : List Bool) (price : List ℕ) (inner : (i : ℕ) → i < n → getD border i 0 < 5) where
   -- what the two leave offered
   pub after-lower : (e : List ℕ) {kept after : List ℕ} → n ≤ length e → ((i : ℕ) → i < n → getD m i 0 ≤ getD e i 0)

@@ -1,5 +1,5 @@
 use Prim.Native.Nat.{_-_, _≤_}
-use mathlib.Core.Path.{_≡_, sym, ap, _∙_}
+use mathlib.Core.Path.{_≡_, ap, _∙_}
 use native.Mathlib.Omega.{arith}
 use Rattle.rules.specs.Withdrawal.{extreme}
 use Rattle.choice.specs.Prices.{outer, priceIn, pricesFrom}
@@ -30,7 +30,7 @@ loop-again c =
     let l = c .before .before .before .before .before .before .before .before .before .loop in (
       omega arith,
       found-in (a .side) (a .over .now) (a .border .now) (a .purchase .now) (a .legacy .now) (a .price .now) (a .matched .now) (a .n) (l .i) _ (l .best) _
-          (omega arith) (omega arith) (sym (c .before .before .before .is-priced .ensures) ∙ c .before .before .if1 .taken) (l .inv .1) (c .further .ensures),
+          (omega arith) (omega arith) (c .before .before .before .is-priced .ensures) (c .before .before .if1 .taken) (l .inv .1) (c .further .ensures),
     )
 
 loop-again-2 : tie.Need-loop-again-2 Inv-loop μ-loop
@@ -39,7 +39,7 @@ loop-again-2 c =
     let l = c .before .before .before .before .before .before .before .loop in (
       omega arith,
       found-out (a .side) (a .over .now) (a .border .now) (a .purchase .now) (a .legacy .now) (a .price .now) (a .matched .now) (a .n) (l .i) (l .i - 1) (l .best)
-          (omega arith) (omega arith) (sym (c .before .is-priced .ensures) ∙ c .if1 .left) (l .inv .1),
+          (omega arith) (omega arith) (c .before .is-priced .ensures) (c .if1 .left) (l .inv .1),
     )
 
 returns : tie.Need-returns Inv-loop μ-loop
