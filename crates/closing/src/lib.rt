@@ -3,6 +3,7 @@ ghost use mathlib.Core.Path.{_≡_};
 ghost use Rattle.rules.specs.DayBook.{close};
 ghost use Rattle.session.specs.Steps.{Met};
 ghost use Rattle.session.specs.Parts.{Within, Entered};
+use loads::loads_of;
 use session::Answer;
 use session::GATE;
 use session::Session;
@@ -22,9 +23,12 @@ fn give_verdicts(s: Session) -> Turn
 {
     let blank = no_verdict();
     let none = [blank; 128];
-    let normal = pass(s, NORMAL, none);
-    let executions = pass(s, DEFAULT, normal);
-    let all = pass(s, OFFERS, executions);
+    let every = [true; 128];
+    let energies = s.energies;
+    let loads = loads_of(&every, s.standing, energies);
+    let normal = pass(s, &loads, NORMAL, none);
+    let executions = pass(s, &loads, DEFAULT, normal);
+    let all = pass(s, &loads, OFFERS, executions);
     let mut next = s;
     next.verdicts = all;
     next.closed = true;

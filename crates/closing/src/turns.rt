@@ -2,6 +2,7 @@
 ghost use mathlib.Core.Path.{_≡_};
 ghost use Prim.Native.Nat.{_<_};
 ghost use Rattle.session.specs.Parts.{Within};
+ghost use Rattle.validation.specs.Turns.{Loaded};
 ghost use Rattle.closing.specs.Passes.{turnIn, TakesAt, PassesTurn};
 use keys::is_hidden;
 use session::Key;
@@ -44,18 +45,20 @@ fn takes(s: Session, turn: u32, at: usize) -> bool
 }
 
 // One turn: "latest number first", each judged with what was accepted before it.
-pub fn pass(s: Session, turn: u32, verdicts: [Verdict; 128]) -> [Verdict; 128]
-    requires { ⌜ Within s ⌝ }
+pub fn pass(s: Session, loads: &[u32; 3200], turn: u32, verdicts: [Verdict; 128]) -> [Verdict; 128]
+    requires { ⌜ Within s × Loaded s (now loads) ⌝ }
     ensures { λ r. ⌜ PassesTurn s turn verdicts r ⌝ }
 {
     let mut given = verdicts;
+    let energies = s.energies;
     let n = s.standing;
     let mut passed = 0usize;
     while passed < n {
         passed += 1;
         let at = n - passed;
         if takes(s, turn, at) {
-            let v = judge_place(s, given, at);
+            let e = energies[at];
+            let v = judge_place(s, loads, e, given, at);
             given[at] = v;
         }
     }

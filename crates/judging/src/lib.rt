@@ -13,7 +13,9 @@ use beside::beside_marks;
 use keys::bad_holder;
 use keys::is_standing;
 use keys::key_of;
+use loads::counted_places;
 use limits::judge_energy;
+use loads::loads_of;
 use message::Fields;
 use message::judge::bad_fields;
 use message::judge::bad_map;
@@ -77,6 +79,9 @@ fn judge_limits(s: Session, m: Fields) -> Judged
     let counted = beside_marks(lodgements, n, key);
     let own = m.energies;
     let energies = s.energies;
+    let loads = loads_of(&counted, n, energies);
+    let found = counted_places(&counted, n);
+    let others = found.at;
     let hours = s.hours as usize;
     judge_energy(
         unit,
@@ -84,9 +89,9 @@ fn judge_limits(s: Session, m: Fields) -> Judged
         capacities,
         m.default,
         own,
-        &counted,
-        n,
-        energies,
+        &loads,
+        &others,
+        found.count,
         hours,
     )
 }

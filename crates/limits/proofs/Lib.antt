@@ -2,3 +2,4 @@ pub mod WrittenLaws
 pub mod RowLaws
 pub mod BorderLaws
 pub mod NoticeLaws
+pub mod PlaceLaws

@@ -6,7 +6,7 @@ ghost use Prim.Native.Nat.{ℕ, _+_, _≤_};
 ghost use lib.ListN.{take, replicate};
 ghost use Rattle.rules.specs.Lists.{addEach};
 ghost use Rattle.rules.specs.Units.{borderSum};
-ghost use Rattle.loads.specs.Loads.{loadIn};
+ghost use Rattle.loads.specs.Loads.{loadAt};
 ghost use Rattle.limits.specs.Limits.{noticeIn, lowestRow, judgedIn, noBorderLimit, borderAt};
 use loads::lowest_hour;
 use session::Energies;
@@ -134,26 +134,26 @@ pub fn judge_energy(
     capacities: [Notice; 8],
     default: bool,
     own: [u32; 25],
-    counted: &[bool; 128],
-    n: usize,
-    energies: [Energies; 128],
+    loads: &[u32; 3200],
+    at: &[usize; 128],
+    count: usize,
     hours: usize,
 ) -> Judged
-    requires { ⌜ (n ≤ 128) × (hours ≤ 25) ⌝ }
-    ensures { λ j. ⌜ j ≡ judgedIn unit notice capacities default hours own (loadIn own (now (counted .entry)) (take n energies)) ⌝ }
+    requires { ⌜ (count ≤ 128) × (hours ≤ 25) × (length (now at) ≡ 128) × ((l : ℕ) → l < count → getD (now at) l 0 < 128) ⌝ }
+    ensures { λ j. ⌜ j ≡ judgedIn unit notice capacities default hours own (loadAt own (now (loads .entry)) (take count (now (at .entry)))) ⌝ }
 {
     let most = maximum_energies(unit.maximum);
-    let ten = lowest_hour(own, counted, n, energies, hours, most);
+    let ten = lowest_hour(own, loads, at, count, hours, most);
     if default {
         return lowest_row(ten, 0, 0);
     }
     let available = available_energies(unit.maximum, notice);
-    let eleven = lowest_hour(own, counted, n, energies, hours, available);
+    let eleven = lowest_hour(own, loads, at, count, hours, available);
     let border = border_limit(unit.border, capacities);
     if !border.applies {
         return lowest_row(ten, eleven, 0);
     }
     let sums = border.energies;
-    let twelve = lowest_hour(own, counted, n, energies, hours, sums);
+    let twelve = lowest_hour(own, loads, at, count, hours, sums);
     lowest_row(ten, eleven, twelve)
 }

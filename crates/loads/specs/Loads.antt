@@ -1,8 +1,10 @@
 -- A lodgement's energy in an hour, with that of others that are counted.
-use Prim.Native.Nat.{ℕ, _+_}
-use mathlib.Core.Bool.{Bool, cond}
+use Prim.Native.Nat.{ℕ, _+_, _-_, _*_, _≤_, _<_}
+use mathlib.Core.Path.{_≡_}
+use mathlib.Core.Bool.{Bool, true, false, cond}
 use mathlib.Core.List.{List, [], _∷_}
 use mathlib.Core.Option.{some}
+use lib.ListN.{length, getD}
 use Rattle.rules.specs.Lists.{sumOf, hourly}
 use Rattle.rules.specs.Units.{Limit}
 use Rattle.session.specs.declared.Energies.{Energies}
@@ -19,6 +21,32 @@ energyIn h e = hourly (e .energies) h
 -- a lodgement's own energy in an hour plus that of the others that are marked
 unfoldable pub loadIn : List ℕ → List Bool → List Energies → ℕ → ℕ
 loadIn own counted es h = hourly own h + sumOf (energyIn h) (marked counted es)
+
+-- The same by places, the energies in one array, 25 for each place
+
+-- an element that is read beyond an array
+abbrev pub bareEnergies : Energies
+bareEnergies = record { energies = []; prices = [] }
+
+-- the 25 numbers of a place are these, and the others as before
+unfoldable pub PutAt : ℕ → List ℕ → List ℕ → List ℕ → Type 0
+PutAt l es before after =
+    ((h : ℕ) → h < 25 → getD after (l * 25 + h) 0 ≡ getD es h 0)
+    × ((i : ℕ) → i < l * 25 → getD after i 0 ≡ getD before i 0)
+    × ((i : ℕ) → l * 25 + 25 ≤ i → getD after i 0 ≡ getD before i 0)
+
+-- the array has the energies of those that are wanted
+unfoldable pub LoadsOf : List Bool → List Energies → List ℕ → Type 0
+LoadsOf wanted es loads =
+    (l h : ℕ) → l < length es → getD wanted l false ≡ true → h < 25 → getD loads (l * 25 + h) 0 ≡ getD (getD es l bareEnergies .energies) h 0
+
+-- the energy in an hour at a place
+abbrev pub energyAtPlace : List ℕ → ℕ → ℕ → ℕ
+energyAtPlace loads h l = getD loads (l * 25 + (h - 1)) 0
+
+-- a lodgement's own energy in an hour plus that at the places of others
+unfoldable pub loadAt : List ℕ → List ℕ → List ℕ → ℕ → ℕ
+loadAt own loads places h = hourly own h + sumOf (energyAtPlace loads h) places
 
 -- a limit by hour, as an array has it (its number is not looked at here)
 abbrev pub laid : List ℕ → Limit

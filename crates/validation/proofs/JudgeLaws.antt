@@ -7,7 +7,7 @@ use mathlib.Core.Option.{Option, some, none}
 use native.Mathlib.Omega.{arith}
 use lib.Dec.{eqb}
 use lib.ListN.{length, getD, take, length-map, length-take}
-use lib.Seq.{ext-getD, getD-take}
+use lib.Seq.{ext-getD, getD-take, length-take-le}
 use borrow.Author.Tests.{eqb-true, not-true}
 use Rattle.rules.specs.Lists.{keep, any, sumOf, from, hourly}
 use Rattle.rules.specs.Refusals.{Row, firstRow}
@@ -20,7 +20,7 @@ use Rattle.rules.proofs.BoolLaws.{both}
 use Rattle.rules.proofs.ListLaws.{all-at, keep-keep}
 use Rattle.rules.proofs.ClosingLaws.{verdict-with}
 use Rattle.session.specs.Image.{image, Sound, unitAs, noticeAs, verdictAs, noLodgement}
-use Rattle.session.specs.Parts.{told, numberIs, placeOf}
+use Rattle.session.specs.Parts.{Within, told, numberIs, placeOf}
 use Rattle.session.specs.declared.Session.{Session}
 use Rattle.session.specs.declared.Unit.{Unit}
 use Rattle.session.specs.declared.Notice.{Notice}
@@ -30,11 +30,12 @@ use Rattle.session.specs.declared.Verdict.{Verdict}
 use Rattle.session.specs.declared.Judged.{Judged}
 use Rattle.session.proofs.ImageLaws.{standing-as, hours-as, capacities-as, energies-as, registered-as, unit-as, notice-as}
 use Rattle.session.proofs.PlaceLaws.{placed, getD-map}
-use Rattle.loads.specs.Loads.{loadIn}
+use Rattle.loads.specs.Loads.{marked, loadIn, bareEnergies, LoadsOf, loadAt}
 use Rattle.limits.specs.Limits.{judgedIn}
 use Rattle.limits.proofs.NoticeLaws.{judged-as}
 use Rattle.loads.proofs.MarkLaws.{load-keep}
-use Rattle.validation.specs.Turns.{beyond, standingAt, verdictAt, isTaken, verdictSoFar, Reached, JudgesAt, countsOn, countsAt, verdictBy}
+use Rattle.limits.proofs.PlaceLaws.{loads-all, judged-places}
+use Rattle.validation.specs.Turns.{beyond, standingAt, verdictAt, isTaken, verdictSoFar, Reached, Loaded, JudgesAt, countsOn, countsAt, verdictBy}
 use Rattle.validation.proofs.CountLaws.{length-from, places-at, counted-as}
 use Rattle.validation.proofs.TurnLaws.{passed-before, verdict-at}
 use Rattle.validation.proofs.StandingLaws.{stands, lodgement-at, energies-at}
@@ -133,3 +134,19 @@ module _ (s : Session) (vs : List Verdict) (i : ℕ) (h : i < s .standing) (dl :
         ev ∙ ap verdictBy ej ∙ rw (em, q)
         (judged-is s b sound e vs turn i h r t (getD (s .units) p du) (getD (s .notices) p dn) (getD (s .energies) i de .energies)
         (unit-as s b e (standingAt b i .key .unit) p here k du) (notice-as s b e (standingAt b i .key .unit) p here k dn) (ap (λ (x : Energies). x .energies) (energies-at s b e i h de)))
+
+    -- and with the energies lent, by the places of those that are counted
+    pub judge-lent : (du : Unit) (dn : Notice) (own : Energies) (ms : List Bool) (loads ps : List ℕ) (j : Judged) (v : Verdict) → p < s .enrolled
+        → Within s → own ≡ getD (s .energies) i bareEnergies → Loaded s loads
+        → ms ≡ map (countsAt unitHere vs (s .lodgements)) (from 0 128) → ps ≡ marked ms (from 0 (s .standing))
+        → j ≡ judgedIn (getD (s .units) p du) (getD (s .notices) p dn) (s .capacities) false (s .hours) (own .energies) (loadAt (own .energies) loads ps)
+        → v ≡ verdictBy j → JudgesAt s vs i v
+    judge-lent du dn own ms loads ps j v k w eo lent em ep ej ev =
+        judge-given bareEnergies du dn ms j v k em
+        (ej
+        ∙ judged-places (getD (s .units) p du) (getD (s .notices) p dn) (s .capacities) false (s .hours) (own .energies) loads ps ms (s .standing) (s .energies) (w .hours) (lent .room) counted ep
+        ∙ ap (λ (x : Energies). judgedIn (getD (s .units) p du) (getD (s .notices) p dn) (s .capacities) false (s .hours) (x .energies) (loadIn (x .energies) ms (take (s .standing) (s .energies)))) eo)
+        ev
+      where
+        counted : LoadsOf ms (take (s .standing) (s .energies)) loads
+        counted = loads-all 128 ms (take (s .standing) (s .energies)) loads (omega (arith, length-take-le (s .standing) (s .energies) (lent .room), w .standing)) (lent .energies)

@@ -1,15 +1,16 @@
 -- How far a closing has come, and what the session's verdicts are there.
-use Prim.Native.Nat.{ℕ, _+_}
+use Prim.Native.Nat.{ℕ, _+_, _≤_}
 use mathlib.Core.Path.{_≡_}
 use mathlib.Core.Bool.{Bool, true, false, cond, not, _&&_, _||_}
 use mathlib.Core.List.{List, []}
 use lib.Dec.{ltb, leb, eqb}
-use lib.ListN.{getD}
+use lib.ListN.{length, getD, take, replicate}
 use Rattle.rules.specs.Lodging as L
 use Rattle.rules.specs.Book.{Book}
 use Rattle.rules.specs.Closing as C
 use Rattle.rules.specs.Demands.{turnOf}
 use Rattle.session.specs.Image.{image, Sound, verdictAs, noVerdict, noLodgement}
+use Rattle.loads.specs.Loads.{LoadsOf}
 use Rattle.session.specs.declared.Lodgement.{Lodgement}
 use Rattle.session.specs.declared.Verdict.{Verdict}
 use Rattle.session.specs.declared.Session.{Session}
@@ -46,6 +47,11 @@ verdictSoFar b turn i j = cond (hasPassed turn i j (standingAt b j)) (verdictAs 
 -- these verdicts are those of a closing that stands at place i of a turn
 pub record Reached (b : Book) (turn i : ℕ) (vs : List Verdict) : Type 0 where
   pub at : (j : ℕ) → getD vs j noVerdict ≡ verdictSoFar b turn i j
+
+-- the array has the energies of every standing lodgement
+pub record Loaded (s : Session) (loads : List ℕ) : Type 0 where
+  pub room : s .standing ≤ length (s .energies)
+  pub energies : LoadsOf (replicate 128 true) (take (s .standing) (s .energies)) loads
 
 -- What judging a lodgement promises
 

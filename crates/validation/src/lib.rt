@@ -3,9 +3,13 @@ ghost use mathlib.Core.Path.{_≡_};
 ghost use mathlib.Core.List.{map};
 ghost use Prim.Native.Nat.{_<_};
 ghost use Rattle.rules.specs.Lists.{from};
+ghost use lib.ListN.{getD};
 ghost use Rattle.session.specs.Parts.{Within};
-ghost use Rattle.validation.specs.Turns.{countsOn, countsAt, verdictBy, JudgesAt};
+ghost use Rattle.loads.specs.Loads.{bareEnergies};
+ghost use Rattle.validation.specs.Turns.{Loaded, countsOn, countsAt, verdictBy, JudgesAt};
+use loads::counted_places;
 use limits::judge_energy;
+use session::Energies;
 use session::Judged;
 use session::Lodgement;
 use session::Session;
@@ -56,9 +60,15 @@ fn verdict_by(j: Judged) -> Verdict
 }
 
 // The verdict of the lodgement at a place: "its energy, plus that of those accepted before it on its unit", against the
-// unit's limits.
-pub fn judge_place(s: Session, verdicts: [Verdict; 128], at: usize) -> Verdict
-    requires { ⌜ Within s × (at < s .standing) ⌝ }
+// unit's limits. Its energies are e, and those of all are lent.
+pub fn judge_place(
+    s: Session,
+    loads: &[u32; 3200],
+    e: Energies,
+    verdicts: [Verdict; 128],
+    at: usize,
+) -> Verdict
+    requires { ⌜ Within s × (at < s .standing) × (e ≡ getD (s .energies) at bareEnergies) × Loaded s (now loads) ⌝ }
     ensures { λ r. ⌜ JudgesAt s verdicts at r ⌝ }
 {
     let lodgements = s.lodgements;
@@ -74,10 +84,10 @@ pub fn judge_place(s: Session, verdicts: [Verdict; 128], at: usize) -> Verdict
     let notices = s.notices;
     let notice = notices[p];
     let capacities = s.capacities;
-    let energies = s.energies;
-    let e = energies[at];
     let own = e.energies;
     let counted = accepted_on(unit, verdicts, lodgements);
+    let found = counted_places(&counted, s.standing);
+    let others = found.at;
     let hours = s.hours as usize;
     let j = judge_energy(
         u,
@@ -85,9 +95,9 @@ pub fn judge_place(s: Session, verdicts: [Verdict; 128], at: usize) -> Verdict
         capacities,
         false,
         own,
-        &counted,
-        s.standing,
-        energies,
+        loads,
+        &others,
+        found.count,
         hours,
     );
     verdict_by(j)

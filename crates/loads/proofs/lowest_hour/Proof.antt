@@ -1,27 +1,27 @@
 use Prim.Native.Nat.{suc, _+_, _-_, _*_, _≤_}
-use mathlib.Core.Path.{_≡_, refl, sym, _∙_}
+use mathlib.Core.Path.{_≡_, refl, ap, _∙_}
 use native.Mathlib.Omega.{arith}
 use lib.ListN.{take}
 use Rattle.rules.specs.Lodging.{passedAt}
-use Rattle.loads.specs.Loads.{loadIn, laid}
-use Rattle.loads.proofs.LoadLaws.{restIn, rest-start, rest-again, rest-end, unnamed, over, within, NoneTo, none-start, none-next, none-all, none-found}
+use Rattle.loads.specs.Loads.{loadAt, laid}
+use Rattle.loads.proofs.LoadLaws.{restAt, rest-start, rest-again, rest-end, unnamed, over, within, NoneTo, none-start, none-next, none-all, none-found}
 use borrow.Author.Needs.{needs}
 use Rattle.loads.proofs.lowest_hour.Statement.{statement}
 use Rattle.loads.proofs.lowest_hour.Tie as tie
 
 abbrev Inv-loop : tie.InvT-loop
-Inv-loop counted n hours own energies limit passed₀ h₀ named most sum₀ l₀ passed h sum l =
-    (l ≤ n) × (passed ≡ passed₀) × (h ≡ h₀) × (sum ≤ 4294967296 * (l + 1)) × (sum + restIn (suc h₀) counted energies n l ≡ loadIn own counted (take n energies) (suc h₀))
+Inv-loop loads at count hours own limit passed₀ h₀ named most sum₀ l₀ passed h sum l =
+    (l ≤ count) × (passed ≡ passed₀) × (h ≡ h₀) × (sum ≤ 4294967296 * (l + 1)) × (sum + restAt (suc h₀) loads at count l ≡ loadAt own loads (take count at) (suc h₀))
 
 abbrev μ-loop : tie.MeasureT-loop
-μ-loop counted n hours own energies limit passed₀ h₀ named most sum₀ l₀ passed h sum l = n - l
+μ-loop loads at count hours own limit passed₀ h₀ named most sum₀ l₀ passed h sum l = count - l
 
 abbrev Inv-hours : tie.InvT-hours
-Inv-hours counted n hours own energies limit passed₀ h₀ passed h =
-    (h ≤ hours) × (passed ≡ 0) × NoneTo (passedAt own (loadIn own counted (take n energies)) (laid limit)) h
+Inv-hours loads at count hours own limit passed₀ h₀ passed h =
+    (h ≤ hours) × (passed ≡ 0) × NoneTo (passedAt own (loadAt own loads (take count at)) (laid limit)) h
 
 abbrev μ-hours : tie.MeasureT-hours
-μ-hours counted n hours own energies limit passed₀ h₀ passed h = hours - h
+μ-hours loads at count hours own limit passed₀ h₀ passed h = hours - h
 
 hours-holds : tie.Need-hours-holds Inv-loop μ-loop Inv-hours μ-hours
 hours-holds c = (omega arith, refl, none-start _)
@@ -63,7 +63,7 @@ loop-holds c =
       refl,
       refl,
       omega arith,
-      rw (c .wide .ensures .0) (rest-start (a .t1) (a .counted .now) (a .t4) (a .n) (o .h)),
+      rw (c .wide .ensures .0) (rest-start (a .t1) (a .loads .now) (a .at .now) (a .count) (o .h)),
     )
 
 cast-passed : tie.Need-cast-passed Inv-loop μ-loop Inv-hours μ-hours
@@ -83,23 +83,35 @@ hours-again-2 c =
     let s = c .before .before .loop in
     let o = c .before .before .before .before .before .before .hours in
     let a = c .before .before .before .before .before .before .before .args in
-    let e = rest-end (suc (o .h)) (a .counted .now) (a .t4) (a .n) (s .l) (omega arith) (omega arith) in (
+    let e = rest-end (suc (o .h)) (a .loads .now) (a .at .now) (a .count) (s .l) (omega arith) (omega arith) in (
       omega arith,
       s .inv .1 ∙ o .inv .1,
       rw (s .inv .2) (none-next _ (o .h) (o .inv .2) (within _ _ _ (o .h) (omega (arith, e, s .inv .4)))),
     )
 
-mul-e : tie.Need-mul-e Inv-loop μ-loop Inv-hours μ-hours
-mul-e c = search needs
+mul-place : tie.Need-mul-place Inv-loop μ-loop Inv-hours μ-hours
+mul-place c = search needs
 
-array-copy-out-e : tie.Need-array-copy-out-e Inv-loop μ-loop Inv-hours μ-hours
-array-copy-out-e c = search needs
+element-copy-out-place : tie.Need-element-copy-out-place Inv-loop μ-loop Inv-hours μ-hours
+element-copy-out-place c = search needs
 
-element-copy-out-added : tie.Need-element-copy-out-added Inv-loop μ-loop Inv-hours μ-hours
-element-copy-out-added c = search needs
+mul-more : tie.Need-mul-more Inv-loop μ-loop Inv-hours μ-hours
+mul-more c = let k = c .before .before .before .before .before .before .before .before .pre .3 (c .before .before .before .loop .l) (omega arith) in record { fits = omega arith }
 
-added-requires : tie.Need-added-requires Inv-loop μ-loop Inv-hours μ-hours
-added-requires c κs = search needs
+add-more : tie.Need-add-more Inv-loop μ-loop Inv-hours μ-hours
+add-more c = let k = c .before .before .before .before .before .before .before .before .pre .3 (c .before .before .before .loop .l) (omega arith) in record { fits = omega arith }
+
+mul-more-2 : tie.Need-mul-more-2 Inv-loop μ-loop Inv-hours μ-hours
+mul-more-2 c = let k = c .before .before .before .before .before .before .before .before .pre .3 (c .before .before .before .loop .l) (omega arith) in record { fits = omega arith }
+
+element-copy-out-more : tie.Need-element-copy-out-more Inv-loop μ-loop Inv-hours μ-hours
+element-copy-out-more c = let k = c .before .before .before .before .before .before .before .before .pre .3 (c .before .before .before .loop .l) (omega arith) in search needs
+
+wide-requires-2 : tie.Need-wide-requires-2 Inv-loop μ-loop Inv-hours μ-hours
+wide-requires-2 c κs = search needs
+
+add-sum : tie.Need-add-sum Inv-loop μ-loop Inv-hours μ-hours
+add-sum c = search needs
 
 add-l : tie.Need-add-l Inv-loop μ-loop Inv-hours μ-hours
 add-l c = search needs
@@ -116,7 +128,7 @@ loop-again c =
       s .inv .1,
       s .inv .2,
       omega arith,
-      rest-again (o .h) (a .counted .now) (a .t4) (a .n) (s .l) (s .sum) (omega arith) (omega arith) (s .inv .2) (c .added .ensures .0) (s .inv .4),
+      rest-again (o .h) (a .loads .now) (a .at .now) (a .count) (s .l) (s .sum) (omega arith) (omega arith) (s .inv .2) (ap (λ x. s .sum + x) (c .wide2 .ensures .0)) (s .inv .4),
     )
 
 returns : tie.Need-returns Inv-loop μ-loop Inv-hours μ-hours
@@ -151,10 +163,14 @@ lowest-hour-spec =
     add-h-2
     hours-less-2
     hours-again-2
-    mul-e
-    array-copy-out-e
-    element-copy-out-added
-    added-requires
+    mul-place
+    element-copy-out-place
+    mul-more
+    add-more
+    mul-more-2
+    element-copy-out-more
+    wide-requires-2
+    add-sum
     add-l
     loop-less
     loop-again

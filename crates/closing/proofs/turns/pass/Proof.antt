@@ -1,5 +1,5 @@
 use Prim.Native.Nat.{_≤_, _-_}
-use mathlib.Core.Path.{_≡_, _∙_}
+use mathlib.Core.Path.{_≡_, refl, _∙_}
 use native.Mathlib.Omega.{arith}
 use lib.ListN.{length, length-set}
 use Rattle.closing.proofs.PassLaws.{Left, left-start, left-end, left-taken, left-past}
@@ -8,10 +8,10 @@ use Rattle.closing.proofs.turns.pass.Statement.{statement}
 use Rattle.closing.proofs.turns.pass.Tie as tie
 
 abbrev Inv-loop : tie.InvT-loop
-Inv-loop s turn given₀ n passed₀ given passed = (passed ≤ s .standing) × (length given ≡ 128) × Left s turn given₀ (s .standing - passed) given
+Inv-loop s loads turn given₀ energies n passed₀ given passed = (passed ≤ s .standing) × (length given ≡ 128) × Left s turn given₀ (s .standing - passed) given
 
 abbrev μ-loop : tie.MeasureT-loop
-μ-loop s turn given₀ n passed₀ given passed = s .standing - passed
+μ-loop s loads turn given₀ energies n passed₀ given passed = s .standing - passed
 
 loop-holds : tie.Need-loop-holds Inv-loop μ-loop
 loop-holds c = (omega arith, omega arith, left-start _ _ _ _ (omega arith))
@@ -25,8 +25,14 @@ sub-at c = search needs
 takes-requires : tie.Need-takes-requires Inv-loop μ-loop
 takes-requires c κs = search needs
 
+mul-e : tie.Need-mul-e Inv-loop μ-loop
+mul-e c = search needs
+
+array-copy-out-e : tie.Need-array-copy-out-e Inv-loop μ-loop
+array-copy-out-e c = search needs
+
 judge-place-requires : tie.Need-judge-place-requires Inv-loop μ-loop
-judge-place-requires c κs = search needs
+judge-place-requires c κs = (c .before .before .before .before .before .before .pre .0, search needs, refl, c .before .before .before .before .before .before .pre .1)
 
 mul-given : tie.Need-mul-given Inv-loop μ-loop
 mul-given c = search needs
@@ -38,16 +44,16 @@ loop-less : tie.Need-loop-less Inv-loop μ-loop
 loop-less c = search needs
 
 loop-again : tie.Need-loop-again Inv-loop μ-loop
-loop-again c = (omega arith, (simp length-set) ∙ c .before .before .before .before .loop .inv .1, left-taken (c .before .before .before .before .before .args .s) (c .before .before .before .before .before .args .turn) (c .before .before .before .before .before .args .verdicts) (c .before .before .before .before .before .args .s .standing - c .before .before .before .before .loop .passed) _ _ (c .before .before .before .before .loop .given) (omega arith) (omega arith) (omega arith) (c .before .before .before .before .loop .inv .2) (c .before .before .takes .result) (c .judge-place .result) (omega arith) (c .before .before .takes .ensures) (c .before .if1 .taken) (c .judge-place .ensures))
+loop-again c = (omega arith, (simp length-set) ∙ c .before .before .before .before .before .loop .inv .1, left-taken (c .before .before .before .before .before .before .before .args .s) (c .before .before .before .before .before .before .before .args .turn) (c .before .before .before .before .before .before .before .args .verdicts) (c .before .before .before .before .before .before .before .args .s .standing - c .before .before .before .before .before .loop .passed) _ _ (c .before .before .before .before .before .loop .given) (omega arith) (omega arith) (omega arith) (c .before .before .before .before .before .loop .inv .2) (c .before .before .before .takes .result) (c .judge-place .result) (omega arith) (c .before .before .before .takes .ensures) (c .before .before .if1 .taken) (c .judge-place .ensures))
 
 loop-less-2 : tie.Need-loop-less-2 Inv-loop μ-loop
 loop-less-2 c = search needs
 
 loop-again-2 : tie.Need-loop-again-2 Inv-loop μ-loop
-loop-again-2 c = (omega arith, c .before .before .before .loop .inv .1, left-past (c .before .before .before .before .args .s) (c .before .before .before .before .args .turn) (c .before .before .before .before .args .verdicts) (c .before .before .before .before .args .s .standing - c .before .before .before .loop .passed) _ _ (c .before .before .before .loop .given) (omega arith) (omega arith) (omega arith) (c .before .before .before .loop .inv .2) (c .before .takes .result) (c .before .takes .ensures) (c .if1 .left))
+loop-again-2 c = (omega arith, c .before .before .before .loop .inv .1, left-past (c .before .before .before .before .before .args .s) (c .before .before .before .before .before .args .turn) (c .before .before .before .before .before .args .verdicts) (c .before .before .before .before .before .args .s .standing - c .before .before .before .loop .passed) _ _ (c .before .before .before .loop .given) (omega arith) (omega arith) (omega arith) (c .before .before .before .loop .inv .2) (c .before .takes .result) (c .before .takes .ensures) (c .if1 .left))
 
 returns : tie.Need-returns Inv-loop μ-loop
-returns c = left-end (c .before .before .args .s) (c .before .before .args .turn) (c .before .before .args .verdicts) (c .before .before .args .s .standing - c .before .loop .passed) (c .before .loop .given) (omega arith) (c .before .loop .inv .2)
+returns c = left-end (c .before .before .before .args .s) (c .before .before .before .args .turn) (c .before .before .before .args .verdicts) (c .before .before .before .args .s .standing - c .before .loop .passed) (c .before .loop .given) (omega arith) (c .before .loop .inv .2)
 
 pub pass-spec : {M : Type 1} → statement M
 pass-spec =
@@ -59,6 +65,8 @@ pass-spec =
     add-passed
     sub-at
     takes-requires
+    mul-e
+    array-copy-out-e
     judge-place-requires
     mul-given
     array-set-from-given
