@@ -2,14 +2,13 @@
 ghost use mathlib.Core.Path.{_≡_};
 ghost use mathlib.Core.Bool.{cond};
 ghost use mathlib.Core.List.{map};
-ghost use Prim.Native.Nat.{ℕ, _+_, _≤_};
-ghost use lib.ListN.{take, replicate};
+ghost use Prim.Native.Nat.{ℕ, _+_, _<_, _≤_};
+ghost use lib.ListN.{getD, take, length, replicate};
 ghost use Rattle.rules.specs.Lists.{addEach};
 ghost use Rattle.rules.specs.Units.{borderSum};
 ghost use Rattle.loads.specs.Loads.{loadAt};
 ghost use Rattle.limits.specs.Limits.{noticeIn, lowestRow, judgedIn, noBorderLimit, borderAt};
 use loads::lowest_hour;
-use session::Energies;
 use session::Judged;
 use session::Notice;
 use session::Unit;
