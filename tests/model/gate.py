@@ -13,6 +13,8 @@ import re
 import sys
 from collections import namedtuple
 
+import report
+
 ENERGY_MOST = 99_999            # tenths of MWh
 PRICE_MOST = 18_030             # hundredths of a euro per MWh
 NUMBER_MOST = 65_535            # unit, agent, contract and lodging numbers
@@ -430,6 +432,7 @@ class DayBook:
 
     def __init__(self, year, month, day):
         self.hours = hours_of_day(year, month, day)
+        self.date = (year, month, day)
         self.units = {}                 # number -> Unit
         self.capacities = {}            # (border, direction) -> H energies; the rest are absent
         self.availables = {}            # unit number -> H energies
@@ -733,10 +736,12 @@ class Rehearsal:
         self.calls = self.refused = self.not_understood = 0
 
     def answer(self, text):
-        """The answer to one line, or None for a comment or a blank line."""
+        """The answer to one line, or None for a comment or a blank line. A report has further lines behind its first."""
         text = text.strip()
         if not text or text.startswith("#"):
             return None
+        if text.split() == ["report"]:      # no call
+            return "\n".join(["report", *report.report(self.book, sys.modules[__name__])])
         try:
             call = self.call_of(Words(text))
         except NotUnderstood:
@@ -853,13 +858,18 @@ class Rehearsal:
         return f"limit {verdict[1]} {WORDS[verdict[1]]} hour {verdict[2]}"
 
 
+def first_lines(told):
+    """{place: answer}: the first line of each answer among those told. Behind it a report's lines start with a blank or are empty."""
+    return {int(place): answer for place, colon, answer in (line.partition(": ") for line in told) if colon and place.isdecimal()}
+
+
 def rehearse(lines):
     """Every answer of a rehearsal day, as lines of text."""
     rehearsal = Rehearsal()
     for place, text in enumerate(lines, start=1):
         answer = rehearsal.answer(text)
         if answer is not None:
-            yield f"{place}: {answer}"
+            yield from f"{place}: {answer}".split("\n")
     yield (f"{rehearsal.calls} calls, {rehearsal.refused} refused, "
            f"{rehearsal.not_understood} not understood")
 

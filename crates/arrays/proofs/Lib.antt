@@ -3,3 +3,4 @@ pub mod NumberLaws
 pub mod SliceLaws
 pub mod SortLaws
 pub mod TestLaws
+pub mod LayLaws

@@ -50,6 +50,11 @@ pub map-all : {A B : Type 0} (f g : A → B) {xs : List A} → All (λ x. f x �
 map-all f g none = refl
 map-all f g (more h t) = ap₂ (λ x xs. x ∷ xs) h (map-all f g t)
 
+-- one over what another map gives
+pub map-both : {A B C : Type 0} (f : A → C) (g : B → C) (k : A → B) {is : List A} → All (λ i. f i ≡ g (k i)) is → map f is ≡ map g (map k is)
+map-both f g k none = refl
+map-both f g k (more h t) = ap₂ (λ x xs. x ∷ xs) h (map-both f g k t)
+
 pub vals-next : (a : List ℕ) (i n : ℕ) → i < n → vals a i n ≡ getD a i 0 ∷ vals a (i + 1) n
 unfolding vals
 vals-next a i n h = rw (from-next n i h)

@@ -22,7 +22,7 @@ use Rattle.session.proofs.ImageLaws.{lodgements-as, energies-as}
 use Rattle.session.specs.declared.Key.{Key}
 use Rattle.session.specs.declared.Lodgement.{Lodgement}
 use Rattle.session.specs.declared.Session.{Session}
-use Rattle.limits.specs.Loads.{marked, energyIn, loadIn}
+use Rattle.loads.specs.Loads.{marked, energyIn, loadIn}
 use Rattle.message.specs.View.{fieldsIn}
 use Rattle.message.specs.declared.Fields.{Fields}
 use Rattle.keys.specs.Keys.{keyFor, hiding}

@@ -1,4 +1,3 @@
 pub mod WayLaws
 pub mod FlowLaws
 pub mod LimitLaws
-pub mod CutLaws

@@ -1,10 +1,11 @@
 // Dates, the hours of a day and their clock names (document 01, "Hours of the day").
 ghost use mathlib.Core.Path.{_≡_};
 ghost use mathlib.Core.Bool.{true};
-ghost use Prim.Native.Nat.{_-_, _≤_};
-ghost use Rattle.rules.specs.Hours.{leap, daysOfMonth, isDate, daysBefore, dayNumber, lastSunday, hoursOf, clockName, clockOf, hourOf, hoursAt, clockAt, hourAt};
+ghost use Prim.Native.Nat.{_≤_};
+ghost use Rattle.rules.specs.Hours.{isDate, hoursOf, clockName, clockOf, hourOf, hoursAt, clockAt, hourAt};
 ghost use Rattle.calendar.specs.View.{dateIn, clockIn, clockAs, countedAs, namedAs};
 
+#[repr(C)]
 pub struct Date {
     pub year: u32,
     pub month: u32,
@@ -12,6 +13,7 @@ pub struct Date {
 }
 
 // A clock name with its mark: the starting local hour, and whether it is marked "second".
+#[repr(C)]
 pub struct Clock {
     pub name: u32,
     pub second: bool,
@@ -35,104 +37,18 @@ const DATE: u32 = 1;
 // Row 4: an hour or a clock name that the day lacks.
 const HOUR: u32 = 4;
 
-// Of centuries only each fourth is a leap year.
-fn is_leap(year: u32) -> bool
-    ensures { λ r. ⌜ r ≡ leap year ⌝ }
-{
-    if year % 400 == 0 {
-        return true;
-    }
-    if year % 100 == 0 {
-        return false;
-    }
-    year % 4 == 0
-}
-
-fn days_of_month(year: u32, month: u32) -> u32
-    ensures { λ r. ⌜ r ≡ daysOfMonth year month ⌝ }
-{
-    match month {
-        2 => if is_leap(year) { 29 } else { 28 },
-        4 | 6 | 9 | 11 => 30,
-        _ => 31,
-    }
-}
-
 // "Dates run from 2002-01-01 to 2099-12-31, Gregorian."
 pub fn is_date(d: Date) -> bool
     ensures { λ r. ⌜ r ≡ isDate (dateIn d) ⌝ }
 {
-    if d.year < 2002 {
-        return false;
-    }
-    if 2099 < d.year {
-        return false;
-    }
-    if d.month < 1 {
-        return false;
-    }
-    if 12 < d.month {
-        return false;
-    }
-    if d.day < 1 {
-        return false;
-    }
-    d.day <= days_of_month(d.year, d.month)
-}
-
-// The days of a year in its first months.
-fn days_before(year: u32, months: u32) -> u64
-    requires { ⌜ months ≤ 12 ⌝ }
-    ensures { λ r. ⌜ r ≡ daysBefore year months ⌝ }
-{
-    let mut days: u64 = 0;
-    for m in 0..months {
-        days += days_of_month(year, m + 1) as u64;
-    }
-    days
-}
-
-// The years before a year, counted from year 1: none before year 0, as the definition has it.
-fn years_before(year: u32) -> u64
-    ensures { λ r. ⌜ r ≡ year - 1 ⌝ }
-{
-    if year == 0 {
-        return 0;
-    }
-    (year - 1) as u64
-}
-
-// The day's number, 1 on 0001-01-01, a Monday. 64 bits hold it for every year and day of 32.
-fn day_number(d: Date) -> u64
-    requires { ⌜ (1 ≤ d .month) × (d .month ≤ 12) ⌝ }
-    ensures { λ r. ⌜ r ≡ dayNumber (dateIn d) ⌝ }
-{
-    let y = years_before(d.year);
-    let before = days_before(d.year, d.month - 1);
-    y * 365 + y / 4 - y / 100 + y / 400 + before + d.day as u64
-}
-
-// A Sunday with no other in the rest of its month.
-fn is_last_sunday(d: Date) -> bool
-    requires { ⌜ (1 ≤ d .month) × (d .month ≤ 12) ⌝ }
-    ensures { λ r. ⌜ r ≡ lastSunday (dateIn d) ⌝ }
-{
-    if day_number(d) % 7 == 0 {
-        return (days_of_month(d.year, d.month) as u64) < d.day as u64 + 7;
-    }
-    false
+    dates::is_date(d.year, d.month, d.day)
 }
 
 // "the last Sunday of March has H = 23 hours, the last Sunday of October 25, other days 24": of any date, in the range or not.
 pub fn hours_of(d: Date) -> u32
     ensures { λ r. ⌜ r ≡ hoursOf (dateIn d) ⌝ }
 {
-    let month = d.month;
-    match month {
-        3 => if is_last_sunday(d) { 23 } else { 24 },
-        10 => if is_last_sunday(d) { 25 } else { 24 },
-        _ => 24,
-    }
+    dates::hours_of(d.year, d.month, d.day)
 }
 
 // The number of hours of a date.

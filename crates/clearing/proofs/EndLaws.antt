@@ -41,11 +41,12 @@ use Rattle.session.specs.Parts.{Judges, Entered}
 use Rattle.session.proofs.LaidLaws.{map-last, set-pad}
 use Rattle.session.proofs.ImageLaws.{closed-as, cleared-as, hours-as, units-as}
 use Rattle.clearing.specs.declared.HourEnd.{HourEnd}
-use Rattle.clearing.specs.Built.{Holders, Built}
-use Rattle.clearing.specs.Shown.{clearedAs, HourAs, HoursAs}
-use Rattle.clearing.proofs.FigureLaws.{length-from}
-use Rattle.clearing.proofs.HourLaws.{hour-as}
-use Rattle.clearing.proofs.ReadyLaws.{hour-ready}
+use Rattle.gathering.specs.Built.{Holders, Built}
+use Rattle.keeping.specs.Shown.{clearedAs}
+use Rattle.clearing.specs.Hours.{HourAs, HoursAs}
+use Rattle.keeping.proofs.FigureLaws.{length-from}
+use Rattle.gathering.proofs.HourLaws.{hour-as}
+use Rattle.gathering.proofs.ReadyLaws.{hour-ready}
 
 -- One hour
 

@@ -1,8 +1,1 @@
-pub mod ColumnLaws
-pub mod PlaceLaws
-pub mod ListLaws
-pub mod DayLaws
-pub mod HourLaws
-pub mod ReadyLaws
-pub mod FigureLaws
 pub mod EndLaws

@@ -3,8 +3,8 @@ ghost use Prim.Native.Nat.{_<_};
 ghost use Rattle.rules.specs.DayBook.{clear};
 ghost use Rattle.session.specs.Steps.{Met};
 ghost use Rattle.session.specs.Parts.{Within, Judges, Entered};
-ghost use Rattle.clearing.specs.Built.{Holders};
-ghost use Rattle.clearing.specs.Shown.{HourAs, HoursAs};
+ghost use Rattle.gathering.specs.Built.{Holders};
+ghost use Rattle.clearing.specs.Hours.{HourAs, HoursAs};
 use session::Answer;
 use session::Cleared;
 use session::GATE;
@@ -12,27 +12,6 @@ use session::Judged;
 use session::Session;
 use session::Turn;
 use session::Unit;
-
-mod figures;
-mod hours;
-
-// The places of some of the session's lodgements, in the order of their numbers.
-pub struct Places {
-    pub count: usize,
-    pub at: [usize; 128],
-}
-
-// What the lodgements at some places have in an hour.
-pub struct Slots {
-    pub energy: [u32; 128],
-    pub price: [u32; 128],
-}
-
-// Capacities of an hour by direction (`borders::way`): whether published, and the energy.
-pub struct Published {
-    pub flags: [bool; 10],
-    pub energies: [u32; 10],
-}
 
 // An hour's withdrawal steps and figures.
 pub struct HourEnd {
@@ -52,11 +31,11 @@ fn clear_hour(s: Session, holders: [Unit; 128], k: usize) -> HourEnd
     requires { ⌜ Within s × Holders s holders × (k < 25) ⌝ }
     ensures { λ r. ⌜ HourAs s k r ⌝ }
 {
-    let h = hours::hour_at(s, holders, k);
+    let h = gathering::hour_at(s, holders, k);
     let c = hour::clear(h);
     let f = c.figures;
     let units = s.units;
-    let figures = figures::kept(units, s.enrolled, h, f);
+    let figures = keeping::kept(units, s.enrolled, h, f);
     HourEnd {
         steps: f.steps,
         figures,
@@ -68,7 +47,7 @@ fn clear_hours(s: Session) -> DayEnd
     requires { ⌜ Within s ⌝ }
     ensures { λ r. ⌜ HoursAs s (s .hours) (r .figures) (r .steps) ⌝ }
 {
-    let holders = hours::holders(s);
+    let holders = gathering::holders(s);
     let none = session::no_figures();
     let n = s.hours as usize;
     let mut figures = [none; 25];

@@ -19,8 +19,8 @@ use Rattle.session.specs.declared.Judged.the-variants.{No, Clear}
 use Rattle.session.proofs.ImageLaws.{closed-as, standing-as}
 use Rattle.session.proofs.SoundLaws.{open-stage}
 use Rattle.session.proofs.StepLaws.{open-row}
-use Rattle.closing.specs.Turns.{PassesTurn}
-use Rattle.closing.proofs.TurnLaws.{reached-first, reached-next, reached-end}
+use Rattle.closing.specs.Passes.{PassesTurn}
+use Rattle.validation.proofs.TurnLaws.{reached-first, reached-next, reached-end}
 
 -- 2: "closing [..] twice"
 module _ (s : Session) where

@@ -1,6 +1,3 @@
-pub mod CountLaws
-pub mod TurnLaws
-pub mod StandingLaws
-pub mod JudgeLaws
+pub mod TakeLaws
 pub mod PassLaws
 pub mod CloseLaws

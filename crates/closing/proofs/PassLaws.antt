@@ -10,8 +10,9 @@ use Rattle.session.specs.Image.{image, Sound, verdictAs}
 use Rattle.session.specs.declared.Session.{Session}
 use Rattle.session.specs.declared.Verdict.{Verdict}
 use Rattle.session.proofs.ImageLaws.{standing-as}
-use Rattle.closing.specs.Turns.{verdictAt, isTaken, Reached, TakesAt, JudgesAt, PassesTurn}
-use Rattle.closing.proofs.TurnLaws.{reached-past, reached-taken}
+use Rattle.validation.specs.Turns.{verdictAt, isTaken, Reached, JudgesAt}
+use Rattle.closing.specs.Passes.{TakesAt, PassesTurn}
+use Rattle.validation.proofs.TurnLaws.{reached-past, reached-taken}
 
 module _ (s : Session) (turn : ℕ) (start : List Verdict) where
   -- with some places left

@@ -3,7 +3,7 @@ ghost use mathlib.Core.Path.{_≡_};
 ghost use Rattle.rules.specs.DayBook.{close};
 ghost use Rattle.session.specs.Steps.{Met};
 ghost use Rattle.session.specs.Parts.{Within, Entered};
-use limits::loads_of;
+use loads::loads_of;
 use session::Answer;
 use session::GATE;
 use session::Session;
@@ -14,7 +14,6 @@ use turns::NORMAL;
 use turns::OFFERS;
 use turns::pass;
 
-mod judging;
 mod turns;
 
 // "normal executions, default executions, offers"

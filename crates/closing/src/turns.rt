@@ -4,13 +4,14 @@ ghost use Prim.Native.Nat.{ℕ, _<_};
 ghost use lib.ListN.{getD};
 ghost use Rattle.session.specs.Image.{noLodgement};
 ghost use Rattle.session.specs.Parts.{Within};
-ghost use Rattle.closing.specs.Turns.{Loaded, turnIn, TakesAt, PassesTurn};
-use crate::judging::judge_place;
+ghost use Rattle.validation.specs.Turns.{Loaded};
+ghost use Rattle.closing.specs.Passes.{turnIn, TakesAt, PassesTurn};
 use keys::is_hidden;
 use session::Key;
 use session::Lodgement;
 use session::Session;
 use session::Verdict;
+use validation::judge_place;
 
 // The turns in which lodgements are taken.
 pub const NORMAL: u32 = 0;

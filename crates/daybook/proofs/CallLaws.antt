@@ -1,7 +1,7 @@
 -- Which call a record says, by its kind.
 use Prim.Native.Nat.{ℕ}
-use mathlib.Core.Path.{_≡_, sym}
-use mathlib.Core.Bool.{true, false}
+use mathlib.Core.Path.{_≡_, refl, ap, sym}
+use mathlib.Core.Bool.{false}
 use mathlib.Core.List.{List}
 use lib.Dec.{eqb}
 use Rattle.rules.specs.Units.{TradingUnit, Capacities}
@@ -17,32 +17,35 @@ use Rattle.log.specs.Calls.{callOf, unitOf, keyOf, directionsOf, numbersAt}
 pub met-as : (s : Session) (c d : D.Call) (r : Turn) → c ≡ d → Met s c r → Met s d r
 met-as s c d r e m = rw (sym e) m
 
-module _ (k : ℕ) (p : List ℕ) where
-  pub call-1 : (u : TradingUnit) → eqb k 1 ≡ true → u ≡ unitOf p → D.register u ≡ callOf k p
-  unfolding callOf
-  call-1 u a e = rw (a, e)
+-- a record's call is that of its kind
+pub of-kind : (s : Session) (k n : ℕ) (p : List ℕ) (r : Turn) → k ≡ n → Met s (callOf n p) r → Met s (callOf k p) r
+of-kind s k n p r e m = rw e m
 
-  pub call-2 : (cs : Capacities) → eqb k 1 ≡ false → eqb k 2 ≡ true → cs ≡ directionsOf p → D.capacity cs ≡ callOf k p
+module _ (p : List ℕ) where
+  pub call-1 : (u : TradingUnit) → u ≡ unitOf p → D.register u ≡ callOf 1 p
   unfolding callOf
-  call-2 cs h1 a e = rw (h1, a, e)
+  call-1 u e = ap D.register e
 
-  pub call-3 : (n m : ℕ) (es : List ℕ) → eqb k 1 ≡ false → eqb k 2 ≡ false → eqb k 3 ≡ true → n ≡ wordAt p 0 → m ≡ wordAt p 4 → es ≡ numbersAt p 8
-      → D.available n (counted m es) ≡ callOf k p
+  pub call-2 : (cs : Capacities) → cs ≡ directionsOf p → D.capacity cs ≡ callOf 2 p
   unfolding callOf
-  call-3 n m es h1 h2 a x y z = rw (h1, h2, a, x, y, z)
+  call-2 cs e = ap D.capacity e
 
-  pub call-4 : eqb k 1 ≡ false → eqb k 2 ≡ false → eqb k 3 ≡ false → eqb k 4 ≡ true → D.lodge p ≡ callOf k p
+  pub call-3 : (n m : ℕ) (es : List ℕ) → n ≡ wordAt p 0 → m ≡ wordAt p 4 → es ≡ numbersAt p 8 → D.available n (counted m es) ≡ callOf 3 p
   unfolding callOf
-  call-4 h1 h2 h3 a = rw (h1, h2, h3, a)
+  call-3 n m es x y z = rw (x, y, z)
 
-  pub call-5 : (key : Key) → eqb k 1 ≡ false → eqb k 2 ≡ false → eqb k 3 ≡ false → eqb k 4 ≡ false → eqb k 5 ≡ true → key ≡ keyOf p → D.annul key ≡ callOf k p
+  pub call-4 : D.lodge p ≡ callOf 4 p
   unfolding callOf
-  call-5 key h1 h2 h3 h4 a e = rw (h1, h2, h3, h4, a, e)
+  call-4 = refl
 
-  pub call-6 : eqb k 1 ≡ false → eqb k 2 ≡ false → eqb k 3 ≡ false → eqb k 4 ≡ false → eqb k 5 ≡ false → eqb k 6 ≡ true → D.close ≡ callOf k p
+  pub call-5 : (key : Key) → key ≡ keyOf p → D.annul key ≡ callOf 5 p
   unfolding callOf
-  call-6 h1 h2 h3 h4 h5 a = rw (h1, h2, h3, h4, h5, a)
+  call-5 key e = ap D.annul e
 
-  pub call-7 : eqb k 1 ≡ false → eqb k 2 ≡ false → eqb k 3 ≡ false → eqb k 4 ≡ false → eqb k 5 ≡ false → eqb k 6 ≡ false → D.clear ≡ callOf k p
+  pub call-6 : D.close ≡ callOf 6 p
   unfolding callOf
-  call-7 h1 h2 h3 h4 h5 h6 = rw (h1, h2, h3, h4, h5, h6)
+  call-6 = refl
+
+  pub call-7 : (k : ℕ) → eqb k 1 ≡ false → eqb k 2 ≡ false → eqb k 3 ≡ false → eqb k 4 ≡ false → eqb k 5 ≡ false → eqb k 6 ≡ false → D.clear ≡ callOf k p
+  unfolding callOf
+  call-7 k h1 h2 h3 h4 h5 h6 = rw (h1, h2, h3, h4, h5, h6)

@@ -30,35 +30,51 @@ struct Head {
     size: usize,
 }
 
+// The calls that take more of a record than its bytes, each of its kind.
+
+fn run_register(s: Session, p: &[u8]) -> Turn
+    ensures { λ r. ⌜ Met s (callOf 1 (now (p .entry))) r ⌝ }
+{
+    let u = log::unit_of(p);
+    registry::register(s, u)
+}
+
+fn run_capacity(s: Session, p: &[u8]) -> Turn
+    ensures { λ r. ⌜ Met s (callOf 2 (now (p .entry))) r ⌝ }
+{
+    let directions = log::directions_of(p);
+    capacities::capacity(s, directions)
+}
+
+fn run_available(s: Session, p: &[u8]) -> Turn
+    ensures { λ r. ⌜ Met s (callOf 3 (now (p .entry))) r ⌝ }
+{
+    let number = log::number_at(p, 0);
+    let count = log::number_at(p, 4) as usize;
+    let energies = log::numbers_at(p, 8);
+    notices::available(s, number, count, energies)
+}
+
+fn run_annul(s: Session, p: &[u8]) -> Turn
+    ensures { λ r. ⌜ Met s (callOf 5 (now (p .entry))) r ⌝ }
+{
+    let key = log::key_of(p);
+    annulling::annul(s, key)
+}
+
 // The call of a record whose count of bytes is that of its kind.
 fn run_call(s: Session, kind: u8, p: &[u8]) -> Turn
     ensures { λ r. ⌜ Met s (callOf kind (now (p .entry))) r ⌝ }
 {
-    if kind == 1 {
-        let u = log::unit_of(p);
-        return s.register(u);
+    match kind {
+        1 => run_register(s, p),
+        2 => run_capacity(s, p),
+        3 => run_available(s, p),
+        4 => lodging::lodge::lodge(s, p),
+        5 => run_annul(s, p),
+        6 => closing::close(s),
+        _ => clearing::clear(s),
     }
-    if kind == 2 {
-        let directions = log::directions_of(p);
-        return s.capacity(directions);
-    }
-    if kind == 3 {
-        let number = log::number_at(p, 0);
-        let count = log::number_at(p, 4) as usize;
-        let energies = log::numbers_at(p, 8);
-        return s.available(number, count, energies);
-    }
-    if kind == 4 {
-        return lodging::lodge::lodge(s, p);
-    }
-    if kind == 5 {
-        let key = log::key_of(p);
-        return annulling::annul(s, key);
-    }
-    if kind == 6 {
-        return closing::close(s);
-    }
-    clearing::clear(s)
 }
 
 // Runs the call of one record. What is no call's record is refused as 3 and changes nothing.

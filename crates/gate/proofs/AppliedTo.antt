@@ -28,7 +28,6 @@ use denote.Signature.{plain}
 use denote.Steps.{only, opens, closes, owned, peeks, heard, nothing}
 use denote.Struct.Steps.{spelt}
 use denote.Struct.Laws as LL
-use denote.Enum.Laws as LE
 use denote.Triple.Statement.{Contract, Triple}
 use denote.Triple.Call.{calls-at}
 use denote.Triple.Clauses.{Ended, Clauses, ensured, lasts, closing}
@@ -37,13 +36,13 @@ use denote.Triple.Spec.{Meets, tripleOf}
 use denote.Triple.Walked.{says, Stays, stay-ref, stay-none, walkOf, AllGo, goes-ref, goes-none, Walks, ends-at, walked, walk-meets}
 use denote.Exit.{yes, unchanged}
 use Rattle.session.specs.declared.Session.{Session}
-use Rattle.session.specs.declared.Turn.{Turn}
+use Rattle.response.specs.declared.Stepped.{Stepped}
 use Rattle.session.proofs.Session as T
 use Rattle.session.proofs.Session.Laws as T′
-use Rattle.session.proofs.Turn as G
-use Rattle.session.proofs.Turn.Laws as G′
-use Rattle.session.proofs.Answer as N
-use Rattle.session.proofs.Answer.Laws as N′
+use Rattle.response.proofs.Stepped as G
+use Rattle.response.proofs.Stepped.Laws as G′
+use Rattle.response.proofs.Response as N
+use Rattle.response.proofs.Response.Laws as N′
 
 -- a plain type: its row but for what is seen at exit, which is what was passed
 pub record Passed : Type 2 where
@@ -88,20 +87,20 @@ function p callee = record {
 }
 
 -- its clauses, and those of what it calls, by what is promised
-abbrev pub entry-clauses : (p : Passed) → (Session → p .denot → Turn → Type 0) → {M : Type 1} (𝓤 : URA M) → Clauses 𝓤 (entry-ended p)
-entry-clauses p Good 𝓤 κs a = record { ghost = Unit {0}; requires = λ g. emp 𝓤; ensures = λ g r e. fact 𝓤 (Good (now (a .0)) (a .1 .0) (record { session = now (e .0); answer = r })) }
+abbrev pub entry-clauses : (p : Passed) → (Session → p .denot → Stepped → Type 0) → {M : Type 1} (𝓤 : URA M) → Clauses 𝓤 (entry-ended p)
+entry-clauses p Good 𝓤 κs a = record { ghost = Unit {0}; requires = λ g. emp 𝓤; ensures = λ g r e. fact 𝓤 (Good (now (a .0)) (a .1 .0) (record { session = now (e .0); response = r })) }
 
-abbrev pub step-clauses : (p : Passed) → (Session → p .denot → Turn → Type 0) → {M : Type 1} (𝓤 : URA M) → Clauses 𝓤 (step-ended p)
+abbrev pub step-clauses : (p : Passed) → (Session → p .denot → Stepped → Type 0) → {M : Type 1} (𝓤 : URA M) → Clauses 𝓤 (step-ended p)
 step-clauses p Good 𝓤 κs a = record { ghost = Unit {0}; requires = λ g. emp 𝓤; ensures = λ g r e. fact 𝓤 (Good (a .0) (a .1 .0) r) }
 
 abbrev stayed : (p : Passed) → Stays (entry-ended p .signature .params) (entry-ended p .kept)
 stayed p = (stay-ref (0 ∷ []) tt (plain (λ _. T.the-row)), (stay-none (λ _. row p) yes, tt))
 
 -- the contract that the proof cites
-abbrev pub Step : (p : Passed) → (Session → p .denot → Turn → Type 0) → {M : Type 1} (𝓤 : URA M) (H : Heap 𝓤) (A : Atoms 𝓤) → Contract 𝓤
+abbrev pub Step : (p : Passed) → (Session → p .denot → Stepped → Type 0) → {M : Type 1} (𝓤 : URA M) (H : Heap 𝓤) (A : Atoms 𝓤) → Contract 𝓤
 Step p Good 𝓤 H A = tripleOf 𝓤 H A (step-ended p .signature) (closing 𝓤 H A (step-ended p) (step-clauses p Good 𝓤))
 
-module _ (p : Passed) (l : Laws p) (callee : Name) (Good : Session → p .denot → Turn → Type 0) {M : Type 1} (𝓤 : URA M) (H : Heap 𝓤) (A : Atoms 𝓤) (W : Given 𝓤 H A) (κ : Lft) (q : Share) (b o : ℕ) (γ : GName) (h : Session) (u : p .denot) where
+module _ (p : Passed) (l : Laws p) (callee : Name) (Good : Session → p .denot → Stepped → Type 0) {M : Type 1} (𝓤 : URA M) (H : Heap 𝓤) (A : Atoms 𝓤) (W : Given 𝓤 H A) (κ : Lft) (q : Share) (b o : ℕ) (γ : GName) (h : Session) (u : p .denot) where
   abbrev x : RefT Session × (p .denot × Unit {0})
   x = (record { ptr = (b, o); name = γ; now = h }, (u, tt))
 
@@ -119,7 +118,7 @@ module _ (p : Passed) (l : Laws p) (callee : Name) (Good : Session → p .denot 
   Post = walkOf 𝓤 H A (entry-ended p) (stayed p) (entry-clauses p Good 𝓤) .post (((κ, tt), (q, tt), tt, x, at), tt)
 
   -- of the step's `ensured`, the clause alone
-  ensures-of : (r : Turn) → ent 𝓤 (ensured 𝓤 H A (step-ended p) (step-clauses p Good 𝓤) tt (h, (u, tt)) tt r) (fact 𝓤 (Good h u r))
+  ensures-of : (r : Stepped) → ent 𝓤 (ensured 𝓤 H A (step-ended p) (step-clauses p Good 𝓤) tt (h, (u, tt)) tt r) (fact 𝓤 (Good h u r))
   ensures-of r = exE 𝓤 _ (λ ws. snd∗ 𝓤 (sem 𝓤 H A (lasts (step-ended p) tt (h, (u, tt)) ws)) (fact 𝓤 (Good h u r)))
 
   abbrev to-step : Step p Good 𝓤 H A .Ghost
@@ -129,20 +128,20 @@ module _ (p : Passed) (l : Laws p) (callee : Name) (Good : Session → p .denot 
   goes-step gu = qed W (‵ (T.the-row .own h (sv h ∷ [])) ∷ []) ∵ nothing ! $ owned ! (row p) (Is (row p)) (l .makes 𝓤 H A W) u _ gu $ fjoin ! $ move ! (1 ∷ 0 ∷ []) $ fjoin ! $ nothing ! $ join ! $ frame ! $ done !
 
   -- what is known of the two parts of what the step returned
-  answered : (r : Turn) (v : Val) → Is G.the-row r (v ∷ []) → Is N.the-row (r .answer) (LE.vals N.the-type N′.the-laws (r .answer))
+  answered : (r : Stepped) (v : Val) → Is G.the-row r (v ∷ []) → Is N.the-row (r .response) (LL.vals N.the-type N′.the-laws (r .response))
   answered r v g = LL.owed G.the-type G′.the-laws r _ g .1 .0
 
-  left : (r : Turn) (v : Val) → Is G.the-row r (v ∷ []) → Is T.the-row (r .session) (sv (r .session) ∷ [])
+  left : (r : Stepped) (v : Val) → Is G.the-row r (v ∷ []) → Is T.the-row (r .session) (sv (r .session) ∷ [])
   left r v g = LL.owed G.the-type G′.the-laws r _ g .0
 
-  exits : (r : Turn) (v : Val) → Good h u r → Is (row p) u (v₁ ∷ []) → Is G.the-row r (v ∷ [])
-      → ent 𝓤 (sep 𝓤 (A .obs γ (T.the-row .coded .code (r .session))) (sep 𝓤 (A .bor κ (Body (mem T.the-row) b o γ)) (A .lft κ q))) (Post (LE.val N.the-type N′.the-laws (r .answer)))
+  exits : (r : Stepped) (v : Val) → Good h u r → Is (row p) u (v₁ ∷ []) → Is G.the-row r (v ∷ [])
+      → ent 𝓤 (sep 𝓤 (A .obs γ (T.the-row .coded .code (r .session))) (sep 𝓤 (A .bor κ (Body (mem T.the-row) b o γ)) (A .lft κ q))) (Post (LL.val N.the-type N′.the-laws (r .response)))
   exits r v e gu g =
       qed W (‵ (fobs γ (T.the-row .coded .code (r .session))) ∷ ‵ (fbor κ (Body (mem T.the-row) b o γ)) ∷ ‵ (flft κ q) ∷ []) ∵
-      suffices ! _ (ends-at 𝓤 H A (entry-ended p) (stayed p) (entry-clauses p Good 𝓤) W (((κ, tt), (q, tt), tt, x, at), tt) (LE.val N.the-type N′.the-laws (r .answer)) (r .answer) (r .session, (tt, tt)) (tt, (tt, tt))) $
+      suffices ! _ (ends-at 𝓤 H A (entry-ended p) (stayed p) (entry-clauses p Good 𝓤) W (((κ, tt), (q, tt), tt, x, at), tt) (LL.val N.the-type N′.the-laws (r .response)) (r .response) (r .session, (tt, tt)) (tt, (tt, tt))) $
       says ! e $ nothing ! $ move ! (3 ∷ 0 ∷ []) $ join ! $
       frame ! $ feqI ! (List Val) (vptr b o ∷ []) (vptr b o ∷ []) refl $ fjoin3 ! $ nothing ! $ owned ! (row p) (Is (row p)) (l .makes 𝓤 H A W) u _ gu $ fjoin ! $ move ! (1 ∷ 0 ∷ []) $ fjoin ! $
-      owned ! N.the-row (Is N.the-row) (LE.makes N.the-type N′.the-plain 𝓤 H A) (r .answer) _ (answered r v g) $ move ! (1 ∷ 0 ∷ []) $ done !
+      owned ! N.the-row (Is N.the-row) (LL.makes N.the-type N′.the-plain 𝓤 H A) (r .response) _ (answered r v g) $ move ! (1 ∷ 0 ∷ []) $ done !
 
   module _ (C : Calls 𝓤 H) (Λ : Loops 𝓤 H) (fm : FmC 𝓤 H (W .laws) C) (known : Triple 𝓤 (C callee) (Step p Good 𝓤 H A)) where
     walk : Is (row p) u (v₁ ∷ []) → ent 𝓤 (onEntry 𝓤 H A (entry-ended p .signature) (κ, tt) (q, tt) x at) (WpFn 𝓤 H C Λ (function p callee) (vptr b o ∷ v₁ ∷ []) Post)
@@ -158,20 +157,20 @@ module _ (p : Passed) (l : Laws p) (callee : Name) (Good : Session → p .denot 
         assigns ! (of-opd ! (load ! (from ! (hop ! (look ! 11 refl) (stop !))) (look-raw ! 0 refl))) (from ! (stop !)) (init ! 5 refl (LL.lawful T.the-type T′.the-laws 𝓤 H A W .typed h _ was .0)) $
         move ! (1 ∷ []) $ use1 W (raw (Step p Good 𝓤 H A .pre to-step)) (goes-step gu) $
         calls-at ! fm (Step p Good 𝓤 H A) known to-step (and-then ! (load ! (from ! (stop !)) (look ! 5 refl)) (and-then ! (load ! (from ! (stop !)) (look ! 9 refl)) (no-more !))) (λ v.
-        use1 W (later (some (λ (r : Turn). (‵ ftrue ⊛ ‵ (G.the-row .own r (v ∷ []))) ⊛ raw (ensured 𝓤 H A (step-ended p) (step-clauses p Good 𝓤) tt (h, (u, tt)) tt r)))) (id⊢ 𝓤 _) $ await ! tt $ pick ! (λ r.
+        use1 W (later (some (λ (r : Stepped). (‵ ftrue ⊛ ‵ (G.the-row .own r (v ∷ []))) ⊛ raw (ensured 𝓤 H A (step-ended p) (step-clauses p Good 𝓤) tt (h, (u, tt)) tt r)))) (id⊢ 𝓤 _) $ await ! tt $ pick ! (λ r.
         split ! $ move ! (1 ∷ []) $ use1 W (raw (fact 𝓤 (Good h u r))) (ensures-of r) $ heard ! (Good h u r) (λ e. split ! $ drop ! $
         peeks ! G.the-row (Is G.the-row) (shows 𝓤 H A G.the-row) r (v ∷ []) (λ is.
         -- [what the result owns; the session's cell; the open borrow; obs; auth; _4; …; _3; …; _2; …; _1; …; room for _0; …; …]
         land ! (from ! (stop !)) (init ! 7 refl (LL.lawful G.the-type G′.the-laws 𝓤 H A W .typed r _ is .0)) $ rewrite ! 7 (λ (w : Val). ‵ (fat fullShare G′.mir l₃ 0 w)) (ap only (LL.tells G.the-type G′.the-laws r _ is)) refl $
         assigns ! (of-opd ! (load ! (from ! (fld ! refl (stop !))) (look-in ! 7 (sub ! 0 refl (whole !))))) (from ! (hop ! (look ! 11 refl) (stop !))) (store-raw ! 1 refl (LL.lawful T.the-type T′.the-laws 𝓤 H A W .typed (r .session) _ (left r v is) .0)) $
-        assigns ! (of-opd ! (load ! (from ! (fld ! refl (stop !))) (look-in ! 7 (sub ! 1 refl (whole !))))) (from ! (stop !)) (init ! 13 refl (LE.lawful N.the-type N′.the-laws 𝓤 H A W tt .typed (r .answer) _ (answered r v is) .0)) $
+        assigns ! (of-opd ! (load ! (from ! (fld ! refl (stop !))) (look-in ! 7 (sub ! 1 refl (whole !))))) (from ! (stop !)) (init ! 13 refl (LL.lawful N.the-type N′.the-laws 𝓤 H A W .typed (r .response) _ (answered r v is) .0)) $
         drop ! $ owned ! T.the-row (Is T.the-row) (LL.makes T.the-type T′.the-plain 𝓤 H A) (r .session) _ (left r v is) $ move ! (1 ∷ 0 ∷ []) $ closes ! tt T.the-row (r .session) (LL.vals T.the-type T′.the-laws (r .session)) b o $
         -- [obs; the borrow; the token; _4; …; _3; …; _2; …; _1; …; _0; …; …]
         returns ! (look ! 11 refl) $ forget ! 3 refl $ forget ! 5 refl $ forget ! 7 refl $ forget ! 9 refl $ forget ! 11 refl $
         move ! (11 ∷ 12 ∷ []) $ free1 ! $ move ! (9 ∷ 10 ∷ []) $ free1 ! $ move ! (7 ∷ 8 ∷ []) $ free1 ! $ move ! (5 ∷ 6 ∷ []) $ free1 ! $ move ! (3 ∷ 4 ∷ []) $ free1 ! $ free0 ! $
         keep ! (0 ∷ 1 ∷ 2 ∷ []) $ by ! (exits r v e gu is))))))))))))
 
-module _ (p : Passed) (l : Laws p) (callee : Name) (Good : Session → p .denot → Turn → Type 0) {M : Type 1} (𝓤 : URA M) (H : Heap 𝓤) (A : Atoms 𝓤) (W : Given 𝓤 H A) where
+module _ (p : Passed) (l : Laws p) (callee : Name) (Good : Session → p .denot → Stepped → Type 0) {M : Type 1} (𝓤 : URA M) (H : Heap 𝓤) (A : Atoms 𝓤) (W : Given 𝓤 H A) where
   walks : (C : Calls 𝓤 H) (Λ : Loops 𝓤 H) → FmC 𝓤 H (W .laws) C → Triple 𝓤 (C callee) (Step p Good 𝓤 H A) → Walks 𝓤 H A (entry-ended p) (stayed p) (WpFn 𝓤 H C Λ (function p callee)) (entry-clauses p Good 𝓤)
   walks C Λ fm known = walked 𝓤 H A (entry-ended p) (stayed p) (entry-clauses p Good 𝓤) (WpFn 𝓤 H C Λ (function p callee)) (λ κs. (ptr-vals, ((λ y. l .val y ∷ []), tt))) (λ κs. (mut-tells (named 0) (κs .0) T.the-row, (l .tells, tt)))
       (λ κs qs bounds a g are. via 𝓤 _ (fst∗ 𝓤 _ (emp 𝓤)) (walk p l callee Good 𝓤 H A W (κs .0) (qs .0) (a .0 .ptr .0) (a .0 .ptr .1) (a .0 .name) (a .0 .now) (a .1 .0) C Λ fm known (are .1 .0)))
@@ -179,6 +178,6 @@ module _ (p : Passed) (l : Laws p) (callee : Name) (Good : Session → p .denot 
   goes : AllGo 𝓤 H A W 1 ((entry-ended p .signature) .params) (entry-ended p .kept) (stayed p)
   goes = (goes-ref 𝓤 H A W 1 0 tt (plain (λ _. T.the-row)), (goes-none 𝓤 H A W 1 (λ _. row p) yes (λ κs x f. refl), tt))
 
-pub meets : (p : Passed) (l : Laws p) (callee : Name) (Good : Session → p .denot → Turn → Type 0) {M : Type 1} (𝓤 : URA M) (H : Heap 𝓤) (A : Atoms 𝓤) → Given 𝓤 H A → (𝓣 : Tables 𝓤 H) → Triple 𝓤 (𝓣 .C callee) (Step p Good 𝓤 H A)
+pub meets : (p : Passed) (l : Laws p) (callee : Name) (Good : Session → p .denot → Stepped → Type 0) {M : Type 1} (𝓤 : URA M) (H : Heap 𝓤) (A : Atoms 𝓤) → Given 𝓤 H A → (𝓣 : Tables 𝓤 H) → Triple 𝓤 (𝓣 .C callee) (Step p Good 𝓤 H A)
     → Meets 𝓤 H A (entry-ended p .signature) (WpFn 𝓤 H (𝓣 .C) (𝓣 .Λ) (function p callee)) (closing 𝓤 H A (entry-ended p) (entry-clauses p Good 𝓤))
 meets p l callee Good 𝓤 H A W 𝓣 known = walk-meets 𝓤 H A (entry-ended p) (stayed p) W (goes p l callee Good 𝓤 H A W) (entry-clauses p Good 𝓤) (WpFn 𝓤 H (𝓣 .C) (𝓣 .Λ) (function p callee)) (WpFn-mono 𝓤 H (W .laws) 𝓣 (function p callee)) (walks p l callee Good 𝓤 H A W (𝓣 .C) (𝓣 .Λ) (fmOf 𝓤 H (W .laws) 𝓣) known)

@@ -1,136 +1,221 @@
-// "The session is lent to each call and changed in place": thin entries that apply the by-value steps.
-ghost use Rattle.rules.specs.DayBook.{register, available, capacity, lodge, annul, close, clear};
+// The C interface (include/gate.h). "The session is lent to each call and changed in place": thin entries that apply the
+// by-value steps of `response`.
+ghost use mathlib.Core.Path.{_≡_};
+ghost use lib.ListN.{length};
+ghost use Rattle.rules.specs.Hours.{hoursAt, clockAt, hourAt};
+ghost use Rattle.rules.specs.Message.{read as reading, write as writing, bufferAfter};
+ghost use Rattle.rules.specs.DayBook.{register, lodge, annul, close, clear};
 ghost use Rattle.rules.specs.Queries as Q;
-ghost use Rattle.session.specs.Image.{unitIn, keyIn, capacitiesIn};
-ghost use Rattle.session.specs.Laid.{counted};
-ghost use Rattle.session.specs.Steps.{Met};
-ghost use Rattle.queries.specs.Replies.{Answered};
-use queries::Reply;
-use session::Answer;
+ghost use Rattle.calendar.specs.View.{dateIn, clockIn, countedAs, namedAs};
+ghost use Rattle.message.specs.View.{fieldsIn, readingAs, writtenAs};
+ghost use Rattle.session.specs.Image.{unitIn, keyIn};
+ghost use Rattle.response.specs.Told.{ofCounted, ofNamed, availableIn, capacityIn, OpensAs, MetAs, AnsweredAs};
+use calendar::Clock;
+use calendar::Date;
+use message::Fields;
+use message::Reading;
+use message::Written;
+use response::Availability;
+use response::Capacities;
+use response::ClockName;
+use response::Opening;
+use response::Response;
 use session::Key;
-use session::Published;
 use session::Session;
 use session::Unit;
+
+// Dates
+
+// Opens the session of a date: 1.
+#[no_mangle]
+pub extern "C" fn gate_open(date: Date) -> Opening
+    ensures { λ r. ⌜ OpensAs (dateIn date) r ⌝ }
+{
+    response::open(date)
+}
+
+// The number of hours of a date: 1.
+#[no_mangle]
+pub extern "C" fn gate_hours(date: Date) -> Response
+    ensures { λ r. ⌜ r ≡ ofCounted (countedAs (hoursAt (dateIn date))) ⌝ }
+{
+    response::hours(date)
+}
+
+// The clock name and mark of an hour of a date: 1, 4.
+#[no_mangle]
+pub extern "C" fn gate_clock(date: Date, hour: u32) -> ClockName
+    ensures { λ r. ⌜ r ≡ ofNamed (namedAs (clockAt (dateIn date) hour)) ⌝ }
+{
+    response::clock(date, hour)
+}
+
+// The hour of a clock name and mark of a date: 1, 4.
+#[no_mangle]
+pub extern "C" fn gate_hour(date: Date, clock: Clock) -> Response
+    ensures { λ r. ⌜ r ≡ ofCounted (countedAs (hourAt (dateIn date) (clockIn clock))) ⌝ }
+{
+    response::hour(date, clock)
+}
+
+// Messages
+
+// A message's fields: 3, 4, 5.
+#[no_mangle]
+pub extern "C" fn gate_read(message: &[u8]) -> Reading
+    ensures { λ r. ⌜ r ≡ readingAs (reading (now (message .entry))) ⌝ }
+{
+    reader::read(message)
+}
+
+// The message of some fields into the caller's buffer: 4, 5, 14.
+#[no_mangle]
+pub extern "C" fn gate_write(fields: Fields, buffer: &mut [u8]) -> Written
+    ensures { λ r. ⌜ (r ≡ writtenAs (writing (length (now (buffer .entry))) (fieldsIn fields)))
+        × (now (buffer .exit) ≡ bufferAfter (writing (length (now (buffer .entry))) (fieldsIn fields)) (now (buffer .entry))) ⌝ }
+{
+    writer::write(fields, buffer)
+}
 
 // Calls
 
 // Registers a unit: 2, 5, 7, 8, 9.
-pub fn register(s: &mut Session, u: Unit) -> Answer
-    ensures { λ r. ⌜ Met (now (s .entry)) (register (unitIn u)) (record { session = now (s .exit); answer = r }) ⌝ }
+#[no_mangle]
+pub extern "C" fn gate_register(s: &mut Session, unit: Unit) -> Response
+    ensures { λ r. ⌜ MetAs (now (s .entry)) (register (unitIn unit)) (record { session = now (s .exit); response = r }) ⌝ }
 {
-    let t = Session::register(*s, u);
+    let t = response::register(*s, unit);
     *s = t.session;
-    t.answer
+    t.response
 }
 
-// Takes an unavailability notice of `count` available energies for a unit: 2, 4, 5, 6.
-pub fn available(s: &mut Session, number: u32, count: usize, energies: [u32; 25]) -> Answer
-    ensures { λ r. ⌜ Met (now (s .entry)) (available number (counted count energies)) (record { session = now (s .exit); answer = r }) ⌝ }
+// Takes an unavailability notice of a unit: 2, 4, 5, 6.
+#[no_mangle]
+pub extern "C" fn gate_available(s: &mut Session, notice: Availability) -> Response
+    ensures { λ r. ⌜ MetAs (now (s .entry)) (availableIn notice) (record { session = now (s .exit); response = r }) ⌝ }
 {
-    let t = Session::available(*s, number, count, energies);
+    let t = response::available(*s, notice);
     *s = t.session;
-    t.answer
+    t.response
 }
 
 // Takes a capacity notice, export and import of border 1, of 2, of 3, of 4: 2, 4, 5.
-pub fn capacity(s: &mut Session, directions: [Published; 8]) -> Answer
-    ensures { λ r. ⌜ Met (now (s .entry)) (capacity (capacitiesIn directions)) (record { session = now (s .exit); answer = r }) ⌝ }
+#[no_mangle]
+pub extern "C" fn gate_capacity(s: &mut Session, notice: Capacities) -> Response
+    ensures { λ r. ⌜ MetAs (now (s .entry)) (capacityIn notice) (record { session = now (s .exit); response = r }) ⌝ }
 {
-    let t = Session::capacity(*s, directions);
+    let t = response::capacity(*s, notice);
     *s = t.session;
-    t.answer
+    t.response
 }
 
 // Lodges a message: 2, 3, 4, 5, 6, 9, 10, 11, 12.
-pub fn lodge(s: &mut Session, message: &[u8]) -> Answer
-    ensures { λ r. ⌜ Met (now (s .entry)) (lodge (now (message .entry))) (record { session = now (s .exit); answer = r }) ⌝ }
+#[no_mangle]
+pub extern "C" fn gate_lodge(s: &mut Session, message: &[u8]) -> Response
+    ensures { λ r. ⌜ MetAs (now (s .entry)) (lodge (now (message .entry))) (record { session = now (s .exit); response = r }) ⌝ }
 {
-    let t = lodging::lodge::lodge(*s, message);
+    let t = response::lodge(*s, message);
     *s = t.session;
-    t.answer
+    t.response
 }
 
 // Annuls the lodgement of a key: 2, 5, 6, 13.
-pub fn annul(s: &mut Session, key: Key) -> Answer
-    ensures { λ r. ⌜ Met (now (s .entry)) (annul (keyIn key)) (record { session = now (s .exit); answer = r }) ⌝ }
+#[no_mangle]
+pub extern "C" fn gate_annul(s: &mut Session, key: Key) -> Response
+    ensures { λ r. ⌜ MetAs (now (s .entry)) (annul (keyIn key)) (record { session = now (s .exit); response = r }) ⌝ }
 {
-    let t = annulling::annul(*s, key);
+    let t = response::annul(*s, key);
     *s = t.session;
-    t.answer
+    t.response
 }
 
 // Closes the gate: 2.
-pub fn close(s: &mut Session) -> Answer
-    ensures { λ r. ⌜ Met (now (s .entry)) close (record { session = now (s .exit); answer = r }) ⌝ }
+#[no_mangle]
+pub extern "C" fn gate_close(s: &mut Session) -> Response
+    ensures { λ r. ⌜ MetAs (now (s .entry)) close (record { session = now (s .exit); response = r }) ⌝ }
 {
-    let t = closing::close(*s);
+    let t = response::close(*s);
     *s = t.session;
-    t.answer
+    t.response
 }
 
 // Clears the day: 2.
-pub fn clear(s: &mut Session) -> Answer
-    ensures { λ r. ⌜ Met (now (s .entry)) clear (record { session = now (s .exit); answer = r }) ⌝ }
+#[no_mangle]
+pub extern "C" fn gate_clear(s: &mut Session) -> Response
+    ensures { λ r. ⌜ MetAs (now (s .entry)) clear (record { session = now (s .exit); response = r }) ⌝ }
 {
-    let t = clearing::clear(*s);
+    let t = response::clear(*s);
     *s = t.session;
-    t.answer
+    t.response
 }
 
 // Queries
 
 // "a lodging number's verdict", after closing: 2, 13.
-pub fn verdict(s: &Session, number: u32) -> Reply
-    ensures { λ r. ⌜ Answered (now (s .entry)) (Q.verdict number) r ⌝ }
+#[no_mangle]
+pub extern "C" fn gate_verdict(s: &Session, number: u32) -> Response
+    ensures { λ r. ⌜ AnsweredAs (now (s .entry)) (Q.verdict number) r ⌝ }
 {
-    queries::verdict(*s, number)
+    response::verdict(*s, number)
 }
 
 // A unit's matched energy in an hour: 2, 4, 5, 6.
-pub fn matched(s: &Session, unit: u32, hour: u32) -> Reply
-    ensures { λ r. ⌜ Answered (now (s .entry)) (Q.matched unit hour) r ⌝ }
+#[no_mangle]
+pub extern "C" fn gate_matched(s: &Session, unit: u32, hour: u32) -> Response
+    ensures { λ r. ⌜ AnsweredAs (now (s .entry)) (Q.matched unit hour) r ⌝ }
 {
-    queries::matched(*s, unit, hour)
+    response::matched(*s, unit, hour)
 }
 
 // A unit's executed energy in an hour: 2, 4, 5, 6.
-pub fn executed(s: &Session, unit: u32, hour: u32) -> Reply
-    ensures { λ r. ⌜ Answered (now (s .entry)) (Q.executed unit hour) r ⌝ }
+#[no_mangle]
+pub extern "C" fn gate_executed(s: &Session, unit: u32, hour: u32) -> Response
+    ensures { λ r. ⌜ AnsweredAs (now (s .entry)) (Q.executed unit hour) r ⌝ }
 {
-    queries::executed(*s, unit, hour)
+    response::executed(*s, unit, hour)
 }
 
 // The final market balance of a border: 2, 4, 5.
-pub fn market(s: &Session, border: u32, hour: u32) -> Reply
-    ensures { λ r. ⌜ Answered (now (s .entry)) (Q.market border hour) r ⌝ }
+#[no_mangle]
+pub extern "C" fn gate_market(s: &Session, border: u32, hour: u32) -> Response
+    ensures { λ r. ⌜ AnsweredAs (now (s .entry)) (Q.market border hour) r ⌝ }
 {
-    queries::market(*s, border, hour)
+    response::market(*s, border, hour)
 }
 
 // The final balance of its executions: 2, 4, 5.
-pub fn bilateral(s: &Session, border: u32, hour: u32) -> Reply
-    ensures { λ r. ⌜ Answered (now (s .entry)) (Q.bilateral border hour) r ⌝ }
+#[no_mangle]
+pub extern "C" fn gate_bilateral(s: &Session, border: u32, hour: u32) -> Response
+    ensures { λ r. ⌜ AnsweredAs (now (s .entry)) (Q.bilateral border hour) r ⌝ }
 {
-    queries::bilateral(*s, border, hour)
+    response::bilateral(*s, border, hour)
 }
 
 // The market maximum of a border's direction, "absent without capacity": 2, 4, 5.
-pub fn market_maximum(s: &Session, border: u32, export: bool, hour: u32) -> Reply
-    ensures { λ r. ⌜ Answered (now (s .entry)) (Q.marketMax border export hour) r ⌝ }
+#[no_mangle]
+pub extern "C" fn gate_market_maximum(s: &Session, border: u32, export: bool, hour: u32) -> Response
+    ensures { λ r. ⌜ AnsweredAs (now (s .entry)) (Q.marketMax border export hour) r ⌝ }
 {
-    queries::market_maximum(*s, border, export, hour)
+    response::market_maximum(*s, border, export, hour)
 }
 
 // Its bilateral maximum, which may be below zero: 2, 4, 5.
-pub fn bilateral_maximum(s: &Session, border: u32, export: bool, hour: u32) -> Reply
-    ensures { λ r. ⌜ Answered (now (s .entry)) (Q.bilateralMax border export hour) r ⌝ }
+#[no_mangle]
+pub extern "C" fn gate_bilateral_maximum(
+    s: &Session,
+    border: u32,
+    export: bool,
+    hour: u32,
+) -> Response
+    ensures { λ r. ⌜ AnsweredAs (now (s .entry)) (Q.bilateralMax border export hour) r ⌝ }
 {
-    queries::bilateral_maximum(*s, border, export, hour)
+    response::bilateral_maximum(*s, border, export, hour)
 }
 
 // The hour's price: 2, 4.
-pub fn price(s: &Session, hour: u32) -> Reply
-    ensures { λ r. ⌜ Answered (now (s .entry)) (Q.price hour) r ⌝ }
+#[no_mangle]
+pub extern "C" fn gate_price(s: &Session, hour: u32) -> Response
+    ensures { λ r. ⌜ AnsweredAs (now (s .entry)) (Q.price hour) r ⌝ }
 {
-    queries::price(*s, hour)
+    response::price(*s, hour)
 }

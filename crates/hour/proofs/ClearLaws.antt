@@ -24,15 +24,14 @@ use Rattle.matching.proofs.ViewLaws.{matched-small}
 use Rattle.borders.specs.declared.Executions.{Executions}
 use Rattle.borders.specs.View.{executionsOf}
 use Rattle.borders.specs.Ways.{publishedIn}
-use Rattle.borders.specs.Cuts.{Enough}
+use Rattle.cuts.specs.Cuts.{Enough}
 use Rattle.borders.proofs.WayLaws.{published-once}
 use Rattle.hour.specs.declared.Hour.{Hour}
 use Rattle.hour.specs.declared.Figures.{Figures}
-use Rattle.hour.specs.declared.Ended.{Ended}
-use Rattle.hour.specs.declared.Market.{Market}
+use Rattle.market.specs.declared.Market.{Market}
 use Rattle.hour.specs.Ready.{Ready}
 use Rattle.hour.specs.View.{hourIn, figuresIn}
-use Rattle.hour.specs.Parts.{Energies, Withdrew, MarketCleared}
+use Rattle.market.specs.Parts.{MarketCleared}
 
 -- numbers that rise along the places rise along the list
 pairwise-from : {R : ℕ → ℕ → Type 0} (i n : ℕ) → ((j k : ℕ) → i ≤ j → j < k → k < i + n → R j k) → Pairwise R (from i n)
@@ -49,36 +48,6 @@ hour-sound h r = record {
       (pairwise-from {R = λ i j. getD (h .offers .number) i 0 < getD (h .offers .number) j 0} 0 (h .offers .count) (λ j k a b c. r .sound .rising j k b (omega arith)));
   once = published-once (h .published) (h .capacity);
 }
-
--- the energies after the first match
-pub energies-first : {h : Offers} {e m : List ℕ} {v : ℕ} → Matched h e (replicate 128 0) m v → ((i : ℕ) → getD e i 0 ≤ maxEnergy) → length e ≡ 128 → Energies (h .count) e m
-energies-first d f le = record {
-  small = f;
-  part = matched-small maxEnergy d f (λ i. rw (zeros 128 i) (omega arith));
-  within = d .within;
-  offered-long = le;
-  matched-long = d .long ∙ length-replicate {A = ℕ} 128 0;
-}
-
-module _ (o : Offers) (offered : List ℕ) (published : List Bool) (capacity : List ℕ) (xs : List Execution) {m mx e′ m′ : List ℕ} {r : Ended}
-    (first : offersOf o offered m ≡ matchAll (offersOf o offered (replicate 128 0)))
-    (maxima : publishedIn published mx ≡ map (maximumOf (offersOf o offered m) xs) (publishedIn published capacity))
-    (ended : Withdrew o published mx offered m e′ m′ r) where
-  -- the withdrawal is the rules'
-  withdrawn : withdraw (map (maximumOf (matchAll (offersOf o offered (replicate 128 0))) xs) (publishedIn published capacity)) (matchAll (offersOf o offered (replicate 128 0)))
-      ≡ record { offers = offersOf o e′ m′; steps = r .steps }
-  withdrawn = rw (← first, ← maxima) (ended .done)
-
-  -- and so is the market's part
-  pub market-said : (f : List ℕ) {p : ℕ} → p ≡ hourPrice (offersOf o e′ m′)
-      → MarketCleared o offered published capacity xs (record { offered = e′; matched = m′; maxima = mx; flows = f; steps = r .steps; price = p })
-  unfolding C.clearHour
-  market-said f q = record {
-    offers = ap (λ w. w .offers) withdrawn;
-    maxima = rw (← first) (sym maxima);
-    steps = ap (λ w. w .steps) withdrawn;
-    price = ap (λ (w : Withdrawn). hourPrice (w .offers)) withdrawn ∙ sym q;
-  }
 
 module _ (h : Hour) {r : Market} (k : Ready h)
     (m : MarketCleared (h .offers) (h .offered) (h .published) (h .capacity) (executionsOf (h .executions) (h .energy)) r) where

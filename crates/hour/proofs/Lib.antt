@@ -1,3 +1,2 @@
-pub mod TurnLaws
 pub mod ClearLaws
 pub mod ReadyLaws

@@ -1,7 +1,7 @@
 -- The test of an hour and what it stands for.
 use Prim.Native.Nat.{ℕ, _≤_, _<_}
 use mathlib.Core.Path.{_≡_, refl}
-use mathlib.Core.Bool.{Bool, true, not, _&&_}
+use mathlib.Core.Bool.{Bool, true, false, not, _&&_}
 use native.Mathlib.Omega.{arith}
 use lib.Dec.{ltb}
 use lib.ListN.{getD, length}
@@ -16,7 +16,26 @@ use Rattle.matching.specs.View.{Sound}
 use Rattle.borders.specs.declared.Executions.{Executions}
 use Rattle.borders.specs.Flows.{Small}
 use Rattle.hour.specs.declared.Hour.{Hour}
-use Rattle.hour.specs.Ready.{Ready, offersReady, executionsReady, isReady}
+use Rattle.readiness.specs.Ranges.{offersReady, executionsReady, energiesReady}
+use Rattle.hour.specs.Ready.{Ready, isReady}
+
+-- Each way out of the test
+
+module _ (h : Hour) where
+  pub offers-fail : offersReady (h .offers) ≡ false → false ≡ isReady h
+  unfolding isReady
+  offers-fail a = rw a
+
+  pub executions-fail : offersReady (h .offers) ≡ true → executionsReady (h .executions) ≡ false → false ≡ isReady h
+  unfolding isReady
+  executions-fail a b = rw (a, b)
+
+  pub energies-decide : {r : Bool} → offersReady (h .offers) ≡ true → executionsReady (h .executions) ≡ true
+      → r ≡ energiesReady (h .offered) (h .energy) (h .capacity) → r ≡ isReady h
+  unfolding isReady
+  energies-decide a b e = rw (a, b) e
+
+-- What it stands for
 
 below-five : (x : ℕ) → x ≤ 4 → x < 5
 below-five x h = omega arith
@@ -26,14 +45,14 @@ up-to-four x h = omega arith
 
 -- an hour that passes the test is ready
 pub ready-holds : (h : Hour) → isReady h ≡ true → Ready h
-unfolding isReady offersReady executionsReady
+unfolding isReady offersReady executionsReady energiesReady
 ready-holds h e =
     let o = h .offers in
     let x = h .executions in
     let a = both _ _ e in
-    let b = both _ _ (a .0) in
+    let b = both _ _ (a .1) in
     let p = both _ _ (b .0) in
-    let q = both _ _ (p .0) in
+    let q = both _ _ (a .0) in
     let s = both _ _ (q .0) in
     let t = both _ _ (s .0) in
     let u = both _ _ (t .0) in
@@ -45,16 +64,16 @@ ready-holds h e =
         priced = above-none maxPrice (o .price) (o .count) (not-true _ (t .1));
       };
       borders = λ i l. below-five _ (above-none 4 (o .border) (o .count) (not-true _ (u .1)) i l);
-      offered = above-none maxEnergy (h .offered) 128 (not-true _ (p .1));
+      offered = above-none maxEnergy (h .offered) 128 (not-true _ (p .0));
       few = ltb-false 128 (x .count) (not-true _ (v .0));
       crossings = λ i l. below-five _ (above-none 4 (x .border) (x .count) (not-true _ (v .1)) i l);
-      energies = above-none maxEnergy (h .energy) 128 (not-true _ (b .1));
-      capacities = above-none maxEnergy (h .capacity) 10 (not-true _ (a .1));
+      energies = above-none maxEnergy (h .energy) 128 (not-true _ (p .1));
+      capacities = above-none maxEnergy (h .capacity) 10 (not-true _ (b .1));
     }
 
 -- an hour that is ready passes it
 pub ready-told : (h : Hour) → Ready h → isReady h ≡ true
-unfolding isReady offersReady executionsReady
+unfolding isReady offersReady executionsReady energiesReady
 ready-told h r =
     rw (
       le-ltb 128 (h .offers .count) (r .sound .few),

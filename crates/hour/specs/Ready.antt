@@ -1,14 +1,10 @@
 -- An hour that a session can hold, and the test for it.
 use Prim.Native.Nat.{ℕ, _≤_, _<_}
-use mathlib.Core.Bool.{Bool, not, _&&_}
-use lib.Dec.{leb, ltb}
+use mathlib.Core.Bool.{Bool, _&&_}
 use lib.ListN.{getD}
-use Rattle.rules.specs.Lists.{any}
-use Rattle.rules.specs.Units.{maxEnergy, maxPrice}
-use Rattle.arrays.specs.Places.{vals, rises}
-use Rattle.matching.specs.declared.Offers.{Offers}
+use Rattle.rules.specs.Units.{maxEnergy}
 use Rattle.matching.specs.View.{Sound}
-use Rattle.borders.specs.declared.Executions.{Executions}
+use Rattle.readiness.specs.Ranges.{offersReady, executionsReady, energiesReady}
 use Rattle.hour.specs.declared.Hour.{Hour}
 
 -- offers by rising lodging number at prices in their range, borders 0 to 4, energies and capacities in theirs
@@ -21,17 +17,7 @@ pub record Ready (h : Hour) : Type 0 where
   pub energies : (i : ℕ) → i < 128 → getD (h .energy) i 0 ≤ maxEnergy
   pub capacities : (w : ℕ) → w < 10 → getD (h .capacity) w 0 ≤ maxEnergy
 
-unfoldable pub offersReady : Offers → Bool
-offersReady o =
-    not (ltb 128 (o .count)) && not (any (ltb 4) (vals (o .border) 0 (o .count))) && not (any (ltb maxPrice) (vals (o .price) 0 (o .count)))
-    && rises (vals (o .number) 0 (o .count))
-
-unfoldable pub executionsReady : Executions → Bool
-executionsReady x = not (ltb 128 (x .count)) && not (any (ltb 4) (vals (x .border) 0 (x .count)))
-
 -- `Ready` as a test (`ready-holds` and `ready-told` of proofs/ReadyLaws.antt)
 unfoldable pub isReady : Hour → Bool
 isReady h =
-    offersReady (h .offers) && executionsReady (h .executions) && not (any (ltb maxEnergy) (vals (h .offered) 0 128))
-    && not (any (ltb maxEnergy) (vals (h .energy) 0 128))
-    && not (any (ltb maxEnergy) (vals (h .capacity) 0 10))
+    offersReady (h .offers) && executionsReady (h .executions) && energiesReady (h .offered) (h .energy) (h .capacity)

@@ -28,7 +28,7 @@ use Rattle.session.specs.declared.Lodgement.{Lodgement}
 use Rattle.session.specs.declared.Judged.{Judged}
 use Rattle.session.specs.declared.Judged.the-variants.{No}
 use Rattle.session.proofs.ImageLaws.{hours-as, last-as, standing-as, capacities-as, unit-as, notice-as}
-use Rattle.limits.specs.Loads.{loadIn}
+use Rattle.loads.specs.Loads.{loadIn}
 use Rattle.limits.specs.Limits.{judgedIn}
 use Rattle.limits.proofs.NoticeLaws.{judged-by}
 use Rattle.keys.specs.Keys.{keyFor, ofKey, ofOther, Enrolled}

@@ -11,7 +11,7 @@ use Rattle.rules.specs.Lists.{addEach, hourly}
 use Rattle.rules.specs.Units.{Published, direction, capacityOf, bothAt, borderSum}
 use Rattle.session.specs.declared.Notice.{Notice}
 use Rattle.limits.specs.Limits.{noticeIn, borderAt, noBorderLimit}
-use Rattle.limits.proofs.LoadLaws.{add-at}
+use Rattle.limits.proofs.WrittenLaws.{add-at}
 
 -- an element that is read beyond an array
 abbrev pub bareNotice : Notice

@@ -1,6 +1,5 @@
-pub mod LoadLaws
+pub mod WrittenLaws
 pub mod RowLaws
 pub mod BorderLaws
 pub mod NoticeLaws
-pub mod MarkLaws
 pub mod PlaceLaws

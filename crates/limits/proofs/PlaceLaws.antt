@@ -14,7 +14,7 @@ use Rattle.session.specs.declared.Energies.{Energies}
 use Rattle.session.specs.declared.Unit.{Unit}
 use Rattle.session.specs.declared.Notice.{Notice}
 use Rattle.session.specs.declared.Judged.{Judged}
-use Rattle.limits.specs.Loads.{marked, energyIn, loadIn, bareEnergies, LoadsOf, energyAtPlace, loadAt}
+use Rattle.loads.specs.Loads.{marked, energyIn, loadIn, bareEnergies, LoadsOf, energyAtPlace, loadAt}
 use Rattle.limits.specs.Limits.{noticeIn, registeredIn, judgedIn}
 use Rattle.limits.proofs.NoticeLaws.{rows-load}
 

@@ -16,10 +16,10 @@ use Rattle.rules.proofs.LowestLaws.{lowest-none}
 use Rattle.session.specs.declared.Unit.{Unit}
 use Rattle.session.specs.declared.Notice.{Notice}
 use Rattle.session.specs.declared.Judged.the-variants.{No, Clear}
-use Rattle.limits.specs.Loads.{laid}
+use Rattle.loads.specs.Loads.{laid}
 use Rattle.limits.specs.Limits.{noticeIn, registeredIn, lowestRow, judgedIn, borderAt}
 use Rattle.limits.specs.declared.BorderLimit.{BorderLimit}
-use Rattle.limits.proofs.LoadLaws.{and-false}
+use Rattle.loads.proofs.LoadLaws.{and-false}
 
 -- tests that agree on each number have the same lowest
 first-same : (p q : ℕ → Bool) (i n : ℕ) → ((k : ℕ) → i ≤ k → k < i + n → p k ≡ q k) → first p 0 (from i n) ≡ first q 0 (from i n)

@@ -1,2 +1,1 @@
-pub mod Loads
 pub mod Limits

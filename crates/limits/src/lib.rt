@@ -4,12 +4,11 @@ ghost use mathlib.Core.Bool.{cond};
 ghost use mathlib.Core.List.{map};
 ghost use Prim.Native.Nat.{ℕ, _+_, _<_, _≤_};
 ghost use lib.ListN.{getD, take, length, replicate};
-ghost use Rattle.rules.specs.Lists.{from, lowest, addEach};
+ghost use Rattle.rules.specs.Lists.{addEach};
 ghost use Rattle.rules.specs.Units.{borderSum};
-ghost use Rattle.rules.specs.Lodging.{passedAt};
-ghost use Rattle.limits.specs.Loads.{marked, PutAt, LoadsOf, loadAt, laid};
+ghost use Rattle.loads.specs.Loads.{loadAt};
 ghost use Rattle.limits.specs.Limits.{noticeIn, lowestRow, judgedIn, noBorderLimit, borderAt};
-use session::Energies;
+use loads::lowest_hour;
 use session::Judged;
 use session::Notice;
 use session::Unit;
@@ -25,100 +24,6 @@ const BORDER: u32 = 12;
 struct BorderLimit {
     applies: bool,
     energies: [u64; 25],
-}
-
-// Places of lodgements, `count` of them in front of the array.
-pub struct Places {
-    pub count: usize,
-    pub at: [usize; 128],
-}
-
-// The places of those of the first n lodgements that are counted.
-pub fn counted_places(counted: &[bool; 128], n: usize) -> Places
-    requires { ⌜ n ≤ 128 ⌝ }
-    ensures { λ r. ⌜ (r .count ≤ n) × (take (r .count) (r .at) ≡ marked (now (counted .entry)) (from 0 n)) × (length (r .at) ≡ 128) × ((l : ℕ) → l < r .count → getD (r .at) l 0 < n) ⌝ }
-{
-    let mut at = [0usize; 128];
-    let mut count = 0usize;
-    for l in 0..n {
-        let is_counted = counted[l];
-        if !is_counted {
-            continue;
-        }
-        at[count] = l;
-        count += 1;
-    }
-    Places {
-        count: count,
-        at: at,
-    }
-}
-
-// A lodgement's energies by hour, at its place.
-fn put(loads: &mut [u32; 3200], l: usize, e: Energies)
-    requires { ⌜ (l < 128) × (length (now loads) ≡ 3200) ⌝ }
-    ensures { λ _. ⌜ (length (now (loads .exit)) ≡ 3200) × PutAt l (e .energies) (now (loads .entry)) (now (loads .exit)) ⌝ }
-{
-    for h in 0..25 {
-        loads[l * 25 + h] = e.energies[h];
-    }
-}
-
-// The energies by hour of those of the first n lodgements that are wanted, each at its place: plain numbers, which can be
-// lent, so that a judgement copies none of them.
-pub fn loads_of(wanted: &[bool; 128], n: usize, energies: [Energies; 128]) -> [u32; 3200]
-    requires { ⌜ n ≤ 128 ⌝ }
-    ensures { λ r. ⌜ (n ≤ length energies) × LoadsOf (now (wanted .entry)) (take n energies) r ⌝ }
-{
-    let mut loads = [0u32; 3200];
-    for l in 0..n {
-        let is_wanted = wanted[l];
-        if !is_wanted {
-            continue;
-        }
-        let e = energies[l];
-        put(&mut loads, l, e);
-    }
-    loads
-}
-
-// "the lowest hour in which that limit is passed", 0 where there is none: in an hour that is named, by a lodgement's own
-// energy and that of the others that are counted, at `count` places. The sum only grows, so it is left where it first passes.
-pub fn lowest_hour(
-    own: [u32; 25],
-    loads: &[u32; 3200],
-    at: &[usize; 128],
-    count: usize,
-    hours: usize,
-    limit: [u64; 25],
-) -> u32
-    requires { ⌜ (count ≤ 128) × (hours ≤ 25) × (length (now at) ≡ 128) × ((l : ℕ) → l < count → getD (now at) l 0 < 128) ⌝ }
-    ensures { λ r. ⌜ r ≡ lowest (passedAt own (loadAt own (now (loads .entry)) (take count (now (at .entry)))) (laid limit)) hours ⌝ }
-{
-    let mut passed: u32 = 0;
-    'hours: for h in 0..hours {
-        let named = own[h];
-        if named == 0 {
-            continue 'hours;
-        }
-        let most = limit[h];
-        let mut sum = arrays::wide(named);
-        let mut l: usize = 0;
-        loop {
-            if most < sum {
-                passed = h as u32 + 1;
-                break 'hours;
-            }
-            if l == count {
-                continue 'hours;
-            }
-            let place = at[l];
-            let more = loads[place * 25 + h];
-            sum += arrays::wide(more);
-            l += 1;
-        }
-    }
-    passed
 }
 
 // Limit 10 by hour: the unit's maximum in each.

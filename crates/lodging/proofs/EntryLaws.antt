@@ -10,7 +10,6 @@ use Rattle.rules.specs.Book as B
 use Rattle.rules.specs.DayBook as D
 use Rattle.message.specs.View.{fieldsIn}
 use Rattle.message.specs.declared.Fields.{Fields}
-use Rattle.session.specs.Laid.{pad}
 use Rattle.session.specs.Image.{image, Sound, verdictsIn, hoursIn, keyIn, lodgementAs, energiesAs, noLodgement, noEnergies}
 use Rattle.session.specs.Steps.{said, isRefusal}
 use Rattle.session.specs.declared.Key.{Key}

@@ -1,4 +1,3 @@
 pub mod ViewLaws
 pub mod OrderLaws
-pub mod WalkLaws
 pub mod MatchLaws

@@ -65,7 +65,7 @@ fn named(map: u32, h: usize) -> bool
 }
 
 // An hour's energy or price is outside its range.
-fn bad_slot(execution: bool, set: bool, energy: u32, price: u32) -> bool
+pub fn bad_slot(execution: bool, set: bool, energy: u32, price: u32) -> bool
     ensures { λ r. ⌜ r ≡ badSlot execution set energy price ⌝ }
 {
     if set {
@@ -97,14 +97,21 @@ fn bad_hours(m: Fields) -> bool
     false
 }
 
+// A unit's number or a contract outside its range.
+pub fn bad_key(execution: bool, unit: u32, contract: u32) -> bool
+    ensures { λ r. ⌜ r ≡ (badNumber unit || badContract execution contract) ⌝ }
+{
+    if bad_number(unit) {
+        return true;
+    }
+    bad_contract(execution, contract)
+}
+
 // 5: a value outside its range.
 pub fn bad_fields(m: Fields) -> bool
     ensures { λ r. ⌜ r ≡ badFields (fieldsIn m) ⌝ }
 {
-    if bad_number(m.unit) {
-        return true;
-    }
-    if bad_contract(m.execution, m.contract) {
+    if bad_key(m.execution, m.unit, m.contract) {
         return true;
     }
     bad_hours(m)

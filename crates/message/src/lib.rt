@@ -6,6 +6,7 @@ ghost use mathlib.Core.Path.{_≡_};
 ghost use Rattle.message.specs.View.{noFields};
 
 // What a message says, and what a writer is given. Energies and prices are by hour, hour 1 first.
+#[repr(C)]
 pub struct Fields {
     pub execution: bool,
     pub default: bool,
@@ -18,12 +19,14 @@ pub struct Fields {
 }
 
 // A message read: refusal 0 and its fields, or the table's number and fields that are all 0.
+#[repr(C)]
 pub struct Reading {
     pub refusal: u32,
     pub fields: Fields,
 }
 
 // A message written: refusal 0 and the count of its bytes, or the table's number and 0.
+#[repr(C)]
 pub struct Written {
     pub refusal: u32,
     pub count: usize,

@@ -1,12 +1,10 @@
 -- The ways out of a query.
 use Prim.Native.Nat.{ℕ}
 use mathlib.Core.Path.{_≡_, refl, ap, sym, _∙_}
-use mathlib.Core.Bool.{Bool}
 use mathlib.Core.Option.{Option, some, none}
 use native.Mathlib.Omega.{arith}
 use Rattle.rules.specs.Refusals.{Row, firstRow, refused, given, unless, outcome}
 use Rattle.rules.specs.Book.{Book}
-use Rattle.rules.specs.Queries as Q
 use Rattle.rules.specs.Queries.{Query, Shown, shown, query, queryRows}
 use Rattle.session.specs.Image.{image, Sound}
 use Rattle.session.specs.Parts.{told}
@@ -45,19 +43,3 @@ module _ (s : Session) (p q : Query) (same : SameRows p q) (j : Judged) (judges 
 
 pub own-rows : (q : Query) → SameRows q q
 own-rows q b = refl
-
-pub executed-rows : (u h : ℕ) → SameRows (Q.matched u h) (Q.executed u h)
-unfolding queryRows
-executed-rows u h b = refl
-
-pub bilateral-rows : (border h : ℕ) → SameRows (Q.market border h) (Q.bilateral border h)
-unfolding queryRows
-bilateral-rows border h b = refl
-
-pub marketMax-rows : (border : ℕ) (export : Bool) (h : ℕ) → SameRows (Q.market border h) (Q.marketMax border export h)
-unfolding queryRows
-marketMax-rows border export h b = refl
-
-pub bilateralMax-rows : (border : ℕ) (export : Bool) (h : ℕ) → SameRows (Q.market border h) (Q.bilateralMax border export h)
-unfolding queryRows
-bilateralMax-rows border export h b = refl

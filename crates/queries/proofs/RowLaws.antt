@@ -1,24 +1,20 @@
--- Refusals of queries: each way out.
+-- Refusals of a figure in an hour: each way out.
 use Prim.Native.Nat.{ℕ, zero, suc, _≤_, _<_}
 use mathlib.Core.Path.{_≡_, refl, ap, sym, _∙_}
-use mathlib.Core.Bool.{true, false, not, false≢true}
+use mathlib.Core.Bool.{true, false, false≢true}
 use mathlib.Core.List.{List, []}
 use native.Mathlib.Omega.{arith}
-use lib.ListN.{take}
 use borrow.Author.Tests.{eq-eqb, ne-eqb, lt-ltb, le-ltb}
-use Rattle.rules.specs.Lists.{any}
 use Rattle.rules.specs.Refusals.{Row, row, firstRow}
 use Rattle.rules.specs.Hours.{notAnHour}
-use Rattle.rules.specs.Units.{badNumber}
 use Rattle.rules.specs.Book.{Book, hours}
 use Rattle.rules.specs.Queries as Q
 use Rattle.rules.proofs.BoolLaws.{by-bool}
 use Rattle.session.specs.Image.{image, Sound}
 use Rattle.session.specs.Parts.{within, numberIs, told}
 use Rattle.session.specs.declared.Session.{Session}
-use Rattle.session.specs.declared.Judged.{Judged}
 use Rattle.session.specs.declared.Judged.the-variants.{No, Clear}
-use Rattle.session.proofs.ImageLaws.{image-within, hours-as, cleared-as, registered-as}
+use Rattle.session.proofs.ImageLaws.{image-within, hours-as, cleared-as}
 use Rattle.session.proofs.StepLaws.{not-clear}
 use Rattle.queries.specs.Parts.{Judges}
 
@@ -61,7 +57,7 @@ module _ (s : Session) (h : ℕ) where
 
 module _ (b : Book) (h : ℕ) (rows : List Row) where
   -- a row of the hour is given in front of them
-  front : {n k : ℕ} → No n k ≡ told (firstRow (Q.figureRows b h [])) → No n k ≡ told (firstRow (Q.figureRows b h rows))
+  pub front : {n k : ℕ} → No n k ≡ told (firstRow (Q.figureRows b h [])) → No n k ≡ told (firstRow (Q.figureRows b h rows))
   unfolding Q.figureRows row firstRow
   front {n} {k} q =
       by-bool (b .cleared)
@@ -69,57 +65,9 @@ module _ (b : Book) (h : ℕ) (rows : List Row) where
       (λ c. rw c (rw c at q))
 
   -- where none of the hour is, they are
-  behind : Clear ≡ told (firstRow (Q.figureRows b h [])) → firstRow (Q.figureRows b h rows) ≡ firstRow rows
+  pub behind : Clear ≡ told (firstRow (Q.figureRows b h [])) → firstRow (Q.figureRows b h rows) ≡ firstRow rows
   unfolding Q.figureRows row firstRow
   behind q =
       by-bool (b .cleared)
       (λ c. by-bool (notAnHour (hours b) h) (λ t. not-clear 4 0 (sym (rw (t, c) at q))) (λ t. rw (t, c)))
       (λ c. not-clear 2 0 (sym (rw c at q)))
-
--- Units
-
-module _ (s : Session) (u h : ℕ) (j : Judged) (judges : Judges s (Q.price h) j) where
-  pub unit-front : {n k : ℕ} → j ≡ No n k → Judges s (Q.matched u h) (No n k)
-  unfolding Q.queryRows
-  unit-front d b sound e = front b h (Q.unitRows b u) (sym d ∙ judges b sound e)
-
-  module _ (clear : j ≡ Clear) where
-    unit-rows : (b : Book) → Sound b → s ≡ image b → firstRow (Q.queryRows b (Q.matched u h)) ≡ firstRow (Q.unitRows b u)
-    unfolding Q.queryRows
-    unit-rows b sound e = behind b h (Q.unitRows b u) (sym clear ∙ judges b sound e)
-
-    pub unit-5 : badNumber u ≡ true → Judges s (Q.matched u h) (No 5 0)
-    unfolding Q.unitRows row firstRow
-    unit-5 k b sound e = rw (unit-rows b sound e, k)
-
-    pub unit-6 : badNumber u ≡ false → any (numberIs u) (take (s .enrolled) (s .units)) ≡ false → Judges s (Q.matched u h) (No 6 0)
-    unfolding Q.unitRows row firstRow
-    unit-6 k n b sound e = rw (unit-rows b sound e, k, registered-as s b e u, n)
-
-    pub unit-0 : badNumber u ≡ false → any (numberIs u) (take (s .enrolled) (s .units)) ≡ true → Judges s (Q.matched u h) Clear
-    unfolding Q.unitRows row firstRow
-    unit-0 k n b sound e = rw (unit-rows b sound e, k, registered-as s b e u, n)
-
--- Borders
-
-module _ (s : Session) (border h : ℕ) (j : Judged) (judges : Judges s (Q.price h) j) where
-  pub border-front : {n k : ℕ} → j ≡ No n k → Judges s (Q.market border h) (No n k)
-  unfolding Q.queryRows
-  border-front d b sound e = front b h (Q.borderRows border) (sym d ∙ judges b sound e)
-
-  module _ (clear : j ≡ Clear) where
-    border-rows : (b : Book) → Sound b → s ≡ image b → firstRow (Q.queryRows b (Q.market border h)) ≡ firstRow (Q.borderRows border)
-    unfolding Q.queryRows
-    border-rows b sound e = behind b h (Q.borderRows border) (sym clear ∙ judges b sound e)
-
-    pub border-zero : border ≡ 0 → Judges s (Q.market border h) (No 5 0)
-    unfolding Q.borderRows row firstRow
-    border-zero z b sound e = rw (border-rows b sound e, eq-eqb border 0 z)
-
-    pub border-beyond : (border ≡ 0 → ⊥) → 4 < border → Judges s (Q.market border h) (No 5 0)
-    unfolding Q.borderRows row firstRow
-    border-beyond z k b sound e = rw (border-rows b sound e, ne-eqb border 0 z, lt-ltb 4 border k)
-
-    pub border-0 : (border ≡ 0 → ⊥) → border ≤ 4 → Judges s (Q.market border h) Clear
-    unfolding Q.borderRows row firstRow
-    border-0 z k b sound e = rw (border-rows b sound e, ne-eqb border 0 z, le-ltb 4 border k)

@@ -1,17 +1,19 @@
 -- The named hours one by one: what is left of the map, of the bits and of the slots to fill.
-use Prim.Native.Nat.{ℕ, zero, suc, _+_, _*_, _-_, _^_, _≤_, _<_}
+use Prim.Native.Nat.{ℕ, zero, suc, _+_, _*_, _-_, _/_, _%_, _^_, _≤_, _<_}
 use mathlib.Core.Path.{_≡_, refl, ap, sym, _∙_}
-use mathlib.Core.Bool.{Bool}
+use mathlib.Core.Bool.{Bool, true, false, _||_}
 use mathlib.Core.List.{List, [], _∷_, _++_}
 use native.Mathlib.Omega.{arith}
 use native.Mathlib.Nat.{lt-of-not-le, pos-of-ne-zero, div-eq-of-lt, mul-add-mod-self-right, pow-suc, suc-mul}
 use lib.Count.{leadingZeros, leading-length, leading-top, leading-unique}
-use lib.Pow.{pow-pos, pow-mono, high}
+use lib.Pow.{pow-pos, pow-mono, high, low}
 use lib.ListN.{length, drop, set, replicate, length-set}
 use lib.Seq.{drop-drop}
 use Rattle.rules.specs.Lists.{sum}
 use Rattle.rules.specs.Message.{bits, bitsOf, field, energyWidth, priceWidth, headWidth, slotWidth, setBits, hourBits, readSlots}
-use Rattle.rules.proofs.BitLaws.{length-bits, bits-same, field-drop}
+use Rattle.rules.proofs.BitLaws.{length-bits, length-bitsOf, bitsOf-under, bits-same, field-drop, field-lt, field-add}
+use Rattle.message.specs.Slots.{badSlot}
+use Rattle.reader.specs.Slots.{badSlots}
 use Rattle.message.proofs.FormLaws.{end-le}
 
 -- A map of w bits whose first set bit has k bits before it and j after it
@@ -76,6 +78,28 @@ module _ (f : List ℕ → ℕ) (n : ℕ) where
   fill-first zero map bs (e ∷ es) h = refl
   fill-first (suc k) map bs (e ∷ es) h = ap (λ l. e ∷ l) (fill-first k map bs es (omega arith))
 
+module _ (x : Bool) where
+  -- the first set hour is judged, and the rest goes on without it
+  bad-first : (k : ℕ) (map bs : List ℕ)
+      → badSlots x (replicate k 0 ++ (1 ∷ map)) bs
+      ≡ (badSlot x true (field 0 energyWidth bs) (field energyWidth (priceWidth x) bs) || badSlots x (replicate k 0 ++ (0 ∷ map)) (drop (slotWidth energyWidth x) bs))
+  unfolding badSlots
+  bad-first zero map bs = refl
+  bad-first (suc k) map bs = bad-first k map bs
+
+  none-bad : (k : ℕ) (bs : List ℕ) → badSlots x (replicate k 0) bs ≡ false
+  unfolding badSlots
+  none-bad zero bs = refl
+  none-bad (suc k) bs = none-bad k bs
+
+or-false : (a : Bool) → (a || false) ≡ a
+or-false true = refl
+or-false false = refl
+
+or-assoc : (a b c : Bool) → (a || b || c) ≡ (a || (b || c))
+or-assoc true b c = refl
+or-assoc false b c = refl
+
 -- The first hour that a map names, h hours before it
 
 -- it is found by its leading zeros, also in 32 bits
@@ -130,6 +154,29 @@ module _ {map h : ℕ} (t : Next map h) where
       → fillSlots f n (hourBits map) bs es ≡ fillSlots f n (hourBits (map - 2 ^ (24 - h))) (drop n bs) (set es h (f bs))
   fill-next f n bs es l = rw (here, gone) (fill-first f n h (bits (24 - h) (map - 2 ^ (24 - h))) bs es l)
 
+  pub bad-next : (x : Bool) (bs : List ℕ)
+      → badSlots x (hourBits map) bs
+      ≡ (badSlot x true (field 0 energyWidth bs) (field energyWidth (priceWidth x) bs) || badSlots x (hourBits (map - 2 ^ (24 - h))) (drop (slotWidth energyWidth x) bs))
+  bad-next x bs = rw (here, gone) (bad-first x h (bits (24 - h) (map - 2 ^ (24 - h))) bs)
+
+-- A slot as one number: the energy and, below it, the price
+
+module _ (at p : ℕ) (bytes : List ℕ) (h : at + energyWidth + p ≤ 8 * length bytes) where
+  abbrev slot : ℕ
+  slot = field at (energyWidth + p) (bitsOf bytes)
+
+  under : field (at + energyWidth) p (bitsOf bytes) < 2 ^ p
+  under = field-lt (at + energyWidth) p (bitsOf-under bytes)
+
+  joined : slot ≡ field at energyWidth (bitsOf bytes) * 2 ^ p + field (at + energyWidth) p (bitsOf bytes)
+  joined = field-add at energyWidth p (bitsOf bytes) (rw length-bitsOf h)
+
+  pub slot-energy : field at (energyWidth + p) (bitsOf bytes) / 2 ^ p ≡ field at energyWidth (bitsOf bytes)
+  slot-energy = rw joined (high (field at energyWidth (bitsOf bytes)) p under)
+
+  pub slot-price : field at (energyWidth + p) (bitsOf bytes) % 2 ^ p ≡ field (at + energyWidth) p (bitsOf bytes)
+  slot-price = rw joined (low (field at energyWidth (bitsOf bytes)) p under)
+
 -- A loop over the named hours of a message
 
 module _ (bytes : List ℕ) (x : Bool) (map : ℕ) where
@@ -141,7 +188,11 @@ module _ (bytes : List ℕ) (x : Bool) (map : ℕ) where
   abbrev pub Filled : (List ℕ → ℕ) → List ℕ → ℕ → ℕ → Type 0
   Filled f es at rest = fillSlots f (slotWidth energyWidth x) (hourBits rest) (drop at (bitsOf bytes)) es ≡ Slots f
 
-  pub record Filling (energies prices : List ℕ) (at rest : ℕ) : Type 0 where
+  -- what the slots of the message are refused for
+  abbrev pub Bad : Bool
+  Bad = badSlots x (hourBits map) (drop headWidth (bitsOf bytes))
+
+  pub record Filling (energies prices : List ℕ) (at rest : ℕ) (bad : Bool) : Type 0 where
     pub small : rest < 2 ^ 25
     pub energies-long : length energies ≡ 25
     pub prices-long : length prices ≡ 25
@@ -149,13 +200,14 @@ module _ (bytes : List ℕ) (x : Bool) (map : ℕ) where
     pub near : at + setBits rest * slotWidth energyWidth x ≤ 864
     pub energies-so : Filled (field 0 energyWidth) energies at rest
     pub prices-so : Filled (field energyWidth (priceWidth x)) prices at rest
+    pub bad-so : (bad || badSlots x (hourBits rest) (drop at (bitsOf bytes))) ≡ Bad
 
   blank : (f : List ℕ → ℕ) → Filled f (replicate 25 0) headWidth map
   unfolding hourBits
   blank f = rw (length-bits 25 map) at (fill-blank f (slotWidth energyWidth x) (hourBits map) (drop headWidth (bitsOf bytes)))
 
   pub filling-start : map < 2 ^ 25 → headWidth + setBits map * slotWidth energyWidth x ≤ 8 * length bytes
-      → Filling (replicate 25 0) (replicate 25 0) headWidth map
+      → Filling (replicate 25 0) (replicate 25 0) headWidth map false
   filling-start s r = record {
     small = s;
     energies-long = refl;
@@ -164,15 +216,20 @@ module _ (bytes : List ℕ) (x : Bool) (map : ℕ) where
     near = end-le x map;
     energies-so = blank (field 0 energyWidth);
     prices-so = blank (field energyWidth (priceWidth x));
+    bad-so = refl;
   }
 
-  module _ {energies prices : List ℕ} {at rest : ℕ} (i : Filling energies prices at rest) where
+  module _ {energies prices : List ℕ} {at rest : ℕ} {bad : Bool} (i : Filling energies prices at rest bad) where
     full : (f : List ℕ → ℕ) (es : List ℕ) → rest ≡ 0 → Filled f es at rest → es ≡ Slots f
     unfolding hourBits
     full f es z e = sym (rw (z, bits-zero) (fill-zeros f (slotWidth energyWidth x) 25 (drop at (bitsOf bytes)) es)) ∙ e
 
-    pub filling-end : rest ≡ 0 → (energies ≡ Slots (field 0 energyWidth)) × (prices ≡ Slots (field energyWidth (priceWidth x)))
-    filling-end z = (full (field 0 energyWidth) energies z (i .energies-so), full (field energyWidth (priceWidth x)) prices z (i .prices-so))
+    judged : rest ≡ 0 → bad ≡ Bad
+    unfolding hourBits
+    judged z = sym (or-false bad) ∙ (rw (z, bits-zero, none-bad x 25) at (i .bad-so))
+
+    pub filling-end : rest ≡ 0 → (bad ≡ Bad) × (energies ≡ Slots (field 0 energyWidth)) × (prices ≡ Slots (field energyWidth (priceWidth x)))
+    filling-end z = (judged z, full (field 0 energyWidth) energies z (i .energies-so), full (field energyWidth (priceWidth x)) prices z (i .prices-so))
 
     module _ (h : ℕ) (t : Next rest h) where
       -- the bits of the next slot are there
@@ -187,6 +244,7 @@ module _ (bytes : List ℕ) (x : Bool) (map : ℕ) where
           (set prices h (field (at + energyWidth) (priceWidth x) (bitsOf bytes)))
           (at + energyWidth + priceWidth x)
           (rest - 2 ^ (24 - h))
+          (bad || badSlot x true (field at energyWidth (bitsOf bytes)) (field (at + energyWidth) (priceWidth x) (bitsOf bytes)))
       unfolding slotWidth field
       filling-next =
           let n = energyWidth + priceWidth x in
@@ -202,4 +260,5 @@ module _ (bytes : List ℕ) (x : Bool) (map : ℕ) where
             near = omega (arith, rw (count-next t, suc-mul) at (i .near));
             energies-so = rw (← e) (sym (fill-next t (field 0 energyWidth) n bs energies (omega (arith, t .inside, i .energies-long))) ∙ i .energies-so);
             prices-so = rw (← e, ← p) (sym (fill-next t (field energyWidth (priceWidth x)) n bs prices (omega (arith, t .inside, i .prices-long))) ∙ i .prices-so);
+            bad-so = rw (← e, ← p) (or-assoc bad (badSlot x true (field 0 energyWidth bs) (field energyWidth (priceWidth x) bs)) (badSlots x (hourBits (rest - 2 ^ (24 - h))) (drop n bs)) ∙ ap (λ b. bad || b) (sym (bad-next t x bs)) ∙ i .bad-so);
           }

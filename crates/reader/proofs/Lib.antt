@@ -1,3 +1,4 @@
 pub mod WordLaws
 pub mod FillLaws
 pub mod ReadLaws
+pub mod SlotLaws

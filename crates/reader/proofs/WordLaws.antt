@@ -1,14 +1,17 @@
--- Four bytes as one number, and the fields in them.
-use Prim.Native.Nat.{ℕ, _+_, _*_, _-_, _/_, _%_, _^_, _≤_, _<_}
-use mathlib.Core.Path.{_≡_, sym}
-use mathlib.Core.List.{List}
+-- Bytes as one number, and the fields in them.
+use Prim.Native.Nat.{ℕ, zero, suc, _+_, _*_, _-_, _/_, _%_, _^_, _≤_, _<_, min}
+use mathlib.Core.Path.{_≡_, refl, ap, sym}
+use mathlib.Core.Bool.{Bool, true, false}
+use mathlib.Core.List.{List, [], _∷_}
 use native.Mathlib.Omega.{arith}
-use native.Mathlib.Nat.{one-mul, mod-eq-of-lt}
+use native.Mathlib.Nat.{one-mul, mod-eq-of-lt, zero-min, min-zero, suc-min-suc}
+use borrow.Author.Tests.{leb-true, leb-false, le-leb, lt-leb}
+use lib.Dec.{leb}
 use lib.Pow.{pow-lt}
-use lib.ListN.{length, List·getD-eq-default}
-use Rattle.rules.specs.Message.{field, bitsOf}
+use lib.ListN.{length, take, drop, getD, length-drop, List·getD-eq-default}
+use Rattle.rules.specs.Message.{value, field, bitsOf}
 use Rattle.rules.proofs.ListLaws.{Under}
-use Rattle.rules.proofs.BitLaws.{field-word, word-four}
+use Rattle.rules.proofs.BitLaws.{length-bitsOf, word, field-word, word-four}
 use Rattle.reader.specs.Bits.{wordAt}
 
 pub word-past : (bytes : List ℕ) (i : ℕ) → length bytes ≤ i → 0 ≡ wordAt bytes i
@@ -21,11 +24,53 @@ word-past bytes i h =
       List·getD-eq-default bytes 0 {n = i + 3} (omega arith),
     )
 
--- a field of up to 25 bits stands in four bytes
-pub field-read : (at w : ℕ) {bytes : List ℕ} → Under 256 bytes → w ≤ 25 → at + w ≤ 8 * length bytes
-    → wordAt bytes (at / 8) / 2 ^ (32 - at % 8 - w) % 2 ^ w ≡ field at w (bitsOf bytes)
-unfolding wordAt
-field-read at w {bytes} u h l = sym (rw word-four at (field-word 4 at w u (omega arith) l))
+one-more : (i : ℕ) (bytes : List ℕ) → word 5 i bytes ≡ word 4 i bytes * 256 + getD bytes (i + 4) 0
+unfolding word
+one-more i bytes =
+    let e : i + 1 + 1 + 1 + 1 ≡ i + 4 = omega arith in
+    rw e (omega arith)
 
-pub shifted-one : (k : ℕ) → k < 32 → 1 * 2 ^ k % 4294967296 ≡ 2 ^ k
-shifted-one k h = rw one-mul (mod-eq-of-lt (pow-lt {i = k} {j = 32} h))
+word-five : (i : ℕ) (bytes : List ℕ) → word 5 i bytes ≡ wordAt bytes i * 256 + getD bytes (i + 4) 0
+unfolding wordAt
+word-five i bytes = rw (← word-four i bytes) (one-more i bytes)
+
+-- a field of up to 32 bits stands in five bytes
+pub field-read : (at w : ℕ) {bytes : List ℕ} → Under 256 bytes → w ≤ 32 → at + w ≤ 8 * length bytes
+    → (wordAt bytes (at / 8) * 256 + getD bytes (at / 8 + 4) 0) / 2 ^ (40 - at % 8 - w) % 2 ^ w ≡ field at w (bitsOf bytes)
+field-read at w {bytes} u h l = sym (rw word-five at (field-word 5 at w u (omega arith) l))
+
+-- one bit shifted, in a word of w bits
+pub shifted-one : (w k : ℕ) → k < w → 1 * 2 ^ k % 2 ^ w ≡ 2 ^ k
+shifted-one w k h = rw one-mul (mod-eq-of-lt (pow-lt {i = k} {j = w} h))
+
+-- of a field that reaches beyond the end, the bits that are there
+take-there : (w : ℕ) (l : List ℕ) → take w l ≡ take (min w (length l)) l
+take-there zero l = rw (zero-min (length l))
+take-there (suc w) [] = rw (min-zero (suc w))
+take-there (suc w) (x ∷ l) = rw (suc-min-suc w (length l)) (ap (λ m. x ∷ m) (take-there w l))
+
+pub field-there : (at w : ℕ) (bytes : List ℕ) → field at w (bitsOf bytes) ≡ field at (min w (8 * length bytes - at)) (bitsOf bytes)
+unfolding field
+field-there at w bytes = rw (← length-bitsOf bytes, ← length-drop at (bitsOf bytes)) (ap value (take-there w (drop at (bitsOf bytes))))
+
+-- an empty field
+pub field-none : (at : ℕ) (bs : List ℕ) → field at 0 bs ≡ 0
+unfolding field value
+field-none at bs = refl
+
+-- the test whether the bits of a field are there
+module _ (at w : ℕ) (bytes : List ℕ) where
+  abbrev has : Bool
+  has = leb (at + w) (length (bitsOf bytes))
+
+  pub has-all : at + w ≤ 8 * length bytes → true ≡ has
+  has-all h = sym (le-leb (at + w) (length (bitsOf bytes)) (omega (arith, length-bitsOf bytes)))
+
+  pub has-not : 8 * length bytes < at + w → false ≡ has
+  has-not h = sym (lt-leb (at + w) (length (bitsOf bytes)) (omega (arith, length-bitsOf bytes)))
+
+  pub all-had : has ≡ true → at + w ≤ 8 * length bytes
+  all-had e = omega (arith, length-bitsOf bytes, leb-true (at + w) (length (bitsOf bytes)) e)
+
+  pub not-had : has ≡ false → 8 * length bytes < at + w
+  not-had e = omega (arith, length-bitsOf bytes, leb-false (at + w) (length (bitsOf bytes)) e)

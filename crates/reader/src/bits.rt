@@ -1,7 +1,9 @@
-// Bytes of a message as numbers.
+// Bytes and bits of a message as numbers.
 ghost use mathlib.Core.Path.{_≡_};
-ghost use Prim.Native.Nat.{_+_, _*_, _^_, _<_};
-ghost use lib.ListN.{getD};
+ghost use Prim.Native.Nat.{_+_, _*_, _-_, _^_, _<_, _≤_, min};
+ghost use lib.Dec.{leb};
+ghost use lib.ListN.{length, getD};
+ghost use Rattle.rules.specs.Message.{bitsOf, field};
 ghost use Rattle.reader.specs.Bits.{wordAt};
 
 // Four bytes as one number, the first highest.
@@ -28,10 +30,106 @@ pub fn word_at(s: &[u8], i: usize) -> u64
     if s.len() < i {
         return 0;
     }
+    if 4 <= s.len() - i {
+        return joined(s[i], s[i + 1], s[i + 2], s[i + 3]);
+    }
     joined(
         byte_at(s, i),
         byte_at(s, i + 1),
         byte_at(s, i + 2),
         byte_at(s, i + 3),
     )
+}
+
+// 2 to the power k.
+pub fn power(k: usize) -> u64
+    requires { ⌜ k ≤ 32 ⌝ }
+    ensures { λ r. ⌜ r ≡ 2 ^ k ⌝ }
+{
+    1u64 << k
+}
+
+// The number in `width` bits from bit `at` on.
+pub fn field_at(s: &[u8], at: usize, width: usize) -> u32
+    requires { ⌜ (width ≤ 32) × (at + width ≤ 8 * length (now s)) ⌝ }
+    ensures { λ r. ⌜ (r ≡ field at width (bitsOf (now (s .entry)))) × (r < 2 ^ width) ⌝ }
+{
+    let below = 40 - at % 8 - width;
+    let last = byte_at(s, at / 8 + 4) as u64;
+    let word = word_at(s, at / 8) * 256 + last;
+    ((word >> below) & (power(width) - 1)) as u32
+}
+
+// Every position and width
+
+fn least(a: usize, b: usize) -> usize
+    ensures { λ r. ⌜ r ≡ min a b ⌝ }
+{
+    if a <= b {
+        return a;
+    }
+    b
+}
+
+// Whether the message has the `width` bits from bit `at` on.
+pub fn has_at(s: &[u8], at: usize, width: usize) -> bool
+    ensures { λ r. ⌜ r ≡ leb (at + width) (length (bitsOf (now (s .entry)))) ⌝ }
+{
+    let end = at / 8 + width / 8 + (at % 8 + width % 8 + 7) / 8;
+    if s.len() < end {
+        return false;
+    }
+    true
+}
+
+// How many of the `width` bits from bit `at` on the message has.
+fn there_at(s: &[u8], at: usize, width: usize) -> usize
+    requires { ⌜ width ≤ 32 ⌝ }
+    ensures { λ r. ⌜ r ≡ min width (8 * length (now (s .entry)) - at) ⌝ }
+{
+    if has_at(s, at, width) {
+        return width;
+    }
+    if s.len() <= at / 8 {
+        return 0;
+    }
+    (s.len() - at / 8) * 8 - at % 8
+}
+
+// The number in the `width` bits from bit `at` on, or in as many of them as the message has.
+fn bits_at(s: &[u8], at: usize, width: usize) -> u32
+    requires { ⌜ width ≤ 32 ⌝ }
+    ensures { λ r. ⌜ r ≡ field at width (bitsOf (now (s .entry))) ⌝ }
+{
+    let n = there_at(s, at, width);
+    if n == 0 {
+        return 0;
+    }
+    field_at(s, at, n)
+}
+
+// The position n bits on; at the last one that a machine word holds it stays.
+fn onward(at: usize, n: usize) -> usize
+    ensures { λ r. ⌜ r ≡ min (at + n) (2 ^ 64 - 1) ⌝ }
+{
+    if 18446744073709551615 - n < at {
+        return 18446744073709551615;
+    }
+    at + n
+}
+
+pub struct Taken {
+    pub value: u32,
+    pub next: usize,
+}
+
+// The next `width` bits as a number, at most 32 of them, and the position after them. Of bits beyond the message's end nothing is
+// read: the number is that of the bits before it.
+pub fn take_at(s: &[u8], at: usize, width: usize) -> Taken
+    ensures { λ r. ⌜ (r .value ≡ field at (min width 32) (bitsOf (now (s .entry)))) × (r .next ≡ min (at + min width 32) (2 ^ 64 - 1)) ⌝ }
+{
+    let n = least(width, 32);
+    let value = bits_at(s, at, n);
+    let next = onward(at, n);
+    Taken { value, next }
 }

@@ -1,20 +1,22 @@
 // Reading a lodging message.
 pub mod bits;
 
-use bits::word_at;
+use bits::field_at;
+use bits::power;
 use message::Fields;
 use message::Reading;
 use message::blank;
 use message::form::length_for;
 use message::form::price_width;
 use message::form::slots_end;
-use message::judge::bad_fields;
+use message::judge::bad_key;
 use message::judge::bad_map;
+use message::judge::bad_slot;
 ghost use mathlib.Core.Path.{_≡_};
-ghost use mathlib.Core.Bool.{false};
+ghost use mathlib.Core.Bool.{false, _||_};
 ghost use Prim.Native.Nat.{_+_, _*_, _^_, _<_, _≤_};
 ghost use lib.Count.{leadingZeros};
-ghost use lib.ListN.{length, drop};
+ghost use lib.ListN.{length, drop, replicate};
 ghost use Rattle.rules.specs.Message.{
   energyWidth,
   priceWidth,
@@ -29,25 +31,8 @@ ghost use Rattle.rules.specs.Message.{
   badForm,
   read as reading,
 };
+ghost use Rattle.reader.specs.Slots.{badSlots, headIn};
 ghost use Rattle.message.specs.View.{fieldsIn, readingAs, noFields};
-
-// 2 to the power k.
-fn power(k: usize) -> u32
-    requires { ⌜ k < 32 ⌝ }
-    ensures { λ r. ⌜ r ≡ 2 ^ k ⌝ }
-{
-    1u32 << k
-}
-
-// The number in `width` bits from bit `at` on.
-fn field_at(s: &[u8], at: usize, width: usize) -> u32
-    requires { ⌜ (width ≤ 25) × (at + width ≤ 8 * length (now s)) ⌝ }
-    ensures { λ r. ⌜ (r ≡ field at width (bitsOf (now (s .entry)))) × (r < 2 ^ width) ⌝ }
-{
-    let below = 32 - at % 8 - width;
-    let word = word_at(s, at / 8) >> below;
-    word as u32 % power(width)
-}
 
 // 3: wrong length, form, kind or filling.
 pub fn bad_form(s: &[u8]) -> bool
@@ -79,30 +64,69 @@ fn next_hour(map: u32) -> usize
     (u32::leading_zeros(map) - 7) as usize
 }
 
-struct Slots {
-    energies: [u32; 25],
-    prices: [u32; 25],
+// Whether one of two holds.
+fn either(a: bool, b: bool) -> bool
+    ensures { λ r. ⌜ r ≡ (a || b) ⌝ }
+{
+    if a {
+        return true;
+    }
+    b
 }
 
-// The energy and the price of each named hour, 0 in the others.
-fn slots_of(s: &[u8], execution: bool, map: u32) -> Slots
-    requires { ⌜ (map < 2 ^ 25) × (headWidth + setBits map * slotWidth energyWidth execution ≤ 8 * length (now s)) ⌝ }
-    ensures { λ r. ⌜ (r .energies ≡ readSlots (field 0 energyWidth) (slotWidth energyWidth execution) (hourBits map) (drop headWidth (bitsOf (now (s .entry)))))
-        × (r .prices ≡ readSlots (field energyWidth (priceWidth execution)) (slotWidth energyWidth execution) (hourBits map) (drop headWidth (bitsOf (now (s .entry))))) ⌝ }
+// Fills in the energy and the price of each named hour, and says whether one is outside its range.
+fn fill(
+    s: &[u8],
+    execution: bool,
+    map: u32,
+    energies: &mut [u32; 25],
+    prices: &mut [u32; 25],
+) -> bool
+    requires { ⌜ (map < 2 ^ 25) × (headWidth + setBits map * slotWidth energyWidth execution ≤ 8 * length (now s))
+        × (now energies ≡ replicate 25 0) × (now prices ≡ replicate 25 0) ⌝ }
+    ensures { λ r. ⌜ (r ≡ badSlots execution (hourBits map) (drop headWidth (bitsOf (now (s .entry)))))
+        × (now (energies .exit) ≡ readSlots (field 0 energyWidth) (slotWidth energyWidth execution) (hourBits map) (drop headWidth (bitsOf (now (s .entry)))))
+        × (now (prices .exit) ≡ readSlots (field energyWidth (priceWidth execution)) (slotWidth energyWidth execution) (hourBits map) (drop headWidth (bitsOf (now (s .entry))))) ⌝ }
 {
     let price = price_width(execution);
-    let mut energies = [0u32; 25];
-    let mut prices = [0u32; 25];
+    let mask = power(price) as u32 - 1;
     let mut at: usize = 64;
     let mut rest = map;
+    let mut bad = false;
     while rest != 0 {
         let h = next_hour(rest);
-        energies[h] = field_at(s, at, 17);
-        prices[h] = field_at(s, at + 17, price);
+        let slot = field_at(s, at, 17 + price);
+        let e = slot >> price;
+        let p = slot & mask;
+        energies[h] = e;
+        prices[h] = p;
+        bad = either(bad, bad_slot(execution, true, e, p));
         at = at + 17 + price;
-        rest = rest - power(24 - h);
+        rest = rest - power(24 - h) as u32;
     }
-    Slots { energies, prices }
+    bad
+}
+
+// The fields before the hours' slots.
+struct Head {
+    execution: bool,
+    default: bool,
+    unit: u32,
+    contract: u32,
+    map: u32,
+}
+
+fn head_of(s: &[u8]) -> Head
+    requires { ⌜ 8 ≤ length (now s) ⌝ }
+    ensures { λ r. ⌜ (r ≡ headIn (bitsOf (now (s .entry)))) × (r .map < 2 ^ 25) ⌝ }
+{
+    Head {
+        execution: field_at(s, 4, 2) == 1,
+        default: field_at(s, 6, 1) == 1,
+        unit: field_at(s, 7, 16),
+        contract: field_at(s, 23, 16),
+        map: field_at(s, 39, 25),
+    }
 }
 
 // What a message says, after its form was found right.
@@ -110,20 +134,16 @@ pub fn fields_of(s: &[u8]) -> Fields
     requires { ⌜ badForm energyWidth (now s) ≡ false ⌝ }
     ensures { λ r. ⌜ fieldsIn r ≡ decode energyWidth (now (s .entry)) ⌝ }
 {
-    let execution = field_at(s, 4, 2) == 1;
-    let default = field_at(s, 6, 1) == 1;
-    let unit = field_at(s, 7, 16);
-    let contract = field_at(s, 23, 16);
-    let map = field_at(s, 39, 25);
-    let slots = slots_of(s, execution, map);
-    let energies = slots.energies;
-    let prices = slots.prices;
+    let head = head_of(s);
+    let mut energies = [0u32; 25];
+    let mut prices = [0u32; 25];
+    let _bad = fill(s, head.execution, head.map, &mut energies, &mut prices);
     Fields {
-        execution,
-        default,
-        unit,
-        contract,
-        map,
+        execution: head.execution,
+        default: head.default,
+        unit: head.unit,
+        contract: head.contract,
+        map: head.map,
         energies,
         prices,
     }
@@ -145,15 +165,29 @@ pub fn read(s: &[u8]) -> Reading
     if bad_form(s) {
         return refused(3);
     }
-    let m = fields_of(s);
-    if bad_map(m.map) {
+    let head = head_of(s);
+    if bad_map(head.map) {
         return refused(4);
     }
-    if bad_fields(m) {
+    let mut energies = [0u32; 25];
+    let mut prices = [0u32; 25];
+    let bad = fill(s, head.execution, head.map, &mut energies, &mut prices);
+    if bad_key(head.execution, head.unit, head.contract) {
+        return refused(5);
+    }
+    if bad {
         return refused(5);
     }
     Reading {
         refusal: 0,
-        fields: m,
+        fields: Fields {
+            execution: head.execution,
+            default: head.default,
+            unit: head.unit,
+            contract: head.contract,
+            map: head.map,
+            energies,
+            prices,
+        },
     }
 }

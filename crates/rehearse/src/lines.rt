@@ -1,6 +1,15 @@
 // A line run on a session.
 use crate::telling::Said;
 use crate::telling::Told;
+use asking::BILATERAL;
+use asking::BILATERAL_MAXIMUM;
+use asking::EXECUTED;
+use asking::MARKET;
+use asking::MARKET_MAXIMUM;
+use asking::MATCHED;
+use asking::PRICE;
+use asking::VERDICT;
+use asking::reply_to;
 use calendar::Date;
 use message::Fields;
 use queries::Reply;
@@ -21,7 +30,7 @@ use wording::words::number;
 use wording::words::number_in;
 use wording::words::one_of;
 
-// What a line's first word asks for. Register to clear are the kinds of the log's records.
+// What a line's first word asks for. Register to clear are the kinds of the log's records; 11 to 18 are the queries (crates/report).
 const NO_KIND: u8 = 0;
 
 const REGISTER: u8 = 1;
@@ -44,21 +53,7 @@ const OFFER: u8 = 9;
 
 const EXECUTION: u8 = 10;
 
-const VERDICT: u8 = 11;
-
-const MATCHED: u8 = 12;
-
-const EXECUTED: u8 = 13;
-
-const MARKET: u8 = 14;
-
-const BILATERAL: u8 = 15;
-
-const PRICE: u8 = 16;
-
-const MARKET_MAXIMUM: u8 = 17;
-
-const BILATERAL_MAXIMUM: u8 = 18;
+const REPORT: u8 = 19;
 
 fn call_kind(line: &[u8], w: Word) -> u8 {
     if is_word(line, w, b"register") {
@@ -118,6 +113,9 @@ fn query_kind(line: &[u8], w: Word) -> u8 {
     }
     if is_word(line, w, b"bilateral-maximum") {
         return BILATERAL_MAXIMUM;
+    }
+    if is_word(line, w, b"report") {
+        return REPORT;
     }
     NO_KIND
 }
@@ -308,26 +306,24 @@ fn question_of(line: &[u8], p: Scan, kind: u8) -> Question {
     }
 }
 
-fn reply_to(s: Session, kind: u8, q: Question) -> Reply {
-    match kind {
-        VERDICT => queries::verdict(s, q.of),
-        MATCHED => queries::matched(s, q.of, q.hour),
-        EXECUTED => queries::executed(s, q.of, q.hour),
-        MARKET => queries::market(s, q.of, q.hour),
-        BILATERAL => queries::bilateral(s, q.of, q.hour),
-        PRICE => queries::price(s, q.hour),
-        MARKET_MAXIMUM => queries::market_maximum(s, q.of, q.import == 0, q.hour),
-        _ => queries::bilateral_maximum(s, q.of, q.import == 0, q.hour),
-    }
-}
-
 fn run_query(line: &[u8], p: Scan, kind: u8, s: Session) -> Told {
     let q = question_of(line, p, kind);
     if !q.good {
         return unknown(s);
     }
-    let r = reply_to(s, kind, q);
+    let r = reply_to(s, kind, q.of, q.import == 0, q.hour);
     replied(s, r)
+}
+
+// report
+fn run_report(line: &[u8], p: Scan, s: Session) -> Told {
+    if !is_ended(line, p.at) {
+        return unknown(s);
+    }
+    Told {
+        session: s,
+        said: Said::Report,
+    }
 }
 
 // A line that is neither blank nor a comment.
@@ -345,6 +341,7 @@ pub fn run(line: &[u8], s: Session) -> Told {
         OPEN => run_open(line, p, s),
         OFFER => run_message(line, p, false, s),
         EXECUTION => run_message(line, p, true, s),
+        REPORT => run_report(line, p, s),
         _ => run_query(line, p, kind, s),
     }
 }

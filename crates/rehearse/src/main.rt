@@ -1,11 +1,11 @@
 // A rehearsal: calls and queries as lines of text on standard input, run on the session that the last one left; each answer
-// is a line (docs/REHEARSAL.md). At the end it says how many were run, refused and not understood.
+// is a line, a report a line and its tables (docs/REHEARSAL.md). At the end it says how many were run, refused and not understood.
 use calendar::Date;
 use reader::bits::byte_at;
+use report::text::put;
+use report::text::put_count;
 use session::Session;
 use telling::Said;
-use telling::put;
-use telling::put_count;
 use wording::words::is_blank;
 ghost use Prim.Native.Nat.{_≤_};
 ghost use lib.ListN.{length};
@@ -74,9 +74,13 @@ fn up_if(n: u64, is_so: bool) -> u64 {
     n
 }
 
-// The answer told, and counted.
+// The answer told, and counted: a report, which asks for nothing that could be refused, is not.
 fn tell(d: Day, session: Session, said: Said) -> Day {
     telling::put_line(d.place, said);
+    if telling::is_report(said) {
+        report::put_report(session);
+        return d;
+    }
     let unknown = telling::is_unknown(said);
     Day {
         session,

@@ -11,11 +11,10 @@ use borrow.Author.Tests.{le-leb, leb-true}
 use Rattle.rules.specs.Lists.{any}
 use Rattle.rules.specs.Units as U
 use Rattle.rules.specs.Book as B
-use Rattle.rules.specs.DayBook as D
 use Rattle.rules.proofs.BoolLaws.{both}
 use Rattle.rules.proofs.HoursLaws.{hours-most}
-use Rattle.session.specs.Image.{image, unitIn, unitOf, noticeOf, noticeAs, lodgementAs, energiesAs, noUnit, noNotice, noLodgement, noEnergies, Sound}
-use Rattle.session.specs.Parts.{Within, within, numberIs, placeOf, besideUnit}
+use Rattle.session.specs.Image.{image, unitOf, noticeOf, noticeAs, lodgementAs, energiesAs, noUnit, noNotice, noLodgement, noEnergies, Sound}
+use Rattle.session.specs.Parts.{Within, within, numberIs, placeOf}
 use Rattle.session.specs.declared.Session.{Session}
 use Rattle.session.specs.declared.Unit.{Unit}
 use Rattle.session.specs.declared.Notice.{Notice}
@@ -66,10 +65,6 @@ module _ (s : Session) (b : B.Book) (e : s ≡ image b) where
   pub registered-as : (n : ℕ) → U.isRegistered (b .units) n ≡ any (numberIs n) (take (s .enrolled) (s .units))
   unfolding U.isRegistered U.hasNumber
   registered-as n = rw units-as (sym (any-map unitOf (numberIs n) (b .units)))
-
-  pub second-as : (u : Unit) → D.isSecond b (unitIn u) ≡ any (besideUnit u) (take (s .enrolled) (s .units))
-  unfolding D.isSecond
-  second-as u = rw units-as (sym (any-map unitOf (besideUnit u) (b .units)))
 
   pub cleared-as : b .cleared ≡ s .cleared
   unfolding image

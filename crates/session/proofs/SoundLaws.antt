@@ -1,6 +1,6 @@
 -- Opening and every call leave a sound book.
 use mathlib.Core.Path.{_≡_, sym, _∙_}
-use mathlib.Core.Bool.{true, false, false≢true}
+use mathlib.Core.Bool.{false, false≢true}
 use Rattle.rules.specs.Hours as H
 use Rattle.rules.specs.Book as B
 use Rattle.rules.specs.DayBook as D

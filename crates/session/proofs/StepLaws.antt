@@ -1,7 +1,7 @@
 -- The ways out of a call.
 use Prim.Native.Nat.{ℕ}
 use mathlib.Core.Path.{_≡_, refl, sym, ap, _∙_}
-use mathlib.Core.Bool.{true, false, false≢true}
+use mathlib.Core.Bool.{false, false≢true}
 use mathlib.Core.Option.{Option, some, none}
 use mathlib.Core.List.{List, _∷_}
 use native.Mathlib.Omega.{arith}

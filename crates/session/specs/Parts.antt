@@ -1,21 +1,16 @@
 -- What the parts of a call promise to each other: of use inside the crates of the session only.
 use Prim.Native.Nat.{ℕ, suc, _≤_}
 use mathlib.Core.Path.{_≡_}
-use mathlib.Core.Bool.{Bool, true, false, cond, _&&_}
+use mathlib.Core.Bool.{Bool, false, cond, _&&_}
 use mathlib.Core.List.{List, [], _∷_}
 use mathlib.Core.Option.{Option, some, none}
 use lib.Dec.{leb, eqb}
-use lib.ListN.{take}
 use Rattle.rules.specs.Refusals.{Row, firstRow}
-use Rattle.rules.specs.Units as U
 use Rattle.rules.specs.Book.{Book}
 use Rattle.rules.specs.DayBook as D
-use Rattle.session.specs.Laid.{pad}
-use Rattle.session.specs.Image.{image, Sound, unitIn, publishedIn, noNotice}
+use Rattle.session.specs.Image.{image, Sound}
 use Rattle.session.specs.Steps.{As, isRefusal}
 use Rattle.session.specs.declared.Unit.{Unit}
-use Rattle.session.specs.declared.Notice.{Notice}
-use Rattle.session.specs.declared.Published.{Published}
 use Rattle.session.specs.declared.Session.{Session}
 use Rattle.session.specs.declared.Answer.the-variants.{Refused}
 use Rattle.session.specs.declared.Judged.{Judged}
@@ -51,21 +46,6 @@ pub record Within (s : Session) : Type 0 where
 abbrev pub within : Session → Bool
 within s = leb (s .hours) 25 && (leb (s .enrolled) 64 && (leb (s .standing) 128 && leb (s .last) 65535))
 
--- What the code makes of a notice
-
--- energies that are kept: those of the count, 0 behind
-unfoldable pub keptAs : ℕ → List ℕ → Notice
-keptAs count es = record { given = true; energies = pad 25 0 (take count es) }
-
-unfoldable pub directionAs : Published → Notice
-directionAs p = cond (p .published) (keptAs (p .count) (p .energies)) noNotice
-
--- the notices of units, x in the place of each unit with number n
-unfoldable pub noted : ℕ → Notice → List Unit → List Notice → List Notice
-noted n x [] ns = ns
-noted n x (u ∷ us) [] = []
-noted n x (u ∷ us) (m ∷ ns) = cond (eqb (u .number) n) x m ∷ noted n x us ns
-
 -- Searches among units
 
 -- the place of the first that passes a test, or behind the last
@@ -75,18 +55,3 @@ placeOf p (x ∷ xs) = cond (p x) 0 (suc (placeOf p xs))
 
 abbrev pub numberIs : ℕ → Unit → Bool
 numberIs n u = eqb (u .number) n
-
-abbrev pub besideUnit : Unit → Unit → Bool
-besideUnit u v = U.sameBorderSide (unitIn u) (unitIn v)
-
--- Searches among directions
-
-abbrev pub offHours : ℕ → Published → Bool
-offHours H p = U.notOfHours H (publishedIn p)
-
-abbrev pub offRange : Published → Bool
-offRange p = U.badPublished (publishedIn p)
-
--- an element that is read beyond an array
-abbrev pub barePublished : Published
-barePublished = record { published = false; count = 0; energies = [] }

@@ -1,4 +1,4 @@
-// The session by value: the day book laid into arrays, and the calls on it.
+// The session by value: the day book laid into arrays, and its opening.
 ghost use mathlib.Core.Path.{_≡_};
 ghost use Rattle.rules.specs.Book.{fresh};
 ghost use Rattle.calendar.specs.View.{dateIn};
@@ -7,11 +7,10 @@ ghost use Rattle.session.specs.Steps.{Opens};
 ghost use Rattle.session.specs.Parts.{within, refusedWith};
 use calendar::Date;
 
-mod capacities;
-mod notices;
 pub mod units;
 
 // Number and agent are 1 to 65,535; border is 0 domestic, 1 France, 2 Andorra, 3 Portugal, 4 Morocco.
+#[repr(C)]
 pub struct Unit {
     pub number: u32,
     pub agent: u32,
@@ -22,18 +21,21 @@ pub struct Unit {
 }
 
 // A notice that the session keeps: energies by hour, 0 behind the last hour.
+#[repr(C)]
 pub struct Notice {
     pub given: bool,
     pub energies: [u32; 25],
 }
 
 // A direction of a capacity notice: absent, or `count` energies.
+#[repr(C)]
 pub struct Published {
     pub published: bool,
     pub count: usize,
     pub energies: [u32; 25],
 }
 
+#[repr(C)]
 pub struct Key {
     pub execution: bool,
     pub default: bool,
@@ -41,18 +43,21 @@ pub struct Key {
     pub contract: u32,
 }
 
+#[repr(C)]
 pub struct Lodgement {
     pub key: Key,
     pub number: u32,
 }
 
 // Energies and prices of a lodgement by hour.
+#[repr(C)]
 pub struct Energies {
     pub energies: [u32; 25],
     pub prices: [u32; 25],
 }
 
 // A lodgement's verdict: accepted, refused by a limit in an hour, or neither, which is hidden.
+#[repr(C)]
 pub struct Verdict {
     pub accepted: bool,
     pub limit: u32,
@@ -60,6 +65,7 @@ pub struct Verdict {
 }
 
 // An hour's figures. Energies at the borders are by direction (`borders::way`), those of units by the place of the unit.
+#[repr(C)]
 pub struct Cleared {
     pub price: u32,
     pub market: [u32; 10],
@@ -72,6 +78,7 @@ pub struct Cleared {
 // `enrolled` units stand in front of their array, and `standing` lodgements of theirs, in the order of their numbers.
 // `capacities` are export and import of border 1, of 2, of 3, of 4. Verdicts stand in the lodgements' places once closed,
 // figures in the hours' places once cleared.
+#[repr(C)]
 pub struct Session {
     pub date: Date,
     pub hours: u32,
@@ -144,7 +151,7 @@ fn no_unit() -> Unit
     }
 }
 
-fn no_notice() -> Notice
+pub fn no_notice() -> Notice
     ensures { λ r. ⌜ r ≡ noNotice ⌝ }
 {
     Notice {

@@ -1,5 +1,2 @@
-pub mod LayLaws
-pub mod GivenLaws
-pub mod LossLaws
-pub mod PriceLaws
 pub mod StepLaws
+pub mod TurnLaws

@@ -1,3 +1,2 @@
-pub mod Given
-pub mod Prices
 pub mod Steps
+pub mod Turns

@@ -6,11 +6,11 @@ use native.Mathlib.Omega.{arith}
 use lib.Pow.{pow-pos}
 use lib.ListN.{length, getD, length-append}
 use Rattle.rules.specs.Message.{Fields, bits, slotWidth}
-use Rattle.writer.specs.declared.Pen.{Pen}
-use Rattle.writer.specs.Pens.{completed, Appended, Room, InRanges, FirstHour, SlotWord, slotsOf}
+use Rattle.pen.specs.declared.Pen.{Pen}
+use Rattle.pen.specs.Pens.{completed, Appended, Room, InRanges, FirstHour, SlotWord, slotsOf}
 use Rattle.rules.proofs.BitLaws.{length-bits}
-use Rattle.writer.proofs.SlotLaws.{map-fits, slotAt, slotsOf-next, slotsOf-none}
-use Rattle.writer.proofs.PenLaws.{room-after}
+use Rattle.pen.proofs.SlotLaws.{map-fits, slotAt, slotsOf-next, slotsOf-none}
+use Rattle.pen.proofs.PenLaws.{room-after}
 
 pub first-less : (map i rest : ℕ) → FirstHour map i rest → rest < map
 first-less map i rest f = omega (arith, f .first, pow-pos (24 - i))

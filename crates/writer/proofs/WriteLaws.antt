@@ -15,13 +15,13 @@ use Rattle.rules.specs.Message.{Fields, bits, bytesOf, hourBits, setBits, headB
 use Rattle.rules.proofs.BoolLaws.{by-bool}
 use Rattle.rules.proofs.BitLaws.{length-bytesOf}
 use Rattle.rules.proofs.MessageLaws.{of-writes, encode-length}
-use Rattle.writer.specs.declared.Pen.{Pen}
+use Rattle.pen.specs.declared.Pen.{Pen}
 use Rattle.message.specs.declared.Written.{Written}
 use Rattle.rules.specs.Message.{bufferAfter}
 use Rattle.message.specs.View.{writtenAs}
-use Rattle.writer.specs.Pens.{completed, Appended, Room, InRanges, slotsOf}
+use Rattle.pen.specs.Pens.{completed, Appended, Room, InRanges, slotsOf}
 use Rattle.message.proofs.FormLaws.{end-le, length-end}
-use Rattle.writer.proofs.PenLaws.{appended-append}
+use Rattle.pen.proofs.PenLaws.{appended-append}
 
 -- Refusals
 

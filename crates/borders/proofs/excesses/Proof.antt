@@ -23,7 +23,7 @@ returns c =
     let a = c .before .before .args in
     let l = c .before .loop in (
       (λ os km. excesses-said (a .flags .now) (a .maxima .now) (a .market .now) os km (l .over) (l .w) (omega arith) (l .inv)),
-      outer-none _ _ _ (l .inv),
+      (outer-none _ _ _ (l .inv), (λ w h k. l .inv .inner w h (omega arith))),
     )
 
 pub excesses-spec : {M : Type 1} → statement M

@@ -3,7 +3,7 @@ use mathlib.Core.Path.{_≡_, _∙_}
 use native.Mathlib.Omega.{arith}
 use lib.ListN.{length, length-set}
 use Rattle.session.specs.declared.Cleared.{Cleared}
-use Rattle.clearing.specs.Shown.{HoursAs}
+use Rattle.clearing.specs.Hours.{HoursAs}
 use Rattle.clearing.proofs.EndLaws.{hours-start, hours-next, hours-end}
 use borrow.Author.Needs.{needs}
 use Rattle.clearing.proofs.clear_hours.Statement.{statement}

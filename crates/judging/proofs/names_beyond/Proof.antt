@@ -14,10 +14,10 @@ shl-result : tie.Need-shl-result
 shl-result c = search needs
 
 rem-result : tie.Need-rem-result
-rem-result c = rw (shifted-one (25 - c .args .hours) (omega arith)) (pow-pos (25 - c .args .hours))
+rem-result c = rw (shifted-one 32 (25 - c .args .hours) (omega arith)) (pow-pos (25 - c .args .hours))
 
 returns : tie.Need-returns
-returns c = rw (shifted-one (25 - c .args .hours) (omega arith)) (beyond-bits _ _ (omega arith))
+returns c = rw (shifted-one 32 (25 - c .args .hours) (omega arith)) (beyond-bits _ _ (omega arith))
 
 pub names-beyond-spec : {M : Type 1} → statement M
 names-beyond-spec = tie.close (tie.spec sub-result shl-result rem-result returns)

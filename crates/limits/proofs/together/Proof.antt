@@ -3,7 +3,7 @@ use mathlib.Core.Path.{_≡_, refl, sym, _∙_}
 use native.Mathlib.Omega.{arith}
 use lib.ListN.{getD, length, length-set}
 use lib.Seq.{ext-getD}
-use Rattle.limits.proofs.LoadLaws.{written-next, add-at, add-length}
+use Rattle.limits.proofs.WrittenLaws.{written-next, add-at, add-length}
 use borrow.Author.Needs.{needs}
 use Rattle.limits.proofs.together.Statement.{statement}
 use Rattle.limits.proofs.together.Tie as tie

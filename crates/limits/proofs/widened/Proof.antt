@@ -3,7 +3,7 @@ use mathlib.Core.Path.{_≡_, refl, _∙_}
 use native.Mathlib.Omega.{arith}
 use lib.ListN.{getD, length, length-set}
 use lib.Seq.{ext-getD}
-use Rattle.limits.proofs.LoadLaws.{written-next}
+use Rattle.limits.proofs.WrittenLaws.{written-next}
 use borrow.Author.Needs.{needs}
 use Rattle.limits.proofs.widened.Statement.{statement}
 use Rattle.limits.proofs.widened.Tie as tie

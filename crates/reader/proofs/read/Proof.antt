@@ -1,8 +1,11 @@
--- `read::read` meets its contract: each way out is an outcome of the table, in its order.
-use mathlib.Core.Path.{_≡_, sym, _∙_}
-use mathlib.Core.Bool.{false}
-use Rattle.rules.specs.Message.{energyWidth, badForm, badMap}
-use Rattle.reader.proofs.ReadLaws.{read-3, read-4, read-5, read-given}
+-- `read` meets its contract: each way out is an outcome of the table, in its order.
+use mathlib.Core.Path.{_≡_, refl, ap, sym, _∙_}
+use mathlib.Core.Bool.{false, _||_}
+use native.Mathlib.Omega.{arith}
+use Rattle.rules.specs.Message.{energyWidth, badForm, badMap, badFields, decode}
+use Rattle.rules.proofs.MessageLaws.{formed}
+use Rattle.reader.proofs.ReadLaws.{room, read-3, read-4, read-5, read-given}
+use Rattle.reader.proofs.SlotLaws.{fields-told}
 use Rattle.reader.proofs.read.Statement.{statement}
 use Rattle.reader.proofs.read.Tie as tie
 
@@ -10,7 +13,7 @@ use Rattle.reader.proofs.read.Tie as tie
 form : (c : tie.Else1) → badForm energyWidth (c .before .before .before .args .s .now) ≡ false
 form c = sym (c .before .bad-form .ensures) ∙ c .if1 .left
 
-map : (c : tie.Else2) → badMap (c .before .before .fields-of .result .map) ≡ false
+map : (c : tie.Else2) → badMap (c .before .before .head-of .result .map) ≡ false
 map c = sym (c .before .bad-map .ensures) ∙ c .if2 .left
 
 bad-form-requires : tie.Need-bad-form-requires
@@ -22,8 +25,8 @@ refused-requires c κs = tt
 returns : tie.Need-returns
 returns c = c .refused .ensures ∙ read-3 _ (sym (c .before .before .bad-form .ensures) ∙ c .before .if1 .taken)
 
-fields-of-requires : tie.Need-fields-of-requires
-fields-of-requires c κs = form c
+head-of-requires : tie.Need-head-of-requires
+head-of-requires c κs = omega (arith, formed 17 _ (form c) .long)
 
 bad-map-requires : tie.Need-bad-map-requires
 bad-map-requires c κs = tt
@@ -32,12 +35,17 @@ refused-requires-2 : tie.Need-refused-requires-2
 refused-requires-2 c κs = tt
 
 returns-2 : tie.Need-returns-2
-returns-2 c =
-    c .refused2 .ensures
-    ∙ read-4 _ _ (c .before .before .before .fields-of .ensures) (form (c .before .before .before .before)) (sym (c .before .before .bad-map .ensures) ∙ c .before .if2 .taken)
+returns-2 c = c .refused2 .ensures ∙ read-4 _ _ (c .before .before .before .head-of .ensures .0) (form (c .before .before .before .before)) (sym (c .before .before .bad-map .ensures) ∙ c .before .if2 .taken)
 
-bad-fields-requires : tie.Need-bad-fields-requires
-bad-fields-requires c κs = tt
+fill-requires : tie.Need-fill-requires
+fill-requires c κs = (c .before .before .before .before .head-of .ensures .1, room _ _ (c .before .before .before .before .head-of .ensures .0) (form (c .before .before .before .before .before)), refl, refl)
+
+-- what the tests of the key and of the slots found
+told : (c : tie.After-bad-key) → badFields (decode energyWidth (c .before .before .before .before .before .before .before .before .before .before .args .s .now)) ≡ (c .bad-key .result || c .before .fill .result)
+told c = fields-told _ _ (c .before .before .before .before .before .before .head-of .ensures .0) _ _ (c .bad-key .ensures) (c .before .fill .ensures .0)
+
+bad-key-requires : tie.Need-bad-key-requires
+bad-key-requires c κs = tt
 
 refused-requires-3 : tie.Need-refused-requires-3
 refused-requires-3 c κs = tt
@@ -45,11 +53,22 @@ refused-requires-3 c κs = tt
 returns-3 : tie.Need-returns-3
 returns-3 c =
     c .refused3 .ensures
-    ∙ read-5 _ _ (c .before .before .before .before .before .fields-of .ensures) (form (c .before .before .before .before .before .before)) (map (c .before .before .before)) (sym (c .before .before .bad-fields .ensures) ∙ c .before .if3 .taken)
+    ∙ read-5 _ _ (c .before .before .before .before .before .before .before .before .head-of .ensures .0) (form (c .before .before .before .before .before .before .before .before .before)) (map (c .before .before .before .before .before .before))
+    (told (c .before .before) ∙ ap (λ k. k || c .before .before .before .fill .result) (c .before .if3 .taken))
+
+refused-requires-4 : tie.Need-refused-requires-4
+refused-requires-4 c κs = tt
 
 returns-4 : tie.Need-returns-4
 returns-4 c =
-    read-given _ _ (c .before .before .before .before .fields-of .ensures) (form (c .before .before .before .before .before)) (map (c .before .before)) (sym (c .before .bad-fields .ensures) ∙ c .if3 .left)
+    c .refused4 .ensures
+    ∙ read-5 _ _ (c .before .before .before .before .before .before .before .before .before .head-of .ensures .0) (form (c .before .before .before .before .before .before .before .before .before .before)) (map (c .before .before .before .before .before .before .before))
+    (told (c .before .before .before) ∙ ap (λ k. k || c .before .before .before .before .fill .result) (c .before .before .if3 .left) ∙ c .before .if4 .taken)
+
+returns-5 : tie.Need-returns-5
+returns-5 c =
+    read-given _ _ (c .before .before .before .before .before .before .before .before .head-of .ensures .0) (form (c .before .before .before .before .before .before .before .before .before)) (c .before .before .before .fill .ensures .1) (c .before .before .before .fill .ensures .2) (map (c .before .before .before .before .before .before))
+    (told (c .before .before) ∙ ap (λ k. k || c .before .before .before .fill .result) (c .before .if3 .left) ∙ c .if4 .left)
 
 pub read-spec : {M : Type 1} → statement M
 read-spec =
@@ -58,11 +77,14 @@ read-spec =
     bad-form-requires
     refused-requires
     returns
-    fields-of-requires
+    head-of-requires
     bad-map-requires
     refused-requires-2
     returns-2
-    bad-fields-requires
+    fill-requires
+    bad-key-requires
     refused-requires-3
     returns-3
-    returns-4)
+    refused-requires-4
+    returns-4
+    returns-5)

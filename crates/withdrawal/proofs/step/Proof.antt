@@ -1,8 +1,7 @@
-use mathlib.Core.Path.{refl, _∙_, ap}
-use lib.ListN.{length}
+use mathlib.Core.Path.{refl}
 use native.Mathlib.Omega.{arith}
-use Rattle.arrays.proofs.PlaceLaws.{lay-length}
-use Rattle.withdrawal.proofs.StepLaws.{after-lower, step-said}
+use Rattle.overrun.specs.Kept.{keptAt}
+use Rattle.withdrawal.proofs.StepLaws.{anew-long, after-lower, step-said}
 use Rattle.withdrawal.proofs.step.Statement.{statement}
 use Rattle.withdrawal.proofs.step.Tie as tie
 
@@ -15,7 +14,8 @@ choose-requires c κs = let s = c .before .before .before .before in (omega arit
 take-from-requires : tie.Need-take-from-requires
 take-from-requires c κs =
     let s = c .before .before .before .before .before .before .before in
-    (omega arith, s .pre .3, s .pre .6, ap length (c .before .before .before .before .keep-matched .ensures .0) ∙ lay-length _ _ _ _ ∙ s .pre .8)
+    let a = s .args in
+    (omega arith, s .pre .3, s .pre .6, anew-long (keptAt (a .over .now) (a .border .now) (a .purchase .now) (a .legacy .now) (a .matched .now)) (a .n) (a .offered .now) (c .before .before .before .before .keep-matched .ensures .0) (s .pre .8))
 
 match-offers-requires : tie.Need-match-offers-requires
 match-offers-requires c κs =

@@ -2,8 +2,8 @@ use native.Mathlib.Omega.{arith}
 use borrow.Author.Needs.{needs}
 use Rattle.rules.proofs.BitLaws.{length-bits}
 use Rattle.rules.specs.Message.{hourBits}
-use Rattle.writer.proofs.PenLaws.{appended-append, room-after}
-use Rattle.writer.proofs.SlotLaws.{map-fits}
+use Rattle.pen.proofs.PenLaws.{appended-append, room-after}
+use Rattle.pen.proofs.SlotLaws.{map-fits}
 use Rattle.writer.proofs.put_head.Statement.{statement}
 use Rattle.writer.proofs.put_head.Tie as tie
 

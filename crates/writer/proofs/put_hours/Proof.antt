@@ -3,7 +3,7 @@ use native.Mathlib.Omega.{arith}
 use borrow.Author.Needs.{needs}
 use Rattle.message.specs.View.{fieldsIn}
 use Rattle.writer.proofs.HourLaws.{Midway, first-less, midway-start, midway-end, midway-room, midway-next}
-use Rattle.writer.proofs.SlotLaws.{hours-fit, slot-width}
+use Rattle.pen.proofs.SlotLaws.{hours-fit, slot-width}
 use Rattle.writer.proofs.put_hours.Statement.{statement}
 use Rattle.writer.proofs.put_hours.Tie as tie
 

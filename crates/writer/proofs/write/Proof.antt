@@ -4,8 +4,8 @@ use lib.ListN.{length}
 use borrow.Author.Needs.{needs}
 use Rattle.rules.specs.Message.{messageLength}
 use Rattle.message.specs.View.{fieldsIn}
-use Rattle.writer.specs.Pens.{InRanges, Room, slotsOf}
-use Rattle.writer.proofs.PenLaws.{room-last}
+use Rattle.pen.specs.Pens.{InRanges, Room, slotsOf}
+use Rattle.pen.proofs.PenLaws.{room-last}
 use Rattle.writer.proofs.WriteLaws.{none-told, owed-refused, owed-given, head-room, slots-room}
 use Rattle.writer.proofs.write.Statement.{statement}
 use Rattle.writer.proofs.write.Tie as tie

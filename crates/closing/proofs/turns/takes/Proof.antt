@@ -1,4 +1,4 @@
-use Rattle.closing.proofs.StandingLaws.{takes-other, takes-normal, takes-shown}
+use Rattle.closing.proofs.TakeLaws.{takes-other, takes-normal, takes-shown}
 use borrow.Author.Needs.{needs}
 use Rattle.closing.proofs.turns.takes.Statement.{statement}
 use Rattle.closing.proofs.turns.takes.Tie as tie

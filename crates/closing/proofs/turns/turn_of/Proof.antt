@@ -1,4 +1,4 @@
-use Rattle.closing.specs.Turns.{turnIn}
+use Rattle.closing.specs.Passes.{turnIn}
 use Rattle.closing.proofs.turns.turn_of.Statement.{statement}
 use Rattle.closing.proofs.turns.turn_of.Tie as tie
 

@@ -1,0 +1,3 @@
+pub mod SignedLaws
+pub mod RowLaws
+pub mod FlowLaws

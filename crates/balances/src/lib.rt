@@ -1,0 +1,88 @@
+// The queries of a border's balances, after clearing.
+ghost use mathlib.Core.Path.{_≡_};
+ghost use mathlib.Core.Bool.{true, false};
+ghost use Prim.Native.Nat.{_≤_, _<_, _^_};
+ghost use lib.ListN.{getD};
+ghost use lib.IntN.{subℕ};
+ghost use Rattle.rules.specs.Queries as Q;
+ghost use Rattle.borders.specs.Ways.{wayOf};
+ghost use Rattle.queries.specs.Replies.{Answered};
+ghost use Rattle.queries.specs.Parts.{Judges};
+ghost use Rattle.balances.specs.Parts.{BorderFits};
+use queries::Reply;
+use queries::figures_at;
+use queries::judge_hour;
+use session::Judged;
+use session::RANGE;
+use session::Session;
+
+// A figure of a border 1 to 4 in an hour: 2, 4, 5.
+pub fn judge_border(s: Session, border: u32, hour: u32) -> Judged
+    ensures { λ r. ⌜ Judges s (Q.market border hour) r × (r ≡ Judged.Clear → BorderFits s border hour) ⌝ }
+{
+    let j = judge_hour(s, hour);
+    if let Judged::No(row, at) = j {
+        return Judged::No(row, at);
+    }
+    if border == 0 {
+        return Judged::No(RANGE, 0);
+    }
+    if 4 < border {
+        return Judged::No(RANGE, 0);
+    }
+    Judged::Clear
+}
+
+// The energy of a border and direction among those of all.
+pub fn of_way(energies: [u32; 10], border: u32, export: bool) -> u32
+    requires { ⌜ border ≤ 4 ⌝ }
+    ensures { λ r. ⌜ r ≡ getD energies (wayOf border export) 0 ⌝ }
+{
+    let at = borders::way(border, export);
+    energies[at]
+}
+
+// a less b, which may be below zero.
+pub fn difference(a: u64, b: u64) -> Reply
+    requires { ⌜ (a < 2 ^ 33) × (b < 2 ^ 33) ⌝ }
+    ensures { λ r. ⌜ r ≡ Reply.Number (subℕ a b) ⌝ }
+{
+    let net = a as i64 - b as i64;
+    Reply::Number(net)
+}
+
+// "exports less imports"
+fn balance(energies: [u32; 10], border: u32) -> Reply
+    requires { ⌜ border ≤ 4 ⌝ }
+    ensures { λ r. ⌜ r ≡ Reply.Number (subℕ (getD energies (wayOf border true) 0) (getD energies (wayOf border false) 0)) ⌝ }
+{
+    let exports = of_way(energies, border, true);
+    let imports = of_way(energies, border, false);
+    difference(exports as u64, imports as u64)
+}
+
+// The final market balance of a border: 2, 4, 5.
+pub fn market(s: Session, border: u32, hour: u32) -> Reply
+    ensures { λ r. ⌜ Answered s (Q.market border hour) r ⌝ }
+{
+    let j = judge_border(s, border, hour);
+    if let Judged::No(row, at) = j {
+        return Reply::Refused(row, at);
+    }
+    let x = figures_at(s, hour);
+    let energies = x.market;
+    balance(energies, border)
+}
+
+// The final balance of its executions: 2, 4, 5.
+pub fn bilateral(s: Session, border: u32, hour: u32) -> Reply
+    ensures { λ r. ⌜ Answered s (Q.bilateral border hour) r ⌝ }
+{
+    let j = judge_border(s, border, hour);
+    if let Judged::No(row, at) = j {
+        return Reply::Refused(row, at);
+    }
+    let x = figures_at(s, hour);
+    let energies = x.bilateral;
+    balance(energies, border)
+}

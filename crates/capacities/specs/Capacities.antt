@@ -1,0 +1,25 @@
+-- What the code makes of a capacity notice.
+use Prim.Native.Nat.{ℕ}
+use mathlib.Core.Bool.{Bool, false, cond}
+use mathlib.Core.List.{[]}
+use Rattle.rules.specs.Units as U
+use Rattle.session.specs.Image.{publishedIn, noNotice}
+use Rattle.session.specs.declared.Notice.{Notice}
+use Rattle.session.specs.declared.Published.{Published}
+use Rattle.notices.specs.Notices.{keptAs}
+
+-- a direction as it is kept
+unfoldable pub directionAs : Published → Notice
+directionAs p = cond (p .published) (keptAs (p .count) (p .energies)) noNotice
+
+-- Searches among directions
+
+abbrev pub offHours : ℕ → Published → Bool
+offHours H p = U.notOfHours H (publishedIn p)
+
+abbrev pub offRange : Published → Bool
+offRange p = U.badPublished (publishedIn p)
+
+-- an element that is read beyond an array
+abbrev pub barePublished : Published
+barePublished = record { published = false; count = 0; energies = [] }

@@ -1,0 +1,26 @@
+-- What executions lose, from arrays.
+use Prim.Native.Nat.{ℕ, _+_, _-_, _≤_}
+use mathlib.Core.Bool.{Bool, false, cond}
+use mathlib.Core.List.{List, map}
+use lib.ListN.{getD}
+use Rattle.rules.specs.Lists.{sum}
+use Rattle.rules.specs.Match.{Offer}
+use Rattle.rules.specs.Borders.{Directed, Execution, runs}
+use Rattle.rules.specs.Executions.{bilateralExcess}
+use Rattle.borders.specs.Ways.{wayOf}
+
+-- "R ≤ G": a direction's excess is at most the executions' energy in it
+abbrev pub Enough : List Offer → List Execution → Directed → Type 0
+Enough os xs c = bilateralExcess os xs c ≤ sum (map (λ x. cond (runs (c .border) (c .export) (x .holder)) (x .energy) 0) xs)
+
+-- market and executions together at a place
+unfoldable pub bothAt : List ℕ → List ℕ → ℕ → ℕ → ℕ
+bothAt market executions w x = getD market w 0 + getD executions w 0
+
+-- the direction of an execution, as a place of an array of ten
+unfoldable pub wayAt : List ℕ → List Bool → ℕ → ℕ → ℕ
+wayAt border purchase i x = wayOf (getD border i 0) (getD purchase i false)
+
+-- an energy without what an array has at its index
+unfoldable pub lessAt : List ℕ → ℕ → ℕ → ℕ
+lessAt a i x = x - getD a i 0

@@ -1,0 +1,67 @@
+-- What the energies' queries read in the units' places is what they are to show.
+use Prim.Native.Nat.{ℕ}
+use mathlib.Core.Path.{_≡_, ap, sym, _∙_}
+use mathlib.Core.Bool.{true}
+use mathlib.Core.List.{List, map}
+use native.Mathlib.Omega.{arith}
+use lib.IntN.{pos}
+use lib.ListN.{getD, length-map}
+use borrow.Author.Tests.{eqb-true}
+use Rattle.rules.specs.Refusals.{given}
+use Rattle.rules.specs.Units as U
+use Rattle.rules.specs.Book.{Book}
+use Rattle.rules.specs.Queries as Q
+use Rattle.rules.specs.Queries.{number, shown, matchedAt, executedAt}
+use Rattle.rules.proofs.ListLaws.{first-passes}
+use Rattle.session.specs.Image.{image, Sound, byUnit, figuresAs}
+use Rattle.session.specs.Parts.{placeOf}
+use Rattle.session.specs.declared.Session.{Session}
+use Rattle.session.specs.declared.Cleared.{Cleared}
+use Rattle.session.proofs.PlaceLaws.{placed, place-first, getD-map}
+use Rattle.session.proofs.ImageLaws.{registered-as, place-as}
+use Rattle.queries.specs.Replies.{replyIn}
+use Rattle.queries.specs.Parts.{HourFits, figuresIn}
+use Rattle.queries.specs.declared.Reply.the-variants.{Number}
+use Rattle.queries.proofs.FigureLaws.{pad-at, figures-as}
+use Rattle.energies.specs.Parts.{UnitFits, unitPlace}
+
+the-number : (us : List U.Registered) (n : ℕ) → U.isRegistered us n ≡ true → U.unitOf us n .unit .number ≡ n
+unfolding U.isRegistered U.unitOf U.hasNumber
+the-number us n h = eqb-true (U.unitOf us n .unit .number) n (first-passes (U.hasNumber n) U.nobody us h)
+
+module _ (f : ℕ → ℕ) (us : List U.Registered) where
+  abbrev ofUnit : U.Registered → ℕ
+  ofUnit r = f (r .unit .number)
+
+  pub by-unit : (n : ℕ) → U.isRegistered us n ≡ true → getD (byUnit f us) (placeOf (U.hasNumber n) us) 0 ≡ f n
+  unfolding byUnit U.isRegistered U.unitOf
+  by-unit n h =
+      let p = placed (U.hasNumber n) us h in
+      pad-at 64 0 0 (map ofUnit us) (placeOf (U.hasNumber n) us) (omega (arith, length-map us ofUnit))
+      ∙ getD-map ofUnit U.nobody 0 us (placeOf (U.hasNumber n) us) p
+      ∙ ap ofUnit (sym (place-first (U.hasNumber n) U.nobody us))
+      ∙ ap f (the-number us n h)
+
+module _ (s : Session) (b : Book) (e : s ≡ image b) where
+  -- an energy of a unit
+  pub unit-figure : {u h : ℕ} (f : ℕ → ℕ) → UnitFits s u h → getD (byUnit f (b .units)) (unitPlace s u) 0 ≡ f u
+  unit-figure {u} f k =
+      ap (λ p. getD (byUnit f (b .units)) p 0) (sym (place-as s b e u))
+      ∙ by-unit f (b .units) u (registered-as s b e u ∙ k .registered)
+
+module _ (s : Session) (hour : ℕ) (x : Cleared) (at : x ≡ figuresIn s hour) (b : Book) (sound : Sound b) (e : s ≡ image b) where
+  the-figures : HourFits s hour → x ≡ figuresAs b hour
+  the-figures f = at ∙ figures-as s b e f
+
+  module _ (unit : ℕ) (f : UnitFits s unit hour) (n : ℕ) where
+    pub matched-shown : n ≡ getD (x .matched) (unitPlace s unit) 0 → replyIn (Number (pos n)) ≡ given (shown b (Q.matched unit hour))
+    unfolding replyIn shown figuresAs
+    matched-shown q =
+        ap (λ m. given (number (pos m)))
+        (q ∙ ap (λ y. getD (y .matched) (unitPlace s unit) 0) (the-figures (f .hours)) ∙ unit-figure s b e (λ u. matchedAt b u hour) f)
+
+    pub executed-shown : n ≡ getD (x .executed) (unitPlace s unit) 0 → replyIn (Number (pos n)) ≡ given (shown b (Q.executed unit hour))
+    unfolding replyIn shown figuresAs
+    executed-shown q =
+        ap (λ m. given (number (pos m)))
+        (q ∙ ap (λ y. getD (y .executed) (unitPlace s unit) 0) (the-figures (f .hours)) ∙ unit-figure s b e (λ u. executedAt b u hour) f)

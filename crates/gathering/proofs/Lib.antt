@@ -1,0 +1,6 @@
+pub mod ColumnLaws
+pub mod PlaceLaws
+pub mod ListLaws
+pub mod DayLaws
+pub mod HourLaws
+pub mod ReadyLaws

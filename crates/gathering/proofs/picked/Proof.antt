@@ -1,0 +1,67 @@
+use Prim.Native.Nat.{_≤_, _-_}
+use mathlib.Core.Path.{refl}
+use native.Mathlib.Omega.{arith}
+use Rattle.gathering.specs.Columns.{Column}
+use Rattle.gathering.specs.Built.{pickedAt}
+use Rattle.gathering.proofs.ColumnLaws.{column-start, column-next, column-end}
+use borrow.Author.Needs.{needs}
+use Rattle.gathering.proofs.picked.Statement.{statement}
+use Rattle.gathering.proofs.picked.Tie as tie
+
+abbrev Inv-loop : tie.InvT-loop
+Inv-loop column at count found₀ i₀ found i = (i ≤ count) × Column (pickedAt column at) 0 i 128 found
+
+abbrev μ-loop : tie.MeasureT-loop
+μ-loop column at count found₀ i₀ found i = count - i
+
+loop-holds : tie.Need-loop-holds Inv-loop μ-loop
+loop-holds c = (omega arith, column-start _ _ _)
+
+mul-found : tie.Need-mul-found Inv-loop μ-loop
+mul-found c = search needs
+
+array-read-found : tie.Need-array-read-found Inv-loop μ-loop
+array-read-found c = search needs
+
+mul-found-2 : tie.Need-mul-found-2 Inv-loop μ-loop
+mul-found-2 c = omega (arith, c .before .before .before .pre .inside (c .before .loop .i) (omega arith))
+
+array-read-found-2 : tie.Need-array-read-found-2 Inv-loop μ-loop
+array-read-found-2 c = c .before .before .before .pre .inside (c .before .loop .i) (omega arith)
+
+mul-found-3 : tie.Need-mul-found-3 Inv-loop μ-loop
+mul-found-3 c = search needs
+
+array-write-found : tie.Need-array-write-found Inv-loop μ-loop
+array-write-found c = search needs
+
+add-i : tie.Need-add-i Inv-loop μ-loop
+add-i c = search needs
+
+loop-less : tie.Need-loop-less Inv-loop μ-loop
+loop-less c = search needs
+
+loop-again : tie.Need-loop-again Inv-loop μ-loop
+unfolding pickedAt
+loop-again c = (omega arith, column-next _ _ _ _ _ _ (c .before .loop .inv .1) (omega arith) refl)
+
+returns : tie.Need-returns Inv-loop μ-loop
+returns c = column-end _ _ _ _ _ _ (c .before .loop .inv .1) (omega arith)
+
+pub picked-spec : {M : Type 1} → statement M
+picked-spec =
+    tie.close
+    (tie.spec
+    Inv-loop
+    μ-loop
+    loop-holds
+    mul-found
+    array-read-found
+    mul-found-2
+    array-read-found-2
+    mul-found-3
+    array-write-found
+    add-i
+    loop-less
+    loop-again
+    returns)

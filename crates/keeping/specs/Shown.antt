@@ -1,0 +1,46 @@
+-- An hour's figures as the session keeps them.
+use Prim.Native.Nat.{ℕ}
+use mathlib.Core.Bool.{Bool, false, cond}
+use mathlib.Core.List.{List, map}
+use lib.Dec.{ltb, eqb}
+use lib.ListN.{getD}
+use Rattle.rules.specs.Lists.{keep, sumOf, from}
+use Rattle.rules.specs.Match.{Offer}
+use Rattle.rules.specs.Borders.{Execution, flow}
+use Rattle.rules.specs.Clearing as C
+use Rattle.session.specs.declared.Unit.{Unit}
+use Rattle.session.specs.declared.Cleared.{Cleared}
+use Rattle.session.specs.Laid.{pad}
+use Rattle.session.specs.Image.{noUnit, byWay, energyOf}
+
+-- Energies of a unit, from arrays
+
+-- what the holder at an index adds to a unit's energy
+unfoldable pub addsTo : List ℕ → List ℕ → ℕ → ℕ → ℕ
+addsTo unit energy u i = cond (eqb (getD unit i 0) u) (getD energy i 0) 0
+
+-- the energy of a unit among the first n holders
+unfoldable pub unitEnergy : List ℕ → List ℕ → ℕ → ℕ → ℕ
+unitEnergy unit energy n u = sumOf (addsTo unit energy u) (from 0 n)
+
+-- that of the unit at a place
+unfoldable pub energyAtPlace : List Unit → List ℕ → List ℕ → ℕ → ℕ → ℕ
+energyAtPlace us unit energy n p = unitEnergy unit energy n (getD us p noUnit .number)
+
+-- A maximum, by way
+
+-- "absent without capacity": the session keeps 0 there, as for border 0
+unfoldable pub shownAt : List Bool → List ℕ → ℕ → ℕ
+shownAt flags maxima w = cond (ltb w 2) 0 (cond (getD flags w false) (getD maxima w 0) 0)
+
+-- The rules' figures of an hour, laid out for some units
+
+unfoldable pub clearedAs : C.Figures → List Unit → Cleared
+clearedAs x us = record {
+  price = x .price;
+  market = byWay (λ border export. flow (λ o. o .holder) (λ o. o .matched) border export (x .offers));
+  bilateral = byWay (λ border export. flow (λ x. x .holder) (λ x. x .energy) border export (x .executions));
+  maxima = byWay (energyOf (x .maxima));
+  matched = pad 64 0 (map (λ u. sumOf (λ (o : Offer). o .matched) (keep (λ o. eqb (o .holder .unit) (u .number)) (x .offers))) us);
+  executed = pad 64 0 (map (λ u. sumOf (λ (x : Execution). x .energy) (keep (λ x. eqb (x .holder .unit) (u .number)) (x .executions))) us);
+}

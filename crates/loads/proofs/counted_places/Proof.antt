@@ -1,0 +1,105 @@
+use Prim.Native.Nat.{ℕ, _-_, _≤_, _<_}
+use mathlib.Core.Path.{_≡_, refl, sym, _∙_}
+use native.Mathlib.Omega.{arith}
+use lib.ListN.{length, take, getD, length-set}
+use borrow.Author.Tests.{not-true, not-false}
+use Rattle.rules.specs.Lists.{from}
+use Rattle.loads.specs.Loads.{marked}
+use Rattle.loads.proofs.LoadLaws.{place-start, place-noted, place-passed, place-below}
+use borrow.Author.Needs.{needs}
+use Rattle.loads.proofs.counted_places.Statement.{statement}
+use Rattle.loads.proofs.counted_places.Tie as tie
+use Rattle.loads.proofs.counted_places.Reads as reads
+use Rattle.loads.proofs.counted_places.Lts as lts
+
+abbrev Inv-loop : tie.InvT-loop
+Inv-loop counted n at₀ count₀ l₀ at count l = (l ≤ n) × (count ≤ l) × (length at ≡ 128) × (take count at ≡ marked counted (from 0 l)) × ((j : ℕ) → j < count → getD at j 0 < n)
+
+abbrev μ-loop : tie.MeasureT-loop
+μ-loop counted n at₀ count₀ l₀ at count l = n - l
+
+-- src/lib.rt:43:5
+loop-holds : tie.Need-loop-holds Inv-loop μ-loop
+loop-holds c = (omega arith, omega arith, refl, place-start _, λ j k. absurd (omega arith))
+
+-- src/lib.rt:44:26
+element-copy-out-is-counted : tie.Need-element-copy-out-is-counted Inv-loop μ-loop
+element-copy-out-is-counted c = search needs
+
+-- src/lib.rt:46:13
+add-l : tie.Need-add-l Inv-loop μ-loop
+add-l c = search needs
+
+-- src/lib.rt:43:5
+loop-less : tie.Need-loop-less Inv-loop μ-loop
+loop-less c = search needs
+
+-- src/lib.rt:43:5
+loop-again : tie.Need-loop-again Inv-loop μ-loop
+loop-again c =
+    let s = c .before .before .before .loop in
+    let a = c .before .before .before .before .args in (
+      omega arith,
+      omega arith,
+      s .inv .2,
+      place-passed (a .counted .now) (s .at) (s .l) (s .count) (not-true _ (c .if1 .taken)) (s .inv .3),
+      s .inv .4,
+    )
+
+-- src/lib.rt:48:9
+mul-at : tie.Need-mul-at Inv-loop μ-loop
+mul-at c = search needs
+
+-- src/lib.rt:48:9
+array-write-at : tie.Need-array-write-at Inv-loop μ-loop
+array-write-at c = search needs
+
+-- src/lib.rt:49:9
+add-count : tie.Need-add-count Inv-loop μ-loop
+add-count c = search needs
+
+-- src/lib.rt:43:9
+add-l-2 : tie.Need-add-l-2 Inv-loop μ-loop
+add-l-2 c = search needs
+
+-- src/lib.rt:43:5
+loop-less-2 : tie.Need-loop-less-2 Inv-loop μ-loop
+loop-less-2 c = search needs
+
+-- src/lib.rt:43:5
+loop-again-2 : tie.Need-loop-again-2 Inv-loop μ-loop
+loop-again-2 c =
+    let s = c .before .before .before .loop in
+    let a = c .before .before .before .before .args in (
+      omega arith,
+      omega arith,
+      (simp length-set) ∙ s .inv .2,
+      place-noted (a .counted .now) (s .at) (s .l) (s .count) (omega arith) (not-false _ (c .if1 .left)) (s .inv .3),
+      place-below (a .counted .now) (s .at) (s .l) (s .count) (a .n) (omega arith) (omega arith) (s .inv .4),
+    )
+
+-- src/lib.rt:37:1
+returns : tie.Need-returns Inv-loop μ-loop
+returns c =
+    let s = c .before .loop in
+    let e : s .l ≡ c .before .before .args .n = omega arith in
+    (omega arith, rw e at (s .inv .3), s .inv .2, s .inv .4)
+
+pub counted-places-spec : {M : Type 1} → statement M
+counted-places-spec =
+    tie.close
+    (tie.spec
+    Inv-loop
+    μ-loop
+    loop-holds
+    element-copy-out-is-counted
+    add-l
+    loop-less
+    loop-again
+    mul-at
+    array-write-at
+    add-count
+    add-l-2
+    loop-less-2
+    loop-again-2
+    returns)

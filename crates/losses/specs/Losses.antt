@@ -1,0 +1,33 @@
+-- What each holder loses in the directions in which holders give way.
+use Prim.Native.Nat.{ℕ, _+_, _-_, min}
+use mathlib.Core.Bool.{cond}
+use mathlib.Core.List.{List, [], _∷_, map}
+use lib.Dec.{ltb, eqb}
+use lib.ListN.{getD}
+use Rattle.rules.specs.Lists.{from, sum, addEach}
+use Rattle.rules.specs.Share.{share}
+
+-- the energy of those that give way in direction w, 0 for the others
+unfoldable pub amountAt : ℕ → List ℕ → List ℕ → ℕ → ℕ → ℕ
+amountAt w given matched i x = cond (eqb (getD given i 0) w) (getD matched i 0) 0
+
+unfoldable pub amountsIn : List ℕ → List ℕ → ℕ → ℕ → List ℕ
+amountsIn given matched n w = map (λ i. amountAt w given matched i 0) (from 0 n)
+
+-- "the lesser of the excess and the matched [..] energy [..] is taken by Share"
+unfoldable pub lossesIn : List ℕ → List ℕ → ℕ → ℕ → ℕ → List ℕ
+lossesIn given matched n excess w = share (min excess (sum (amountsIn given matched n w))) (amountsIn given matched n w)
+
+-- a loss more
+unfoldable pub moreAt : List ℕ → ℕ → ℕ → ℕ
+moreAt losses i x = x + getD losses i 0
+
+-- what each loses in the directions passed among some
+unfoldable pub lossesOver : List ℕ → List ℕ → List ℕ → ℕ → List ℕ → List ℕ
+lossesOver over given matched n [] = map (λ i. 0) (from 0 n)
+lossesOver over given matched n (w ∷ ws) =
+    cond (ltb 0 (getD over w 0)) (addEach (lossesIn given matched n (getD over w 0) w) (lossesOver over given matched n ws)) (lossesOver over given matched n ws)
+
+-- in those from place w on
+unfoldable pub lossesFrom : List ℕ → List ℕ → List ℕ → ℕ → ℕ → List ℕ
+lossesFrom over given matched n w = lossesOver over given matched n (from w (10 - w))

@@ -1,0 +1,82 @@
+// What holders of energy lose by Share, direction by direction (document 01, "Withdrawal step" and "Share").
+ghost use mathlib.Core.Path.{_≡_};
+ghost use mathlib.Core.Bool.{cond};
+ghost use lib.Dec.{eqb};
+ghost use Prim.Native.Nat.{ℕ, _*_, _≤_};
+ghost use lib.ListN.{length, getD};
+ghost use Rattle.rules.specs.Units.{maxEnergy};
+ghost use Rattle.arrays.specs.Places.{vals, layOn};
+ghost use Rattle.losses.specs.Losses.{amountAt, lossesIn, lossesFrom, moreAt};
+
+// The energy of a holder that gives way in direction w.
+fn amount(w: u32, way: u32, m: u32) -> u32
+    ensures { λ r. ⌜ r ≡ cond (eqb way w) m 0 ⌝ }
+{
+    if way == w {
+        return m;
+    }
+    0
+}
+
+// The energies of the holders that give way in direction w, 0 for the others.
+fn amounts_in(amounts: &mut [u32; 128], n: usize, w: u32, ways: &[u32; 128], matched: &[u32; 128])
+    requires { ⌜ n ≤ 128 ⌝ }
+    ensures { λ _. ⌜ now (amounts .exit) ≡ layOn (amountAt w (now (ways .entry)) (now (matched .entry))) n 0 (now (amounts .entry)) ⌝ }
+{
+    for i in 0..n {
+        let k = amount(w, ways[i], matched[i]);
+        amounts[i] = k;
+    }
+}
+
+// What each loses in direction w: "the lesser of the excess and the matched [..] energy [..] is taken by Share".
+fn losses_in(
+    losses: &mut [u32; 128],
+    n: usize,
+    excess: u32,
+    w: u32,
+    ways: &[u32; 128],
+    matched: &[u32; 128],
+)
+    requires { ⌜ (n ≤ 128) × ((i : ℕ) → getD (now matched) i 0 ≤ maxEnergy) × ((i : ℕ) → getD (now losses) i 0 ≤ maxEnergy) ⌝ }
+    ensures { λ _. ⌜ (vals (now (losses .exit)) 0 n ≡ lossesIn (now (ways .entry)) (now (matched .entry)) n excess w) × ((i : ℕ) → getD (now (losses .exit)) i 0 ≤ maxEnergy) ⌝ }
+{
+    let mut amounts = [0u32; 128];
+    amounts_in(&mut amounts, n, w, ways, matched);
+    let g = arrays::total(&amounts, n);
+    let r = arrays::lower(excess, g);
+    share::share(losses, &amounts, n, r)
+}
+
+// Losses added to others, place by place.
+fn add(sums: &mut [u32; 128], n: usize, losses: &[u32; 128])
+    requires { ⌜ (n ≤ 128) × ((i : ℕ) → getD (now losses) i 0 ≤ maxEnergy) × ((i : ℕ) → getD (now sums) i 0 ≤ 9 * maxEnergy) ⌝ }
+    ensures { λ _. ⌜ now (sums .exit) ≡ layOn (moreAt (now (losses .entry))) n 0 (now (sums .entry)) ⌝ }
+{
+    for i in 0..n {
+        sums[i] += losses[i];
+    }
+}
+
+// What each loses in all directions, of their excesses; the directions are added from the last to the first, as the rules do.
+pub fn all_losses(
+    sums: &mut [u32; 128],
+    n: usize,
+    over: &[u32; 10],
+    ways: &[u32; 128],
+    matched: &[u32; 128],
+)
+    requires { ⌜ (n ≤ 128) × ((i : ℕ) → getD (now matched) i 0 ≤ maxEnergy) × ((i : ℕ) → getD (now sums) i 0 ≤ 0) × (length (now sums) ≡ 128) ⌝ }
+    ensures { λ _. ⌜ vals (now (sums .exit)) 0 n ≡ lossesFrom (now (over .entry)) (now (ways .entry)) (now (matched .entry)) n 2 ⌝ }
+{
+    let mut w: usize = 10;
+    while 2 < w {
+        w -= 1;
+        let excess = over[w];
+        if 0 < excess {
+            let mut losses = [0u32; 128];
+            losses_in(&mut losses, n, excess, w as u32, ways, matched);
+            add(sums, n, &losses);
+        }
+    }
+}

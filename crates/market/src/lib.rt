@@ -1,0 +1,121 @@
+// The market of one hour: first match, Split, withdrawal (document 01, "Clearing, hour by hour").
+use matching::Offers;
+use matching::Order;
+ghost use mathlib.Core.Path.{_≡_};
+ghost use mathlib.Core.Bool.{Bool};
+ghost use mathlib.Core.List.{List, map};
+ghost use Prim.Native.Nat.{ℕ, _≤_, _<_};
+ghost use lib.ListN.{getD, length};
+ghost use Rattle.rules.specs.Units.{maxEnergy};
+ghost use Rattle.rules.specs.Borders.{Execution};
+ghost use Rattle.rules.specs.Split.{maximumOf};
+ghost use Rattle.matching.specs.View.{Sound, offersOf};
+ghost use Rattle.borders.specs.Ways.{publishedIn};
+ghost use Rattle.borders.specs.Flows.{MarketFlows, ExecutionFlows, Small};
+ghost use Rattle.withdrawal.specs.Turns.{Energies, Crossing};
+ghost use Rattle.market.specs.Parts.{Begun, MarketCleared};
+
+// The first match: the order of either side, what is matched, and the volume.
+struct First {
+    sales: Order,
+    purchases: Order,
+    matched: [u32; 128],
+    volume: u32,
+}
+
+// The market's part of an hour: energies, maxima, the flows of the last match, steps and price.
+pub struct Market {
+    pub offered: [u32; 128],
+    pub matched: [u32; 128],
+    pub maxima: [u32; 10],
+    pub flows: [u32; 10],
+    pub steps: u32,
+    pub price: u32,
+}
+
+// The first match of an hour's offers.
+fn first_match(o: Offers, offered: &[u32; 128]) -> First
+    requires { ⌜ Sound o × ((i : ℕ) → getD (now offered) i 0 ≤ maxEnergy) × (length (now offered) ≡ 128) ⌝ }
+    ensures { λ r. ⌜ Begun o (now (offered .entry)) r ⌝ }
+{
+    let n = o.count;
+    let sales = matching::sorted(false, n, &o.price, &o.purchase);
+    let purchases = matching::sorted(true, n, &o.price, &o.purchase);
+    let ns = sales.count;
+    let np = purchases.count;
+    let mut matched = [0u32; 128];
+    let volume = matching::match_offers(
+        &mut matched,
+        offered,
+        &o.price,
+        &sales.keys,
+        ns,
+        &purchases.keys,
+        np,
+    );
+    First {
+        sales,
+        purchases,
+        matched,
+        volume,
+    }
+}
+
+// "Split figures stay those of the first match": the market maxima, of what that match left.
+fn first_maxima(
+    o: Offers,
+    matched: &[u32; 128],
+    capacity: &[u32; 10],
+    executions: &[u32; 10],
+) -> [u32; 10]
+    requires { ⌜ (o .count ≤ 128) × Crossing (o .count) (o .border) × ((i : ℕ) → getD (now matched) i 0 ≤ maxEnergy) × Small (now capacity) × Small (now executions) ⌝ }
+    ensures { λ r. ⌜ ((flags : List Bool) (e : List ℕ) (xs : List Execution)
+        → ExecutionFlows (now (executions .entry)) xs
+        → publishedIn flags r ≡ map (maximumOf (offersOf o e (now (matched .entry))) xs) (publishedIn flags (now (capacity .entry)))) ⌝ }
+{
+    let n = o.count;
+    let market = borders::flows(false, n, &o.border, &o.purchase, &o.legacy, matched);
+    let legacy = borders::flows(true, n, &o.border, &o.purchase, &o.legacy, matched);
+    borders::maxima(capacity, executions, &market, &legacy)
+}
+
+// The market of an hour: first match, Split, withdrawal. `executions` are the flows of the hour's executions.
+pub fn clear(
+    o: Offers,
+    before: [u32; 128],
+    published: &[bool; 10],
+    capacity: &[u32; 10],
+    executions: &[u32; 10],
+) -> Market
+    requires { ⌜ Sound o × Crossing (o .count) (o .border) × ((i : ℕ) → getD before i 0 ≤ maxEnergy) × Small (now capacity) × Small (now executions) ⌝ }
+    ensures { λ r. ⌜ ((xs : List Execution) → ExecutionFlows (now (executions .entry)) xs → MarketCleared o before (now (published .entry)) (now (capacity .entry)) xs r) ⌝ }
+    ensures { λ r. ⌜ MarketFlows (r .flows) (offersOf o (r .offered) (r .matched)) × Small (r .flows) × Energies (o .count) (r .offered) (r .matched) ⌝ }
+{
+    let mut offered = before;
+    let n = o.count;
+    let first = first_match(o, &offered);
+    let sales = first.sales;
+    let purchases = first.purchases;
+    let mut matched = first.matched;
+    let maxima = first_maxima(o, &matched, capacity, executions);
+    let end = withdrawal::withdraw(
+        &mut offered,
+        &mut matched,
+        first.volume,
+        o,
+        sales,
+        purchases,
+        published,
+        &maxima,
+    );
+    let flows = borders::flows(false, n, &o.border, &o.purchase, &o.legacy, &matched);
+    let price = matching::price_of(&o.price, &offered, &sales.keys, sales.count, end.volume);
+    Market {
+        offered,
+        matched,
+        maxima,
+        flows,
+        steps: end.steps,
+        price,
+    }
+}

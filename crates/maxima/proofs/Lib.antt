@@ -1,0 +1,3 @@
+pub mod DirectionLaws
+pub mod MaximumLaws
+pub mod ShownLaws

@@ -1,0 +1,16 @@
+-- What the parts of a maximum's query promise to each other.
+use Prim.Native.Nat.{ℕ}
+use mathlib.Core.Bool.{Bool, false}
+use mathlib.Core.List.{[]}
+use lib.ListN.{getD}
+use Rattle.rules.specs.Units.{direction}
+use Rattle.session.specs.declared.Session.{Session}
+use Rattle.session.specs.declared.Notice.{Notice}
+
+-- what is read beyond the directions' places
+abbrev pub bareNotice : Notice
+bareNotice = record { given = false; energies = [] }
+
+-- the last notice of a direction
+abbrev pub capacityIn : Session → ℕ → Bool → Notice
+capacityIn s border export = getD (s .capacities) (direction border export) bareNotice

@@ -1,0 +1,69 @@
+// Step 1 of a withdrawal, on the arrays of an hour (document 01, "Withdrawal step"): who runs in a direction passed.
+ghost use mathlib.Core.Path.{_≡_};
+ghost use mathlib.Core.List.{map};
+ghost use Prim.Native.Nat.{ℕ, _<_, _≤_};
+ghost use lib.ListN.{length, getD};
+ghost use Rattle.rules.specs.Withdrawal.{keepMatched};
+ghost use Rattle.matching.specs.declared.Offers.{Offers};
+ghost use Rattle.matching.specs.View.{offersOf};
+ghost use Rattle.borders.specs.Ways.{overIn};
+ghost use Rattle.arrays.specs.Places.{layOn};
+ghost use Rattle.overrun.specs.Kept.{runsOver, keptOf, keptAt};
+ghost use Rattle.overrun.specs.Lent.{Lent};
+
+// Whether an offer runs in a direction passed; a domestic one is at no border.
+pub fn runs_over(over: &[u32; 10], border: u32, purchase: bool) -> bool
+    requires { ⌜ border < 5 ⌝ }
+    ensures { λ r. ⌜ r ≡ runsOver (now (over .entry)) border purchase ⌝ }
+{
+    if border == 0 {
+        return false;
+    }
+    let w = borders::way(border, purchase);
+    0 < over[w]
+}
+
+// What an offer keeps offered.
+fn kept(
+    over: &[u32; 10],
+    border: u32,
+    purchase: bool,
+    legacy: bool,
+    matched: u32,
+    offered: u32,
+) -> u32
+    requires { ⌜ border < 5 ⌝ }
+    ensures { λ r. ⌜ r ≡ keptOf (now (over .entry)) border purchase legacy matched offered ⌝ }
+{
+    let o = runs_over(over, border, purchase);
+    if o {
+        if legacy {
+            return offered;
+        }
+        return matched;
+    }
+    offered
+}
+
+// 1. "On each such border, offers in that direction, not legacy, keep only what is matched."
+pub fn keep_matched<'a>(
+    offered: &mut [u32; 128],
+    n: usize,
+    over: &[u32; 10],
+    border: &'a [u32; 128],
+    purchase: &'a [bool; 128],
+    legacy: &'a [bool; 128],
+    matched: &[u32; 128],
+)
+    requires { ⌜ (n ≤ 128) × ((i : ℕ) → i < n → getD (now border) i 0 < 5) × (length (now offered) ≡ 128) ⌝ }
+    ensures { λ _. ⌜ now (offered .exit) ≡ layOn (keptAt (now (over .entry)) (now (border .entry)) (now (purchase .entry)) (now (legacy .entry)) (now (matched .entry))) n 0 (now (offered .entry)) ⌝ }
+    ensures { λ _. ⌜ ((h : Offers)
+        → Lent h n (now (border .entry)) (now (purchase .entry)) (now (legacy .entry)) (h .price)
+        → offersOf h (now (offered .exit)) (now (matched .entry)) ≡ map (keepMatched (overIn (now (over .entry)))) (offersOf h (now (offered .entry)) (now (matched .entry)))) ⌝ }
+{
+    for i in 0..n {
+        let e = offered[i];
+        let k = kept(over, border[i], purchase[i], legacy[i], matched[i], e);
+        offered[i] = k;
+    }
+}

@@ -1,0 +1,4 @@
+pub mod PackLaws
+pub mod SlotLaws
+pub mod HeadLaws
+pub mod PenLaws

@@ -1,0 +1,69 @@
+-- `bits::field_at` meets its contract: the five bytes from the first bit's byte on hold the field.
+use Prim.Native.Nat.{_+_, _*_, _-_, _/_, _%_, _^_}
+use native.Mathlib.Omega.{arith}
+use native.Mathlib.Nat.{mod-lt}
+use lib.Bits.{and-mask, mask-lt}
+use lib.Pow.{pow-pos, pow-mono}
+use Rattle.rules.proofs.ListLaws.{Under, all-of}
+use Rattle.reader.proofs.WordLaws.{field-read}
+use Rattle.reader.proofs.bits.field_at.Statement.{statement}
+use Rattle.reader.proofs.bits.field_at.Tie as tie
+
+sub-below : tie.Need-sub-below
+sub-below c = omega arith
+
+sub-below-2 : tie.Need-sub-below-2
+sub-below-2 c = omega arith
+
+add-byte-at : tie.Need-add-byte-at
+add-byte-at c = omega arith
+
+byte-at-requires : tie.Need-byte-at-requires
+byte-at-requires c κs = tt
+
+cast-last : tie.Need-cast-last
+cast-last c = omega arith
+
+word-at-requires : tie.Need-word-at-requires
+word-at-requires c κs = tt
+
+mul-word : tie.Need-mul-word
+mul-word c = omega arith
+
+add-word : tie.Need-add-word
+add-word c = omega arith
+
+shr-result : tie.Need-shr-result
+shr-result c = omega arith
+
+power-requires : tie.Need-power-requires
+power-requires c κs = omega arith
+
+sub-result : tie.Need-sub-result
+sub-result c = rw (c .power .ensures) (pow-pos _)
+
+cast-result : tie.Need-cast-result
+cast-result c = record { fits = rw (c .power .ensures) (omega (arith, mask-lt ((c .before .word-at .result * 256 + c .before .before .byte-at .result) / 2 ^ (40 - c .before .before .before .before .args .at % 8 - c .before .before .before .before .args .width)) (c .before .before .before .before .args .width), pow-mono {i = c .before .before .before .before .args .width} {j = 32} (c .before .before .before .before .pre .0))) }
+
+returns : tie.Need-returns
+returns c =
+    let u : Under 256 (c .before .before .before .before .args .s .now) = all-of 0 _ (λ i l. c .before .before .before .shared-slice-known .given i .fits) in
+    rw (c .power .ensures, and-mask, c .before .word-at .ensures .0, c .before .before .byte-at .ensures) (field-read _ _ u (c .before .before .before .before .pre .0) (c .before .before .before .before .pre .1), mod-lt _ (pow-pos _))
+
+pub field-at-spec : {M : Type 1} → statement M
+field-at-spec =
+    tie.close
+    (tie.spec
+    sub-below
+    sub-below-2
+    add-byte-at
+    byte-at-requires
+    cast-last
+    word-at-requires
+    mul-word
+    add-word
+    shr-result
+    power-requires
+    sub-result
+    cast-result
+    returns)

@@ -1,0 +1,20 @@
+-- The head of a message, and what its slots are refused for.
+use Prim.Native.Nat.{ℕ, zero, suc}
+use mathlib.Core.Bool.{Bool, true, false, _||_}
+use mathlib.Core.List.{List, [], _∷_}
+use lib.Dec.{eqb}
+use lib.ListN.{drop}
+use Rattle.rules.specs.Message.{field, energyWidth, priceWidth, slotWidth, isExecution, mapOf}
+use Rattle.message.specs.Slots.{badSlot}
+use Rattle.reader.specs.declared.Head.{Head}
+
+-- the fields before the slots
+abbrev pub headIn : List ℕ → Head
+headIn bs = record { execution = isExecution bs; default = eqb (field 6 1 bs) 1; unit = field 7 16 bs; contract = field 23 16 bs; map = mapOf bs }
+
+-- a set hour's energy or price is outside its range, the slots of a map's hours standing one after the other
+unfoldable pub badSlots : Bool → List ℕ → List ℕ → Bool
+badSlots x [] bs = false
+badSlots x (zero ∷ map) bs = badSlots x map bs
+badSlots x (suc b ∷ map) bs =
+    badSlot x true (field 0 energyWidth bs) (field energyWidth (priceWidth x) bs) || badSlots x map (drop (slotWidth energyWidth x) bs)

@@ -1,0 +1,101 @@
+-- Registering: each way out.
+use Prim.Native.Nat.{_+_, _≤_, _<_}
+use mathlib.Core.Path.{_≡_, refl, sym}
+use mathlib.Core.Bool.{Bool, true, false}
+use mathlib.Core.List.{map}
+use mathlib.Core.Option.{none}
+use native.Mathlib.Omega.{arith}
+use lib.ListN.{take, length, set, length-map}
+use borrow.Author.Tests.{le-leb, lt-leb}
+use Rattle.rules.specs.Lists.{any}
+use Rattle.rules.specs.Refusals.{row, firstRow}
+use Rattle.rules.specs.Units as U
+use Rattle.rules.specs.Book as B
+use Rattle.rules.specs.DayBook as D
+use Rattle.session.specs.Image.{image, verdictsIn, hoursIn, unitIn, unitOf, noticeOf, noticeAs, noUnit, noNotice}
+use Rattle.session.specs.Steps.{said, isRefusal}
+use Rattle.session.specs.Parts.{numberIs, Judges, Entered}
+use Rattle.registry.specs.Registry.{besideUnit}
+use Rattle.session.specs.declared.Session.{Session}
+use Rattle.session.specs.declared.Unit.{Unit}
+use Rattle.session.specs.declared.Judged.the-variants.{No, Clear}
+use Rattle.session.specs.declared.Answer.the-variants.{Done}
+use Rattle.session.proofs.LaidLaws.{any-map, map-last, length-last, set-pad, pad-empty}
+use Rattle.session.proofs.StepLaws.{open-row}
+use Rattle.session.proofs.SoundLaws.{open-stage}
+use Rattle.session.proofs.ImageLaws.{closed-as, enrolled-as, units-as, registered-as, withRegistry}
+
+-- a search of the array for one of the same agent, border and side is a search of the list
+second-as : (s : Session) (b : B.Book) → s ≡ image b → (u : Unit) → D.isSecond b (unitIn u) ≡ any (besideUnit u) (take (s .enrolled) (s .units))
+unfolding D.isSecond
+second-as s b e u = rw (units-as s b e) (sym (any-map unitOf (besideUnit u) (b .units)))
+
+module _ (s : Session) (u : Unit) where
+  abbrev call : D.Call
+  call = D.register (unitIn u)
+
+  abbrev bad : Bool
+  bad = U.badUnit (unitIn u)
+
+  abbrev taken : Bool
+  taken = any (numberIs (u .number)) (take (s .enrolled) (s .units))
+
+  abbrev second : Bool
+  second = any (besideUnit u) (take (s .enrolled) (s .units))
+
+  pub register-2 : s .closed ≡ true → Judges s call (No 2 0)
+  unfolding D.rowsOf D.changeRow row firstRow
+  register-2 h b e = rw (closed-as s b e, h)
+
+  pub register-5 : s .closed ≡ false → bad ≡ true → Judges s call (No 5 0)
+  unfolding D.rowsOf D.changeRow row firstRow
+  register-5 h k b e = rw (k, closed-as s b e, h)
+
+  pub register-7 : s .closed ≡ false → bad ≡ false → taken ≡ true → Judges s call (No 7 0)
+  unfolding D.rowsOf D.changeRow row firstRow
+  register-7 h k t b e = rw (k, registered-as s b e (u .number), t, closed-as s b e, h)
+
+  pub register-8 : s .closed ≡ false → bad ≡ false → taken ≡ false → second ≡ true → Judges s call (No 8 0)
+  unfolding D.rowsOf D.changeRow row firstRow
+  register-8 h k t g b e = rw (k, registered-as s b e (u .number), t, second-as s b e u, g, closed-as s b e, h)
+
+  pub register-9 : s .closed ≡ false → bad ≡ false → taken ≡ false → second ≡ false → 64 ≤ s .enrolled → Judges s call (No 9 0)
+  unfolding D.rowsOf D.changeRow D.unitsFull row firstRow
+  register-9 h k t g f b e =
+      rw (k, registered-as s b e (u .number), t, second-as s b e u, g, enrolled-as s b e, le-leb 64 (s .enrolled) f, closed-as s b e, h)
+
+  pub register-0 : s .closed ≡ false → bad ≡ false → taken ≡ false → second ≡ false → s .enrolled < 64 → Judges s call Clear
+  unfolding D.rowsOf D.changeRow D.unitsFull row firstRow
+  register-0 h k t g f b e =
+      rw (k, registered-as s b e (u .number), t, second-as s b e u, g, enrolled-as s b e, lt-leb 64 (s .enrolled) f, closed-as s b e, h)
+
+  abbrev pub withUnit : Session
+  withUnit = withRegistry s (s .enrolled + 1) (set (s .units) (s .enrolled) u) (s .notices) (s .capacities)
+
+-- one unit more in the book is one more in its image
+enrolled-image : (b : B.Book) (u : Unit) → length (b .units) < 64 → b .closed ≡ false → b .cleared ≡ false → withUnit (image b) u ≡ image (D.applied b (D.register (unitIn u)))
+unfolding image verdictsIn hoursIn D.applied D.withUnits B.hours noticeAs
+enrolled-image b u h k c =
+    let us = b .units in
+    let r : U.Registered = record { unit = unitIn u; available = none } in
+    let m = length-map us unitOf in
+    let n = length-map us noticeOf in
+    rw (
+      length-last us r,
+      map-last unitOf us r,
+      map-last noticeOf us r,
+      ← (pad-empty 64 noNotice (map noticeOf us) (omega arith)),
+      set-pad 64 noUnit (map unitOf us) (length us) (unitOf r) (omega arith) (omega arith),
+      k,
+      c,
+    )
+
+pub unit-entered : (s : Session) (u : Unit) → s .enrolled < 64 → Entered s (D.register (unitIn u)) (record { session = withUnit s u; answer = Done })
+unfolding said isRefusal D.reply D.rowsOf
+unit-entered s u h = record {
+  book = λ b sound o e.
+      let n = enrolled-as s b e in
+      let k = open-row b _ o in
+      record { answer = refl; session = rw e (enrolled-image b u (omega arith) k (open-stage b sound k)) };
+  fine = refl;
+}

@@ -1,0 +1,130 @@
+// Registering units.
+ghost use mathlib.Core.Path.{_≡_};
+ghost use Prim.Native.Nat.{_≤_, _<_};
+ghost use lib.ListN.{take};
+ghost use Rattle.rules.specs.Lists.{any};
+ghost use Rattle.rules.specs.Units.{badUnit, sameBorderSide};
+ghost use Rattle.rules.specs.DayBook.{register};
+ghost use Rattle.session.specs.Image.{unitIn};
+ghost use Rattle.session.specs.Steps.{Met};
+ghost use Rattle.session.specs.Parts.{Within, Judges, Entered};
+ghost use Rattle.registry.specs.Registry.{besideUnit};
+use session::Answer;
+use session::FULL;
+use session::GATE;
+use session::Judged;
+use session::RANGE;
+use session::SECOND;
+use session::Session;
+use session::TAKEN;
+use session::Turn;
+use session::Unit;
+use session::units::bad_number;
+use session::units::is_registered;
+
+// Row 5: a value outside its range, or a legacy mark on a domestic unit.
+fn bad_unit(u: Unit) -> bool
+    ensures { λ r. ⌜ r ≡ badUnit (unitIn u) ⌝ }
+{
+    if bad_number(u.number) {
+        return true;
+    }
+    if bad_number(u.agent) {
+        return true;
+    }
+    if 4 < u.border {
+        return true;
+    }
+    if Session::MAX_ENERGY < u.maximum {
+        return true;
+    }
+    if u.legacy {
+        return u.border == 0;
+    }
+    false
+}
+
+// Whether v is of the agent, border (1 to 4) and side of u.
+fn same_border_side(u: Unit, v: Unit) -> bool
+    ensures { λ r. ⌜ r ≡ sameBorderSide (unitIn u) (unitIn v) ⌝ }
+{
+    if u.border == 0 {
+        return false;
+    }
+    if u.agent != v.agent {
+        return false;
+    }
+    if u.border != v.border {
+        return false;
+    }
+    u.purchase == v.purchase
+}
+
+// Row 8: one of the first n units is of the agent, border and side of u.
+fn is_second(units: [Unit; 64], n: usize, u: Unit) -> bool
+    requires { ⌜ n ≤ 64 ⌝ }
+    ensures { λ r. ⌜ r ≡ any (besideUnit u) (take n units) ⌝ }
+{
+    for i in 0..n {
+        let v = units[i];
+        if same_border_side(u, v) {
+            return true;
+        }
+    }
+    false
+}
+
+// The refusal that applies to registering u.
+fn judge_register(s: Session, u: Unit) -> Judged
+    requires { ⌜ Within s ⌝ }
+    ensures { λ r. ⌜ Judges s (register (unitIn u)) r × (r ≡ Judged.Clear → s .enrolled < 64) ⌝ }
+{
+    if s.closed {
+        return Judged::No(GATE, 0);
+    }
+    if bad_unit(u) {
+        return Judged::No(RANGE, 0);
+    }
+    let units = s.units;
+    let n = s.enrolled;
+    let number = u.number;
+    if is_registered(units, n, number) {
+        return Judged::No(TAKEN, 0);
+    }
+    if is_second(units, n, u) {
+        return Judged::No(SECOND, 0);
+    }
+    if Session::MAX_UNITS <= n {
+        return Judged::No(FULL, 0);
+    }
+    Judged::Clear
+}
+
+// "registering adds the unit"
+fn enrol(s: Session, u: Unit) -> Turn
+    requires { ⌜ s .enrolled < 64 ⌝ }
+    ensures { λ r. ⌜ Entered s (register (unitIn u)) r ⌝ }
+{
+    let mut next = s;
+    let at = next.enrolled;
+    next.units[at] = u;
+    next.enrolled = at + 1;
+    Turn {
+        session: next,
+        answer: Answer::Done,
+    }
+}
+
+// Registers a unit: 2, 5, 7, 8, 9.
+pub fn register(s: Session, u: Unit) -> Turn
+    ensures { λ r. ⌜ Met s (register (unitIn u)) r ⌝ }
+{
+    if !s.sound() {
+        return s.refused(GATE, 0);
+    }
+    let j = judge_register(s, u);
+    match j {
+        Judged::No(number, hour) => s.refused(number, hour),
+        Judged::Clear => enrol(s, u),
+    }
+}

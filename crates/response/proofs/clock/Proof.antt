@@ -1,0 +1,17 @@
+use mathlib.Core.Path.{_∙_, ap}
+use Rattle.response.specs.Told.{ofNamed}
+use borrow.Author.Needs.{needs}
+use Rattle.response.proofs.clock.Statement.{statement}
+use Rattle.response.proofs.clock.Tie as tie
+
+clock-at-requires : tie.Need-clock-at-requires
+clock-at-requires c κs = search needs
+
+of-named-requires : tie.Need-of-named-requires
+of-named-requires c κs = search needs
+
+returns : tie.Need-returns
+returns c = c .of-named .ensures ∙ ap ofNamed (c .before .clock-at .ensures)
+
+pub clock-spec : {M : Type 1} → statement M
+clock-spec = tie.close (tie.spec clock-at-requires of-named-requires returns)

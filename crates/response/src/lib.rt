@@ -1,0 +1,381 @@
+// The calls and the queries answered with a plain struct, `Response`, which C can be handed: an enum cannot be exported.
+ghost use mathlib.Core.Path.{_≡_};
+ghost use Rattle.rules.specs.Hours.{hoursAt, clockAt, hourAt};
+ghost use Rattle.rules.specs.DayBook.{register, available, capacity, lodge, annul, close, clear};
+ghost use Rattle.rules.specs.Queries as Q;
+ghost use Rattle.calendar.specs.View.{dateIn, clockIn, countedAs, namedAs};
+ghost use Rattle.session.specs.Image.{unitIn, keyIn};
+ghost use Rattle.response.specs.Told.{ofAnswer, ofReply, ofCounted, ofNamed, steppedAs, availableIn, capacityIn, OpensAs, MetAs, AnsweredAs};
+use calendar::Clock;
+use calendar::Counted;
+use calendar::Date;
+use calendar::Named;
+use queries::Reply;
+use session::Answer;
+use session::Key;
+use session::Published;
+use session::Session;
+use session::Turn;
+use session::Unit;
+
+// An answer or a reply. Its kind says which of the other fields hold something; those that do not are 0.
+#[repr(C)]
+pub struct Response {
+    pub kind: u32,
+    // The refusal table's number of a refusal or of a limit.
+    pub row: u32,
+    // Its hour, 0 where the table gives none.
+    pub hour: u32,
+    // A lodging number, or a figure.
+    pub value: i64,
+    // The steps of a clearing.
+    pub count: u64,
+}
+
+// An unavailability notice: `count` available energies of a unit.
+#[repr(C)]
+pub struct Availability {
+    pub unit: u32,
+    pub count: usize,
+    pub energies: [u32; 25],
+}
+
+// A capacity notice: export and import of border 1, of 2, of 3, of 4.
+#[repr(C)]
+pub struct Capacities {
+    pub directions: [Published; 8],
+}
+
+// A date's answer, and its fresh session.
+#[repr(C)]
+pub struct Opening {
+    pub response: Response,
+    pub session: Session,
+}
+
+// An hour's clock name and mark with row 0, or the refusal table's number with name 0 and no mark.
+#[repr(C)]
+pub struct ClockName {
+    pub row: u32,
+    pub name: u32,
+    pub second: bool,
+}
+
+// What a call leaves and says.
+pub struct Stepped {
+    pub session: Session,
+    pub response: Response,
+}
+
+// Kinds
+const ACCEPTED: u32 = 0;
+
+const REFUSED: u32 = 1;
+
+const NUMBERED: u32 = 2;
+
+const STEPS: u32 = 3;
+
+const HIDDEN: u32 = 4;
+
+const LIMIT: u32 = 5;
+
+const FIGURE: u32 = 6;
+
+const ABSENT: u32 = 7;
+
+// Answers and replies
+
+fn of_answer(a: Answer) -> Response
+    ensures { λ r. ⌜ r ≡ ofAnswer a ⌝ }
+{
+    match a {
+        Answer::Refused(row, hour) => Response {
+            kind: REFUSED,
+            row: row,
+            hour: hour,
+            value: 0,
+            count: 0,
+        },
+        Answer::Done => Response {
+            kind: ACCEPTED,
+            row: 0,
+            hour: 0,
+            value: 0,
+            count: 0,
+        },
+        Answer::Numbered(number) => Response {
+            kind: NUMBERED,
+            row: 0,
+            hour: 0,
+            value: number as i64,
+            count: 0,
+        },
+        Answer::Steps(steps) => Response {
+            kind: STEPS,
+            row: 0,
+            hour: 0,
+            value: 0,
+            count: steps,
+        },
+    }
+}
+
+fn of_reply(a: Reply) -> Response
+    ensures { λ r. ⌜ r ≡ ofReply a ⌝ }
+{
+    match a {
+        Reply::Refused(row, hour) => Response {
+            kind: REFUSED,
+            row: row,
+            hour: hour,
+            value: 0,
+            count: 0,
+        },
+        Reply::Accepted => Response {
+            kind: ACCEPTED,
+            row: 0,
+            hour: 0,
+            value: 0,
+            count: 0,
+        },
+        Reply::Hidden => Response {
+            kind: HIDDEN,
+            row: 0,
+            hour: 0,
+            value: 0,
+            count: 0,
+        },
+        Reply::Limit(row, hour) => Response {
+            kind: LIMIT,
+            row: row,
+            hour: hour,
+            value: 0,
+            count: 0,
+        },
+        Reply::Number(figure) => Response {
+            kind: FIGURE,
+            row: 0,
+            hour: 0,
+            value: figure,
+            count: 0,
+        },
+        Reply::Absent => Response {
+            kind: ABSENT,
+            row: 0,
+            hour: 0,
+            value: 0,
+            count: 0,
+        },
+    }
+}
+
+fn of_counted(c: Counted) -> Response
+    ensures { λ r. ⌜ r ≡ ofCounted c ⌝ }
+{
+    match c {
+        Counted::Refused(row) => Response {
+            kind: REFUSED,
+            row: row,
+            hour: 0,
+            value: 0,
+            count: 0,
+        },
+        Counted::Given(number) => Response {
+            kind: FIGURE,
+            row: 0,
+            hour: 0,
+            value: number as i64,
+            count: 0,
+        },
+    }
+}
+
+fn of_named(n: Named) -> ClockName
+    ensures { λ r. ⌜ r ≡ ofNamed n ⌝ }
+{
+    match n {
+        Named::Refused(row) => ClockName {
+            row: row,
+            name: 0,
+            second: false,
+        },
+        Named::Given(c) => ClockName {
+            row: 0,
+            name: c.name,
+            second: c.second,
+        },
+    }
+}
+
+fn of_turn(t: Turn) -> Stepped
+    ensures { λ r. ⌜ r ≡ steppedAs t ⌝ }
+{
+    let session = t.session;
+    let answer = t.answer;
+    let response = of_answer(answer);
+    Stepped { session, response }
+}
+
+// Dates
+
+// Opens the session of a date: 1.
+pub fn open(date: Date) -> Opening
+    ensures { λ r. ⌜ OpensAs (dateIn date) r ⌝ }
+{
+    let o = session::open(date);
+    let session = o.session;
+    let answer = o.answer;
+    let response = of_answer(answer);
+    Opening { response, session }
+}
+
+// The number of hours of a date: 1.
+pub fn hours(date: Date) -> Response
+    ensures { λ r. ⌜ r ≡ ofCounted (countedAs (hoursAt (dateIn date))) ⌝ }
+{
+    let c = calendar::hours_at(date);
+    of_counted(c)
+}
+
+// The hour of a clock name and mark of a date: 1, 4.
+pub fn hour(date: Date, clock: Clock) -> Response
+    ensures { λ r. ⌜ r ≡ ofCounted (countedAs (hourAt (dateIn date) (clockIn clock))) ⌝ }
+{
+    let c = calendar::hour_at(date, clock);
+    of_counted(c)
+}
+
+// The clock name and mark of an hour of a date: 1, 4.
+pub fn clock(date: Date, hour: u32) -> ClockName
+    ensures { λ r. ⌜ r ≡ ofNamed (namedAs (clockAt (dateIn date) hour)) ⌝ }
+{
+    let n = calendar::clock_at(date, hour);
+    of_named(n)
+}
+
+// Calls
+
+// Registers a unit: 2, 5, 7, 8, 9.
+pub fn register(s: Session, unit: Unit) -> Stepped
+    ensures { λ r. ⌜ MetAs s (register (unitIn unit)) r ⌝ }
+{
+    let t = registry::register(s, unit);
+    of_turn(t)
+}
+
+// Takes an unavailability notice: 2, 4, 5, 6.
+pub fn available(s: Session, notice: Availability) -> Stepped
+    ensures { λ r. ⌜ MetAs s (availableIn notice) r ⌝ }
+{
+    let energies = notice.energies;
+    let t = notices::available(s, notice.unit, notice.count, energies);
+    of_turn(t)
+}
+
+// Takes a capacity notice: 2, 4, 5.
+pub fn capacity(s: Session, notice: Capacities) -> Stepped
+    ensures { λ r. ⌜ MetAs s (capacityIn notice) r ⌝ }
+{
+    let directions = notice.directions;
+    let t = capacities::capacity(s, directions);
+    of_turn(t)
+}
+
+// Lodges a message: 2, 3, 4, 5, 6, 9, 10, 11, 12.
+pub fn lodge(s: Session, message: &[u8]) -> Stepped
+    ensures { λ r. ⌜ MetAs s (lodge (now (message .entry))) r ⌝ }
+{
+    let t = lodging::lodge::lodge(s, message);
+    of_turn(t)
+}
+
+// Annuls the lodgement of a key: 2, 5, 6, 13.
+pub fn annul(s: Session, key: Key) -> Stepped
+    ensures { λ r. ⌜ MetAs s (annul (keyIn key)) r ⌝ }
+{
+    let t = annulling::annul(s, key);
+    of_turn(t)
+}
+
+// Closes the gate: 2.
+pub fn close(s: Session) -> Stepped
+    ensures { λ r. ⌜ MetAs s close r ⌝ }
+{
+    let t = closing::close(s);
+    of_turn(t)
+}
+
+// Clears the day: 2.
+pub fn clear(s: Session) -> Stepped
+    ensures { λ r. ⌜ MetAs s clear r ⌝ }
+{
+    let t = clearing::clear(s);
+    of_turn(t)
+}
+
+// Queries
+
+// "a lodging number's verdict", after closing: 2, 13.
+pub fn verdict(s: Session, number: u32) -> Response
+    ensures { λ r. ⌜ AnsweredAs s (Q.verdict number) r ⌝ }
+{
+    let a = verdicts::verdict(s, number);
+    of_reply(a)
+}
+
+// A unit's matched energy in an hour: 2, 4, 5, 6.
+pub fn matched(s: Session, unit: u32, hour: u32) -> Response
+    ensures { λ r. ⌜ AnsweredAs s (Q.matched unit hour) r ⌝ }
+{
+    let a = energies::matched(s, unit, hour);
+    of_reply(a)
+}
+
+// A unit's executed energy in an hour: 2, 4, 5, 6.
+pub fn executed(s: Session, unit: u32, hour: u32) -> Response
+    ensures { λ r. ⌜ AnsweredAs s (Q.executed unit hour) r ⌝ }
+{
+    let a = energies::executed(s, unit, hour);
+    of_reply(a)
+}
+
+// The final market balance of a border: 2, 4, 5.
+pub fn market(s: Session, border: u32, hour: u32) -> Response
+    ensures { λ r. ⌜ AnsweredAs s (Q.market border hour) r ⌝ }
+{
+    let a = balances::market(s, border, hour);
+    of_reply(a)
+}
+
+// The final balance of its executions: 2, 4, 5.
+pub fn bilateral(s: Session, border: u32, hour: u32) -> Response
+    ensures { λ r. ⌜ AnsweredAs s (Q.bilateral border hour) r ⌝ }
+{
+    let a = balances::bilateral(s, border, hour);
+    of_reply(a)
+}
+
+// The market maximum of a border's direction, "absent without capacity": 2, 4, 5.
+pub fn market_maximum(s: Session, border: u32, export: bool, hour: u32) -> Response
+    ensures { λ r. ⌜ AnsweredAs s (Q.marketMax border export hour) r ⌝ }
+{
+    let a = maxima::market_maximum(s, border, export, hour);
+    of_reply(a)
+}
+
+// Its bilateral maximum, which may be below zero: 2, 4, 5.
+pub fn bilateral_maximum(s: Session, border: u32, export: bool, hour: u32) -> Response
+    ensures { λ r. ⌜ AnsweredAs s (Q.bilateralMax border export hour) r ⌝ }
+{
+    let a = maxima::bilateral_maximum(s, border, export, hour);
+    of_reply(a)
+}
+
+// The hour's price: 2, 4.
+pub fn price(s: Session, hour: u32) -> Response
+    ensures { λ r. ⌜ AnsweredAs s (Q.price hour) r ⌝ }
+{
+    let a = queries::price(s, hour);
+    of_reply(a)
+}

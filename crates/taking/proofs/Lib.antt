@@ -1,0 +1,2 @@
+pub mod GivenLaws
+pub mod TakenLaws

@@ -1,0 +1,152 @@
+-- The verdict of the lodgement at a place is the book's.
+use Prim.Native.Nat.{ℕ, _+_, _≤_, _<_}
+use mathlib.Core.Path.{_≡_, refl, sym, ap, fun-ext, _∙_}
+use mathlib.Core.Bool.{Bool, true, false, not, _&&_}
+use mathlib.Core.List.{List, map}
+use mathlib.Core.Option.{Option, some, none}
+use native.Mathlib.Omega.{arith}
+use lib.Dec.{eqb}
+use lib.ListN.{length, getD, take, length-map, length-take}
+use lib.Seq.{ext-getD, getD-take, length-take-le}
+use borrow.Author.Tests.{eqb-true, not-true}
+use Rattle.rules.specs.Lists.{keep, any, sumOf, from, hourly}
+use Rattle.rules.specs.Refusals.{Row, firstRow}
+use Rattle.rules.specs.Units as U
+use Rattle.rules.specs.Lodging as L
+use Rattle.rules.specs.Book.{Book, hours}
+use Rattle.rules.specs.Closing as C
+use Rattle.rules.specs.Demands.{turnOf, takenBefore, verdictOf, acceptedBefore, energyWith}
+use Rattle.rules.proofs.BoolLaws.{both}
+use Rattle.rules.proofs.ListLaws.{all-at, keep-keep}
+use Rattle.rules.proofs.ClosingLaws.{verdict-with}
+use Rattle.session.specs.Image.{image, Sound, unitAs, noticeAs, verdictAs, noLodgement}
+use Rattle.session.specs.Parts.{Within, told, numberIs, placeOf}
+use Rattle.session.specs.declared.Session.{Session}
+use Rattle.session.specs.declared.Unit.{Unit}
+use Rattle.session.specs.declared.Notice.{Notice}
+use Rattle.session.specs.declared.Lodgement.{Lodgement}
+use Rattle.session.specs.declared.Energies.{Energies}
+use Rattle.session.specs.declared.Verdict.{Verdict}
+use Rattle.session.specs.declared.Judged.{Judged}
+use Rattle.session.proofs.ImageLaws.{standing-as, hours-as, capacities-as, energies-as, registered-as, unit-as, notice-as}
+use Rattle.session.proofs.PlaceLaws.{placed, getD-map}
+use Rattle.loads.specs.Loads.{marked, loadIn, bareEnergies, LoadsOf, loadAt}
+use Rattle.limits.specs.Limits.{judgedIn}
+use Rattle.limits.proofs.NoticeLaws.{judged-as}
+use Rattle.loads.proofs.MarkLaws.{load-keep}
+use Rattle.limits.proofs.PlaceLaws.{loads-all, judged-places}
+use Rattle.validation.specs.Turns.{beyond, standingAt, verdictAt, isTaken, verdictSoFar, Reached, Loaded, JudgesAt, countsOn, countsAt, verdictBy}
+use Rattle.validation.proofs.CountLaws.{length-from, places-at, counted-as}
+use Rattle.validation.proofs.TurnLaws.{passed-before, verdict-at}
+use Rattle.validation.proofs.StandingLaws.{stands, lodgement-at, energies-at}
+
+-- a judgement by the limits, as a verdict
+told-verdict : (o : Option Row) → verdictBy (told o) ≡ verdictAs (C.verdictOfRow o)
+unfolding verdictBy verdictAs C.verdictOfRow
+told-verdict none = refl
+told-verdict (some r) = refl
+
+module _ (s : Session) (b : Book) (sound : Sound b) (e : s ≡ image b) (vs : List Verdict) (turn i : ℕ) (h : i < s .standing) (r : Reached b turn (i + 1) vs) (t : isTaken b turn i ≡ true) where
+  -- the lodgement
+  abbrev l : L.Lodgement
+  l = standingAt b i
+
+  of-turn : turnOf l ≡ turn
+  unfolding isTaken
+  of-turn = eqb-true _ _ (both (eqb (turnOf l) turn) (not (L.isHidden (b .standing) l)) t .0)
+
+  shown : L.isHidden (b .standing) l ≡ false
+  unfolding isTaken
+  shown = not-true _ (both (eqb (turnOf l) turn) (not (L.isHidden (b .standing) l)) t .1)
+
+  -- "those accepted before it on its unit"
+  abbrev before : L.Lodgement → Bool
+  before k = C.isAccepted (verdictOf b k) && (eqb (k .key .unit) (l .key .unit) && takenBefore k l)
+
+  counts-before : (j : ℕ) → j < length (b .standing) → countsAt (l .key .unit) vs (s .lodgements) j ≡ before (standingAt b j)
+  unfolding countsAt countsOn verdictSoFar
+  counts-before j k =
+      rw (r .at j, lodgement-at s b e j (omega (arith, standing-as s b e)) noLodgement, passed-before b (sound .ranges .standing .rising) turn i j (stands s b e i h) k of-turn, verdict-at b j k)
+      (counted-as (takenBefore (standingAt b j) l) (verdictOf b (standingAt b j)) (eqb (standingAt b j .key .unit) (l .key .unit)))
+
+  -- the marks of those that are counted
+  abbrev marks : List Bool
+  marks = map (countsAt (l .key .unit) vs (s .lodgements)) (from 0 128)
+
+  marks-before : take (length (b .standing)) marks ≡ map before (b .standing)
+  marks-before =
+      let room = sound .ranges .standing .room in
+      let long : length marks ≡ 128 = length-map (from 0 128) (countsAt (l .key .unit) vs (s .lodgements)) ∙ length-from 0 128 in
+      ext-getD false (take (length (b .standing)) marks) (map before (b .standing)) (omega (arith, length-take (length (b .standing)) marks, length-map (b .standing) before))
+      (λ j k.
+      let in-list : j < length (b .standing) = omega (arith, length-take (length (b .standing)) marks) in
+      getD-take (length (b .standing)) marks j false in-list ∙ places-at (countsAt (l .key .unit) vs (s .lodgements)) 128 false j (omega arith) ∙ counts-before j in-list
+      ∙ sym (getD-map before beyond false (b .standing) j in-list))
+
+  accepted-before : keep before (b .standing) ≡ acceptedBefore b l
+  unfolding acceptedBefore C.acceptedAt verdictOf
+  accepted-before = sym (keep-keep (λ k. C.isAccepted (verdictOf b k)) (λ k. eqb (k .key .unit) (l .key .unit) && takenBefore k l) (b .standing))
+
+  -- "its energy, plus that of those accepted before it on its unit"
+  load-with : loadIn (l .energies) marks (take (s .standing) (s .energies)) ≡ energyWith b l
+  unfolding energyWith L.energyAt
+  load-with =
+      fun-ext (λ h. ap (λ (es : List Energies). loadIn (l .energies) marks es h) (energies-as s b e)
+      ∙ load-keep (l .energies) marks (b .standing) h before marks-before
+      ∙ ap (λ (ls : List L.Lodgement). hourly (l .energies) h + sumOf (λ k. hourly (k .energies) h) ls) accepted-before)
+
+  -- the book's verdict, by the limits of its unit
+  verdict-is : verdictAt b i ≡ C.verdictOfRow (firstRow (L.limitRows (hours b) (l .energies) (energyWith b l) (U.limits (b .capacities) (U.unitOf (b .units) (l .key .unit)))))
+  verdict-is = verdict-at b i (stands s b e i h) ∙ all-at i beyond (verdict-with b (sound .ranges .standing .rising)) (stands s b e i h) shown
+
+  -- and the code's
+  judged-is : (u : Unit) (n : Notice) (own : List ℕ) → u ≡ unitAs (U.unitOf (b .units) (l .key .unit) .unit) → n ≡ noticeAs (U.unitOf (b .units) (l .key .unit) .available) → own ≡ l .energies
+      → verdictBy (judgedIn u n (s .capacities) false (s .hours) own (loadIn own marks (take (s .standing) (s .energies)))) ≡ verdictAs (verdictAt b i)
+  unfolding L.judgedBy
+  judged-is u n own eu en eo =
+      rw (eo, load-with, ← hours-as s b e, verdict-is)
+      (ap verdictBy (judged-as (U.unitOf (b .units) (l .key .unit)) (b .capacities) (hours b) (l .energies) (energyWith b l) u n (s .capacities) false eu en (capacities-as s b e))
+      ∙ told-verdict _)
+
+-- The code's ways out
+
+module _ (s : Session) (vs : List Verdict) (i : ℕ) (h : i < s .standing) (dl : Lodgement) where
+  abbrev unitHere : ℕ
+  unitHere = getD (s .lodgements) i dl .key .unit
+
+  unit-here : (b : Book) → s ≡ image b → unitHere ≡ standingAt b i .key .unit
+  unit-here b e = ap (λ (l : Lodgement). l .key .unit) (lodgement-at s b e i h dl)
+
+  module _ (p : ℕ) (at : p ≡ placeOf (numberIs unitHere) (take (s .enrolled) (s .units))) where
+    -- no call leaves a lodgement without its unit
+    pub judge-absent : (v : Verdict) → s .enrolled ≤ p → JudgesAt s vs i v
+    judge-absent v k b turn sound e r t =
+        let m : any (numberIs unitHere) (take (s .enrolled) (s .units)) ≡ true = sym (registered-as s b e unitHere) ∙ ap (U.isRegistered (b .units)) (unit-here b e) ∙ all-at i beyond (sound .ranges .standing .holders) (stands s b e i h) .registered in
+        absurd (omega (arith, placed (numberIs unitHere) (take (s .enrolled) (s .units)) m, length-take (s .enrolled) (s .units)))
+
+    pub judge-given : (de : Energies) (du : Unit) (dn : Notice) (ms : List Bool) (j : Judged) (v : Verdict) → p < s .enrolled
+        → ms ≡ map (countsAt unitHere vs (s .lodgements)) (from 0 128)
+        → j ≡ judgedIn (getD (s .units) p du) (getD (s .notices) p dn) (s .capacities) false (s .hours) (getD (s .energies) i de .energies) (loadIn (getD (s .energies) i de .energies) ms (take (s .standing) (s .energies)))
+        → v ≡ verdictBy j → JudgesAt s vs i v
+    judge-given de du dn ms j v k em ej ev b turn sound e r t =
+        let q = unit-here b e in
+        let here : p ≡ placeOf (numberIs (standingAt b i .key .unit)) (take (s .enrolled) (s .units)) = rw q at at in
+        ev ∙ ap verdictBy ej ∙ rw (em, q)
+        (judged-is s b sound e vs turn i h r t (getD (s .units) p du) (getD (s .notices) p dn) (getD (s .energies) i de .energies)
+        (unit-as s b e (standingAt b i .key .unit) p here k du) (notice-as s b e (standingAt b i .key .unit) p here k dn) (ap (λ (x : Energies). x .energies) (energies-at s b e i h de)))
+
+    -- and with the energies lent, by the places of those that are counted
+    pub judge-lent : (du : Unit) (dn : Notice) (own : Energies) (ms : List Bool) (loads ps : List ℕ) (j : Judged) (v : Verdict) → p < s .enrolled
+        → Within s → own ≡ getD (s .energies) i bareEnergies → Loaded s loads
+        → ms ≡ map (countsAt unitHere vs (s .lodgements)) (from 0 128) → ps ≡ marked ms (from 0 (s .standing))
+        → j ≡ judgedIn (getD (s .units) p du) (getD (s .notices) p dn) (s .capacities) false (s .hours) (own .energies) (loadAt (own .energies) loads ps)
+        → v ≡ verdictBy j → JudgesAt s vs i v
+    judge-lent du dn own ms loads ps j v k w eo lent em ep ej ev =
+        judge-given bareEnergies du dn ms j v k em
+        (ej
+        ∙ judged-places (getD (s .units) p du) (getD (s .notices) p dn) (s .capacities) false (s .hours) (own .energies) loads ps ms (s .standing) (s .energies) (w .hours) (lent .room) counted ep
+        ∙ ap (λ (x : Energies). judgedIn (getD (s .units) p du) (getD (s .notices) p dn) (s .capacities) false (s .hours) (x .energies) (loadIn (x .energies) ms (take (s .standing) (s .energies)))) eo)
+        ev
+      where
+        counted : LoadsOf ms (take (s .standing) (s .energies)) loads
+        counted = loads-all 128 ms (take (s .standing) (s .energies)) loads (omega (arith, length-take-le (s .standing) (s .energies) (lent .room), w .standing)) (lent .energies)

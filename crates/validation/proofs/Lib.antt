@@ -1,0 +1,4 @@
+pub mod CountLaws
+pub mod TurnLaws
+pub mod StandingLaws
+pub mod JudgeLaws

@@ -1,0 +1,29 @@
+-- What the session's arrays show of a standing lodgement and its unit.
+use Prim.Native.Nat.{ℕ, _<_}
+use mathlib.Core.Path.{_≡_, sym, ap, _∙_}
+use mathlib.Core.List.{List}
+use native.Mathlib.Omega.{arith}
+use lib.ListN.{length, getD}
+use lib.Seq.{getD-take}
+use Rattle.rules.specs.Book.{Book}
+use Rattle.session.specs.Image.{image, lodgementAs, energiesAs}
+use Rattle.session.specs.declared.Lodgement.{Lodgement}
+use Rattle.session.specs.declared.Energies.{Energies}
+use Rattle.session.specs.declared.Session.{Session}
+use Rattle.session.proofs.ImageLaws.{standing-as, lodgements-as, energies-as}
+use Rattle.session.proofs.PlaceLaws.{getD-map}
+use Rattle.validation.specs.Turns.{beyond, standingAt}
+
+module _ (s : Session) (b : Book) (e : s ≡ image b) (i : ℕ) (h : i < s .standing) where
+  pub stands : i < length (b .standing)
+  stands = omega (arith, standing-as s b e)
+
+  pub lodgement-at : (d : Lodgement) → getD (s .lodgements) i d ≡ lodgementAs (standingAt b i)
+  lodgement-at d =
+      sym (getD-take (s .standing) (s .lodgements) i d h)
+      ∙ (ap (λ (l : List Lodgement). getD l i d) (lodgements-as s b e) ∙ getD-map lodgementAs beyond d (b .standing) i stands)
+
+  pub energies-at : (d : Energies) → getD (s .energies) i d ≡ energiesAs (standingAt b i)
+  energies-at d =
+      sym (getD-take (s .standing) (s .energies) i d h)
+      ∙ (ap (λ (l : List Energies). getD l i d) (energies-as s b e) ∙ getD-map energiesAs beyond d (b .standing) i stands)

@@ -1,0 +1,84 @@
+use mathlib.Core.Bool.{false}
+use mathlib.Core.List.{[]}
+use native.Mathlib.Omega.{arith}
+use Rattle.session.specs.Image.{noLodgement, noUnit}
+use Rattle.limits.proofs.PlaceLaws.{places-asked}
+use Rattle.validation.proofs.JudgeLaws.{judge-absent, judge-lent}
+use borrow.Author.Needs.{needs}
+use Rattle.validation.proofs.judge_place.Statement.{statement}
+use Rattle.validation.proofs.judge_place.Tie as tie
+
+mul-l : tie.Need-mul-l
+mul-l c = search needs
+
+array-copy-out-l : tie.Need-array-copy-out-l
+array-copy-out-l c = search needs
+
+place-requires : tie.Need-place-requires
+place-requires c κs = search needs
+
+no-verdict-requires : tie.Need-no-verdict-requires
+no-verdict-requires c κs = search needs
+
+returns : tie.Need-returns
+returns c = judge-absent (c .before .before .before .before .before .before .before .args .s) (c .before .before .before .before .before .before .before .args .verdicts) (c .before .before .before .before .before .before .before .args .at) (omega arith) noLodgement (c .before .before .before .place .result) (c .before .before .before .place .ensures .0) (c .no-verdict .result) (omega arith)
+
+mul-u : tie.Need-mul-u
+mul-u c = search needs
+
+array-copy-out-u : tie.Need-array-copy-out-u
+array-copy-out-u c = search needs
+
+mul-notice : tie.Need-mul-notice
+mul-notice c = search needs
+
+array-copy-out-notice : tie.Need-array-copy-out-notice
+array-copy-out-notice c = search needs
+
+accepted-on-requires : tie.Need-accepted-on-requires
+accepted-on-requires c κs = search needs
+
+counted-places-requires : tie.Need-counted-places-requires
+counted-places-requires c κs = search needs
+
+cast-hours : tie.Need-cast-hours
+cast-hours c = search needs
+
+judge-energy-requires : tie.Need-judge-energy-requires
+judge-energy-requires c κs =
+    let s = c .before .before .before .before .before .before .before .before .before .before .before .before .before .before .before .before .before .args .s in
+    let w = c .before .before .before .before .before .before .before .before .before .before .before .before .before .before .before .before .before .pre .0 in
+    let r = c .before .before .before .counted-places in
+    places-asked (r .result .count) (s .standing) (s .hours) (r .result .at) (r .ensures .0) (w .standing) (w .hours) (r .ensures .2) (r .ensures .3)
+
+verdict-by-requires : tie.Need-verdict-by-requires
+verdict-by-requires c κs = search needs
+
+returns-2 : tie.Need-returns-2
+returns-2 c =
+    let a = c .before .before .before .before .before .before .before .before .before .before .before .before .before .before .before .before .before .before .before .args in
+    let q = c .before .before .before .before .before .before .before .before .before .before .before .before .before .before .before .before .before .before .before .pre in
+    let at = c .before .before .before .before .before .before .before .before .before .before .before .before .before .before .before .place in
+    let marks = c .before .before .before .before .before .before .before .accepted-on in
+    judge-lent (a .s) (a .verdicts) (a .at) (q .1) noLodgement (at .result) (at .ensures .0) noUnit (record { given = false; energies = [] }) (a .e) (marks .result) (a .loads .now) _ (c .before .judge-energy .result) (c .verdict-by .result)
+    (c .before .before .before .before .before .before .before .before .before .before .before .before .before .if1 .left) (q .0) (q .2) (q .3) (marks .ensures) (c .before .before .before .before .before .counted-places .ensures .1) (c .before .judge-energy .ensures) (c .verdict-by .ensures)
+
+pub judge-place-spec : {M : Type 1} → statement M
+judge-place-spec =
+    tie.close
+    (tie.spec
+    mul-l
+    array-copy-out-l
+    place-requires
+    no-verdict-requires
+    returns
+    mul-u
+    array-copy-out-u
+    mul-notice
+    array-copy-out-notice
+    accepted-on-requires
+    counted-places-requires
+    cast-hours
+    judge-energy-requires
+    verdict-by-requires
+    returns-2)

@@ -1,0 +1,104 @@
+// One lodgement's verdict at closing.
+ghost use mathlib.Core.Path.{_≡_};
+ghost use mathlib.Core.List.{map};
+ghost use Prim.Native.Nat.{_<_};
+ghost use Rattle.rules.specs.Lists.{from};
+ghost use lib.ListN.{getD};
+ghost use Rattle.session.specs.Parts.{Within};
+ghost use Rattle.loads.specs.Loads.{bareEnergies};
+ghost use Rattle.validation.specs.Turns.{Loaded, countsOn, countsAt, verdictBy, JudgesAt};
+use limits::judge_energy;
+use loads::counted_places;
+use session::Energies;
+use session::Judged;
+use session::Lodgement;
+use session::Session;
+use session::Verdict;
+use session::no_verdict;
+use session::units::place;
+
+// Whether a lodgement is accepted and of this unit.
+fn counts(unit: u32, v: Verdict, l: Lodgement) -> bool
+    ensures { λ r. ⌜ r ≡ countsOn unit v l ⌝ }
+{
+    let holder = l.key.unit;
+    if !v.accepted {
+        return false;
+    }
+    holder == unit
+}
+
+// "those accepted before it on its unit": the places accepted so far, of this unit.
+fn accepted_on(unit: u32, verdicts: [Verdict; 128], lodgements: [Lodgement; 128]) -> [bool; 128]
+    ensures { λ r. ⌜ r ≡ map (countsAt unit verdicts lodgements) (from 0 128) ⌝ }
+{
+    let mut marks = [false; 128];
+    for j in 0..128 {
+        let v = verdicts[j];
+        let l = lodgements[j];
+        marks[j] = counts(unit, v, l);
+    }
+    marks
+}
+
+// Accepted, or "refused whole" by the first limit passed in its lowest hour.
+fn verdict_by(j: Judged) -> Verdict
+    ensures { λ r. ⌜ r ≡ verdictBy j ⌝ }
+{
+    match j {
+        Judged::No(row, hour) => Verdict {
+            accepted: false,
+            limit: row,
+            hour: hour,
+        },
+        Judged::Clear => Verdict {
+            accepted: true,
+            limit: 0,
+            hour: 0,
+        },
+    }
+}
+
+// The verdict of the lodgement at a place: "its energy, plus that of those accepted before it on its unit", against the
+// unit's limits. Its energies are e, and those of all are lent.
+pub fn judge_place(
+    s: Session,
+    loads: &[u32; 3200],
+    e: Energies,
+    verdicts: [Verdict; 128],
+    at: usize,
+) -> Verdict
+    requires { ⌜ Within s × (at < s .standing) × (e ≡ getD (s .energies) at bareEnergies) × Loaded s (now loads) ⌝ }
+    ensures { λ r. ⌜ JudgesAt s verdicts at r ⌝ }
+{
+    let lodgements = s.lodgements;
+    let l = lodgements[at];
+    let unit = l.key.unit;
+    let units = s.units;
+    let p = place(units, s.enrolled, unit);
+    if s.enrolled <= p {
+        // No call leaves a lodgement without its unit.
+        return no_verdict();
+    }
+    let u = units[p];
+    let notices = s.notices;
+    let notice = notices[p];
+    let capacities = s.capacities;
+    let own = e.energies;
+    let counted = accepted_on(unit, verdicts, lodgements);
+    let found = counted_places(&counted, s.standing);
+    let others = found.at;
+    let hours = s.hours as usize;
+    let j = judge_energy(
+        u,
+        notice,
+        capacities,
+        false,
+        own,
+        loads,
+        &others,
+        found.count,
+        hours,
+    );
+    verdict_by(j)
+}

@@ -1,0 +1,137 @@
+-- Verdicts in the lodgements' places, and what they are told as.
+use Prim.Native.Nat.{ℕ, _≤_, _<_}
+use mathlib.Core.Path.{_≡_, refl, ap, sym, _∙_}
+use mathlib.Core.Bool.{Bool, true, false, cond, not}
+use mathlib.Core.List.{List, [], _∷_, map}
+use mathlib.Core.Option.{none as nothing}
+use native.Mathlib.Omega.{arith}
+use lib.Dec.{eqb}
+use lib.ListN.{getD, take, length-map}
+use borrow.Author.Tests.{eqb-true, not-true}
+use Rattle.rules.specs.Lists.{All, none, more, first}
+use Rattle.rules.specs.Refusals.{Row, row, given, limitRow, firstRow, unless, outcome}
+use Rattle.rules.specs.Units.{limits, maximumLimit}
+use Rattle.rules.specs.Lodging as L
+use Rattle.rules.specs.Book.{Book}
+use Rattle.rules.specs.Closing as C
+use Rattle.rules.specs.Queries as Q
+use Rattle.rules.specs.Queries.{judged, isStanding}
+use Rattle.rules.proofs.BoolLaws.{by-bool, of-not}
+use Rattle.rules.proofs.ListLaws.{first-passes}
+use Rattle.session.specs.Laid.{pad}
+use Rattle.session.specs.Image.{image, verdictsIn, verdictAs, noVerdict, lodgementAs}
+use Rattle.session.specs.Parts.{placeOf}
+use Rattle.session.specs.declared.Session.{Session}
+use Rattle.session.specs.declared.Verdict.{Verdict}
+use Rattle.session.proofs.PlaceLaws.{placed, unplaced, place-first, place-map, getD-map}
+use Rattle.session.proofs.ImageLaws.{closed-as, standing-as, lodgements-as}
+use Rattle.queries.specs.Replies.{replyIn, Answered}
+use Rattle.verdicts.specs.Parts.{lodged, toldAs, bareVerdict}
+use Rattle.queries.specs.declared.Reply.{Reply}
+use Rattle.queries.specs.declared.Reply.the-variants.{Refused}
+use Rattle.queries.proofs.FigureLaws.{pad-at}
+
+-- A limit's number is never 0
+
+-- accepted, hidden, or a limit that has a number
+unfoldable pub isNumbered : C.Verdict → Bool
+isNumbered C.accepted = true
+isNumbered C.hidden = true
+isNumbered (C.limit n h) = not (eqb n 0)
+
+rows-numbered : {rows : List Row} → All (λ r. eqb (r .number) 0 ≡ false) rows → isNumbered (C.verdictOfRow (firstRow rows)) ≡ true
+unfolding C.verdictOfRow firstRow isNumbered
+rows-numbered none = refl
+rows-numbered (more {x} h t) = by-bool (x .applies) (λ e. rw (e, h)) (λ e. rw e (rows-numbered t))
+
+-- limits are 10, 11 and 12
+judge-numbered : (b : Book) (before : List L.Lodgement) (l : L.Lodgement) → isNumbered (C.judge b before l) ≡ true
+unfolding C.judge L.limitRows limitRow limits maximumLimit
+judge-numbered b before l = rows-numbered (more refl (more refl (more refl none)))
+
+each-numbered : (b : Book) (before ls : List L.Lodgement) (n : ℕ) → isNumbered (C.verdictAmong (C.judgeEach b before ls) n) ≡ true
+unfolding C.verdictAmong C.judgeEach isNumbered
+each-numbered b before [] n = refl
+each-numbered b before (l ∷ ls) n =
+    by-bool (eqb (l .number) n) (λ t. rw t (judge-numbered b before l))
+    (λ t. rw t (each-numbered b (cond (C.isAccepted (C.judge b before l)) (l ∷ before) before) ls n))
+
+pub among-numbered : (b : Book) (n : ℕ) → isNumbered (C.verdictAmong (C.judgements b) n) ≡ true
+unfolding C.judgements
+among-numbered b n = each-numbered b [] (C.closingOrder (b .standing)) n
+
+-- so a verdict is told as it is
+pub told-as : (v : C.Verdict) → isNumbered v ≡ true → replyIn (toldAs (verdictAs v)) ≡ given (judged v)
+unfolding replyIn toldAs verdictAs isNumbered
+told-as C.accepted h = refl
+told-as C.hidden h = refl
+told-as (C.limit n h) k = rw (not-true (eqb n 0) k)
+
+-- Where a lodging number's verdict stands
+
+abbrev hasNumber : ℕ → L.Lodgement → Bool
+hasNumber n l = eqb (l .number) n
+
+abbrev blank : L.Lodgement
+blank = record { key = record { execution = false; default = false; unit = 0; contract = 0 }; number = 0; energies = []; prices = [] }
+
+verdict-at : (b : Book) (n : ℕ) → isStanding b n ≡ true
+    → getD (pad 128 noVerdict (map verdictAs (C.verdicts b))) (placeOf (hasNumber n) (b .standing)) bareVerdict ≡ verdictAs (C.verdictAmong (C.judgements b) n)
+unfolding C.verdicts isStanding
+verdict-at b n h =
+    let p = placed (hasNumber n) (b .standing) h in
+    let js = C.judgements b in
+    pad-at 128 noVerdict bareVerdict (map verdictAs (C.verdicts b)) (placeOf (hasNumber n) (b .standing))
+    (omega (arith, length-map (C.verdicts b) verdictAs, length-map (b .standing) (λ l. C.verdictAmong js (l .number))))
+    ∙ getD-map verdictAs C.hidden bareVerdict (C.verdicts b) (placeOf (hasNumber n) (b .standing)) (omega (arith, length-map (b .standing) (λ l. C.verdictAmong js (l .number))))
+    ∙ ap verdictAs (getD-map (λ l. C.verdictAmong js (l .number)) blank C.hidden (b .standing) (placeOf (hasNumber n) (b .standing)) p
+    ∙ ap (λ l. C.verdictAmong js (l .number)) (sym (place-first (hasNumber n) blank (b .standing)))
+    ∙ ap (C.verdictAmong js) (eqb-true (first (hasNumber n) blank (b .standing) .number) n (first-passes (hasNumber n) blank (b .standing) h)))
+
+module _ (s : Session) (b : Book) (e : s ≡ image b) where
+  place-among : (n : ℕ) → placeOf (lodged n) (take (s .standing) (s .lodgements)) ≡ placeOf (hasNumber n) (b .standing)
+  place-among n = rw (lodgements-as s b e) (place-map lodgementAs (lodged n) (b .standing))
+
+  verdicts-list : s .closed ≡ true → s .verdicts ≡ pad 128 noVerdict (map verdictAs (C.verdicts b))
+  unfolding image verdictsIn
+  verdicts-list k = let c = closed-as s b e ∙ k in rw (e, c)
+
+  -- the verdict at its place is the number's
+  pub verdict-as : (n at : ℕ) → s .closed ≡ true → isStanding b n ≡ true → at ≡ placeOf (lodged n) (take (s .standing) (s .lodgements))
+      → getD (s .verdicts) at bareVerdict ≡ verdictAs (C.verdictAmong (C.judgements b) n)
+  verdict-as n at k h q = rw (verdicts-list k, q, place-among n) (verdict-at b n h)
+
+-- The ways out
+
+pub verdict-2 : (s : Session) (n : ℕ) → s .closed ≡ false → Answered s (Q.verdict n) (Refused 2 0)
+unfolding replyIn Q.query Q.queryRows outcome unless row firstRow
+verdict-2 s n k b sound e = rw (closed-as s b e, k)
+
+module _ (s : Session) (n at : ℕ) (place : at ≡ placeOf (lodged n) (take (s .standing) (s .lodgements))) (k : s .closed ≡ true) where
+  module _ (b : Book) (e : s ≡ image b) where
+    -- the number stands exactly if its place is one of the lodgements'
+    stands-below : isStanding b n ≡ true → at < s .standing
+    unfolding isStanding
+    stands-below t = omega (arith, place, place-among s b e n, placed (hasNumber n) (b .standing) t, standing-as s b e)
+
+    below-stands : at < s .standing → isStanding b n ≡ true
+    unfolding isStanding
+    below-stands h =
+        by-bool (isStanding b n) (λ t. t)
+        (λ t. absurd (omega (arith, place, place-among s b e n, unplaced (hasNumber n) (b .standing) t, standing-as s b e)))
+
+  pub verdict-13 : s .standing ≤ at → Answered s (Q.verdict n) (Refused 13 0)
+  unfolding replyIn Q.query Q.queryRows outcome unless row firstRow
+  verdict-13 h b sound e =
+      rw (of-not (isStanding b n) (λ t. absurd (omega (arith, h, stands-below b e t))), closed-as s b e, k)
+
+  no-row : (b : Book) → s ≡ image b → at < s .standing → firstRow (Q.queryRows b (Q.verdict n)) ≡ nothing
+  unfolding Q.queryRows row firstRow
+  no-row b e h = rw (below-stands b e h, closed-as s b e, k)
+
+  pub verdict-told : at < s .standing → (v : Verdict) → v ≡ getD (s .verdicts) at bareVerdict → (r : Reply) → r ≡ toldAs v → Answered s (Q.verdict n) r
+  unfolding Q.query Q.shown outcome unless
+  verdict-told h v w r q b sound e =
+      ap replyIn (q ∙ ap toldAs (w ∙ verdict-as s b e n at k (below-stands b e h) place))
+      ∙ told-as (C.verdictAmong (C.judgements b) n) (among-numbered b n)
+      ∙ sym (ap (λ o. unless o (Q.shown b (Q.verdict n))) (no-row b e h))

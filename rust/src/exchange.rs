@@ -1,0 +1,69 @@
+//! The calls and queries of a session, for the proved gate and the model alike.
+
+use crate::types::*;
+
+/// A session of one delivery day, with every call and query of document 01.
+pub trait Exchange: Sized {
+    /// A fresh session of the date. Beside a refused date stands the fresh session of 2002-01-01.
+    fn opened(date: Date) -> (Result<(), Refusal>, Self);
+
+    /// The hours of a date: 23, 24 or 25.
+    fn hours(date: Date) -> Result<u32, Refusal>;
+
+    /// The clock name of an hour.
+    fn clock(date: Date, hour: u32) -> Result<Clock, Refusal>;
+
+    /// The hour of a clock name with its mark.
+    fn hour_named(date: Date, clock: Clock) -> Result<u32, Refusal>;
+
+    /// The fields of a message, by itself: no day is known here.
+    fn read(message: &[u8]) -> Result<Fields, Refusal>;
+
+    /// The message of the fields into the buffer; how many bytes it has. A refused call writes nothing.
+    fn write(fields: &Fields, buffer: &mut [u8]) -> Result<usize, Refusal>;
+
+    /// Registers a unit.
+    fn register(&mut self, unit: Unit) -> Result<(), Refusal>;
+
+    /// An unavailability notice: the energies that a unit has available.
+    fn available(&mut self, unit: u32, energies: &Energies) -> Result<(), Refusal>;
+
+    /// A capacity notice; it replaces the one before it, whole.
+    fn capacity(&mut self, capacities: &Capacities) -> Result<(), Refusal>;
+
+    /// Lodges a message.
+    fn lodge(&mut self, message: &[u8]) -> Result<LodgingNumber, Refusal>;
+
+    /// Annuls the lodgement of a key.
+    fn annul(&mut self, key: Key) -> Result<(), Refusal>;
+
+    /// Closes the gate.
+    fn close(&mut self) -> Result<(), Refusal>;
+
+    /// Clears the day.
+    fn clear(&mut self) -> Result<Steps, Refusal>;
+
+    /// The verdict on a lodging number, after closing.
+    fn verdict(&self, number: u32) -> Result<Verdict, Refusal>;
+
+    /// A unit's matched energy in an hour, after clearing.
+    fn matched(&self, unit: u32, hour: u32) -> Result<u32, Refusal>;
+
+    /// A unit's executed energy in an hour, after clearing.
+    fn executed(&self, unit: u32, hour: u32) -> Result<u32, Refusal>;
+
+    /// A border's final market balance in an hour, exports less imports, after clearing.
+    fn market(&self, border: u32, hour: u32) -> Result<i64, Refusal>;
+
+    /// A border's final balance of executions in an hour, exports less imports, after clearing.
+    fn bilateral(&self, border: u32, hour: u32) -> Result<i64, Refusal>;
+
+    /// The market maximum of a border's direction in an hour, none without capacity, after clearing.
+    fn market_maximum(&self, border: u32, direction: Direction, hour: u32) -> Result<Option<i64>, Refusal>;
+
+    /// The bilateral maximum of a border's direction in an hour, none without capacity, after clearing. It may be below zero.
+    fn bilateral_maximum(&self, border: u32, direction: Direction, hour: u32) -> Result<Option<i64>, Refusal>;
+
+    /// An hour's price, after clearing.
+    fn price(&self, hour: u32) -> Result<u32, Refusal>;
+}
