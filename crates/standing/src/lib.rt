@@ -88,9 +88,13 @@ pub fn drop_key(s: Session, key: Key) -> Session
     ensures { λ r. ⌜ Dropped s key r ⌝ }
 {
     let lodgements = s.lodgements;
-    let energies = s.energies;
     let n = s.standing;
     let count = kept_count(lodgements, n, key);
+    if count == n {
+        // None of the key stands.
+        return s;
+    }
+    let energies = s.energies;
     let kept = kept_lodgements(lodgements, n, key);
     let beside = kept_energies(lodgements, energies, n, key);
     let mut next = s;
