@@ -1,18 +1,20 @@
 -- Whether a place is taken in a turn.
 use Prim.Native.Nat.{ℕ, _<_}
-use mathlib.Core.Path.{_≡_, sym, _∙_}
-use mathlib.Core.Bool.{Bool, false, not}
+use mathlib.Core.Path.{_≡_, refl, sym, ap, _∙_}
+use mathlib.Core.Bool.{Bool, true, false, not, _&&_}
+use mathlib.Core.List.{List, [], _∷_}
 use lib.ListN.{getD, take}
-use borrow.Author.Tests.{eq-eqb, ne-eqb}
+use borrow.Author.Tests.{eq-eqb, ne-eqb, not-true}
 use Rattle.rules.specs.Lists.{any}
 use Rattle.rules.specs.Lodging as L
 use Rattle.rules.specs.Book.{Book}
 use Rattle.rules.specs.Demands.{turnOf}
-use Rattle.session.specs.Image.{image, lodgementAs}
+use Rattle.session.specs.Image.{image, lodgementAs, noLodgement}
 use Rattle.session.specs.declared.Lodgement.{Lodgement}
 use Rattle.session.specs.declared.Session.{Session}
 use Rattle.session.proofs.ImageLaws.{lodgements-as}
 use Rattle.session.proofs.LaidLaws.{any-map}
+use Rattle.loads.proofs.LoadLaws.{and-false}
 use Rattle.keys.specs.Keys.{hiding}
 use Rattle.validation.specs.Turns.{standingAt, isTaken}
 use Rattle.validation.proofs.StandingLaws.{lodgement-at}
@@ -27,12 +29,33 @@ module _ (s : Session) (b : Book) (e : s ≡ image b) (i : ℕ) (h : i < s .stan
   unfolding L.isHidden
   hidden-at d = rw (lodgement-at s b e i h d, lodgements-as s b e) (any-map lodgementAs (hiding (lodgementAs (standingAt b i) .key)) (b .standing))
 
-module _ (s : Session) (turn i : ℕ) (d : Lodgement) (h : i < s .standing) where
-  pub takes-other : {t : ℕ} → t ≡ turnIn (getD (s .lodgements) i d .key) → (t ≡ turn → ⊥) → TakesAt s turn i false
-  unfolding isTaken
-  takes-other {t} q n b e = rw (ne-eqb (turnOf (standingAt b i)) turn (λ k. n (q ∙ turn-at s b e i h d ∙ k)))
+-- Whether a place is taken
 
-  pub takes-shown : {t : ℕ} {r : Bool} → t ≡ turnIn (getD (s .lodgements) i d .key) → t ≡ turn → r ≡ any (hiding (getD (s .lodgements) i d .key)) (take (s .standing) (s .lodgements))
-      → TakesAt s turn i (not r)
+-- a normal lodgement is hidden by none
+hides-normal : (a k : L.Key) → k .default ≡ false → L.hides a k ≡ false
+unfolding L.hides
+hides-normal a k e = and-false (L.sameButDefault a k && not (a .default)) (k .default) e
+
+shown-normal : (ls : List L.Lodgement) (k : L.Key) → k .default ≡ false → any (λ (l : L.Lodgement). L.hides (l .key) k) ls ≡ false
+unfolding any
+shown-normal [] k e = refl
+shown-normal (l ∷ ls) k e = rw (hides-normal (l .key) k e) (shown-normal ls k e)
+
+module _ (s : Session) (turn : ℕ) (l : Lodgement) (i : ℕ) (h : i < s .standing) (here : l ≡ getD (s .lodgements) i noLodgement) where
+  turn-here : {t : ℕ} → t ≡ turnIn (l .key) → (b : Book) → s ≡ image b → t ≡ turnOf (standingAt b i)
+  turn-here q b e = q ∙ ap (λ (x : Lodgement). turnIn (x .key)) here ∙ turn-at s b e i h noLodgement
+
+  pub takes-other : {t : ℕ} → t ≡ turnIn (l .key) → (t ≡ turn → ⊥) → TakesAt s turn i false
   unfolding isTaken
-  takes-shown q n k b e = rw (eq-eqb (turnOf (standingAt b i)) turn (sym (turn-at s b e i h d) ∙ sym q ∙ n), k, hidden-at s b e i h d)
+  takes-other {t} q n b e = rw (ne-eqb (turnOf (standingAt b i)) turn (λ k. n (turn-here q b e ∙ k)))
+
+  pub takes-normal : {t : ℕ} → t ≡ turnIn (l .key) → t ≡ turn → not (l .key .default) ≡ true → TakesAt s turn i true
+  unfolding isTaken L.isHidden
+  takes-normal q n d b e =
+      let k : standingAt b i .key .default ≡ false = ap (λ (x : Lodgement). x .key .default) (sym (lodgement-at s b e i h noLodgement) ∙ sym here) ∙ not-true (l .key .default) d in
+      rw (eq-eqb (turnOf (standingAt b i)) turn (sym (turn-here q b e) ∙ n), shown-normal (b .standing) (standingAt b i .key) k)
+
+  pub takes-shown : {t : ℕ} {r : Bool} → t ≡ turnIn (l .key) → t ≡ turn → r ≡ any (hiding (l .key)) (take (s .standing) (s .lodgements)) → TakesAt s turn i (not r)
+  unfolding isTaken
+  takes-shown q n k b e =
+      rw (eq-eqb (turnOf (standingAt b i)) turn (sym (turn-here q b e) ∙ n), k ∙ ap (λ (x : Lodgement). any (hiding (x .key)) (take (s .standing) (s .lodgements))) here ∙ hidden-at s b e i h noLodgement)

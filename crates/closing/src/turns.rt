@@ -1,11 +1,14 @@
 // The order of closing: its three turns, and within each the latest number first.
 ghost use mathlib.Core.Path.{_≡_};
-ghost use Prim.Native.Nat.{_<_};
+ghost use Prim.Native.Nat.{ℕ, _<_};
+ghost use lib.ListN.{getD};
+ghost use Rattle.session.specs.Image.{noLodgement};
 ghost use Rattle.session.specs.Parts.{Within};
 ghost use Rattle.validation.specs.Turns.{Loaded};
 ghost use Rattle.closing.specs.Passes.{turnIn, TakesAt, PassesTurn};
 use keys::is_hidden;
 use session::Key;
+use session::Lodgement;
 use session::Session;
 use session::Verdict;
 use validation::judge_place;
@@ -30,17 +33,19 @@ fn turn_of(key: Key) -> u32
     OFFERS
 }
 
-// Whether the lodgement at a place is of this turn. "Unhidden lodgements are taken".
-fn takes(s: Session, turn: u32, at: usize) -> bool
-    requires { ⌜ Within s × (at < s .standing) ⌝ }
-    ensures { λ r. ⌜ TakesAt s turn at r ⌝ }
+// Whether a standing lodgement is of this turn. "Unhidden lodgements are taken"; a normal one is hidden by none.
+fn takes(s: Session, turn: u32, l: Lodgement) -> bool
+    requires { ⌜ Within s ⌝ }
+    ensures { λ r. ⌜ ((i : ℕ) → i < s .standing → l ≡ getD (s .lodgements) i noLodgement → TakesAt s turn i r) ⌝ }
 {
-    let lodgements = s.lodgements;
-    let l = lodgements[at];
     let key = l.key;
     if turn_of(key) != turn {
         return false;
     }
+    if !key.default {
+        return true;
+    }
+    let lodgements = s.lodgements;
     !is_hidden(lodgements, s.standing, key)
 }
 
@@ -50,13 +55,15 @@ pub fn pass(s: Session, loads: &[u32; 3200], turn: u32, verdicts: [Verdict; 128]
     ensures { λ r. ⌜ PassesTurn s turn verdicts r ⌝ }
 {
     let mut given = verdicts;
+    let lodgements = s.lodgements;
     let energies = s.energies;
     let n = s.standing;
     let mut passed = 0usize;
     while passed < n {
         passed += 1;
         let at = n - passed;
-        if takes(s, turn, at) {
+        let l = lodgements[at];
+        if takes(s, turn, l) {
             let e = energies[at];
             let v = judge_place(s, loads, e, given, at);
             given[at] = v;

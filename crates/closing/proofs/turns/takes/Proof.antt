@@ -1,29 +1,22 @@
-use Rattle.closing.proofs.TakeLaws.{takes-other, takes-shown}
-use native.Mathlib.Omega.{arith}
-use Rattle.session.specs.Image.{noLodgement}
+use Rattle.closing.proofs.TakeLaws.{takes-other, takes-normal, takes-shown}
 use borrow.Author.Needs.{needs}
 use Rattle.closing.proofs.turns.takes.Statement.{statement}
 use Rattle.closing.proofs.turns.takes.Tie as tie
-
-mul-l : tie.Need-mul-l
-mul-l c = search needs
-
-array-copy-out-l : tie.Need-array-copy-out-l
-array-copy-out-l c = search needs
 
 turn-of-requires : tie.Need-turn-of-requires
 turn-of-requires c κs = search needs
 
 returns : tie.Need-returns
-returns c = takes-other _ _ _ noLodgement (omega arith) (c .before .turn-of .ensures) (c .if1 .taken)
+returns c = λ i h e. takes-other (c .before .before .before .args .s) (c .before .before .before .args .turn) (c .before .before .before .args .l) i h e (c .before .turn-of .ensures) (c .if1 .taken)
+
+returns-2 : tie.Need-returns-2
+returns-2 c = λ i h e. takes-normal (c .before .before .before .before .before .args .s) (c .before .before .before .before .before .args .turn) (c .before .before .before .before .before .args .l) i h e (c .before .before .before .turn-of .ensures) (c .before .before .if1 .left) (c .if2 .taken)
 
 is-hidden-requires : tie.Need-is-hidden-requires
 is-hidden-requires c κs = search needs
 
-returns-2 : tie.Need-returns-2
-returns-2 c = takes-shown _ _ _ noLodgement (omega arith) (c .before .before .turn-of .ensures) (c .before .if1 .left) (c .is-hidden .ensures)
+returns-3 : tie.Need-returns-3
+returns-3 c = λ i h e. takes-shown (c .before .before .before .before .before .before .before .args .s) (c .before .before .before .before .before .before .before .args .turn) (c .before .before .before .before .before .before .before .args .l) i h e (c .before .before .before .before .before .turn-of .ensures) (c .before .before .before .before .if1 .left) (c .is-hidden .ensures)
 
 pub takes-spec : {M : Type 1} → statement M
-takes-spec =
-    tie.close
-    (tie.spec mul-l array-copy-out-l turn-of-requires returns is-hidden-requires returns-2)
+takes-spec = tie.close (tie.spec turn-of-requires returns returns-2 is-hidden-requires returns-3)
