@@ -29,6 +29,8 @@ module _ (s : Session) (b : Book) (e : s ≡ image b) (i : ℕ) (h : i < s .stan
   unfolding L.isHidden
   hidden-at d = rw (lodgement-at s b e i h d, lodgements-as s b e) (any-map lodgementAs (hiding (lodgementAs (standingAt b i) .key)) (b .standing))
 
+-- Whether a place is taken
+
 -- a normal lodgement is hidden by none
 hides-normal : (a k : L.Key) → k .default ≡ false → L.hides a k ≡ false
 unfolding L.hides
