@@ -14,7 +14,7 @@ use Rattle.session.specs.declared.Energies.{Energies}
 use Rattle.session.specs.declared.Unit.{Unit}
 use Rattle.session.specs.declared.Notice.{Notice}
 use Rattle.session.specs.declared.Judged.{Judged}
-use Rattle.loads.specs.Loads.{marked, energyIn, loadIn, bareEnergies, LoadsOf, energyAtPlace, loadAt}
+use Rattle.loads.specs.Loads.{marked, energyIn, loadIn, bareEnergies, LoadsOf, energyAtPlace, loadBy}
 use Rattle.limits.specs.Limits.{noticeIn, registeredIn, judgedIn}
 use Rattle.limits.proofs.NoticeLaws.{rows-load}
 
@@ -35,8 +35,8 @@ module _ (loads : List ℕ) (h : ℕ) where
       omega (arith, rw z at (f 0 (omega arith) refl), sums-places (suc i) bs es (λ j k t. let q : i + suc j ≡ suc i + j = omega arith in rw q at (f (suc j) (omega arith) t)))
   sums-places i (false ∷ bs) (e ∷ es) f = sums-places (suc i) bs es (λ j k t. let q : i + suc j ≡ suc i + j = omega arith in rw q at (f (suc j) (omega arith) t))
 
-  pub load-places : (own : List ℕ) (bs : List Bool) (es : List Energies) → 1 ≤ h → h ≤ 25 → LoadsOf bs es loads → loadAt own loads (marked bs (from 0 (length es))) h ≡ loadIn own bs es h
-  unfolding loadAt loadIn LoadsOf hourly
+  pub load-places : (own : List ℕ) (bs : List Bool) (es : List Energies) → 1 ≤ h → h ≤ 25 → LoadsOf bs es loads → loadBy own loads (marked bs (from 0 (length es))) h ≡ loadIn own bs es h
+  unfolding loadBy loadIn LoadsOf hourly
   load-places own bs es a b f = ap (λ n. hourly own h + n) (sums-places 0 bs es (λ j k t. let z : 0 + j ≡ j = omega arith in rw z (f j (h - 1) k t (omega arith))))
 
 -- what judging asks of the places
@@ -47,12 +47,12 @@ places-asked count n hours ps a b c d f = (omega arith, c, d, λ l i. omega (ari
 -- the judgement by places is that by marks
 module _ (u : Unit) (notice : Notice) (cs : List Notice) (only : Bool) (H : ℕ) (own loads ps : List ℕ) (bs : List Bool) (n : ℕ) (es : List Energies) where
   pub judged-places : H ≤ 25 → n ≤ length es → LoadsOf bs (take n es) loads → ps ≡ marked bs (from 0 n)
-      → judgedIn u notice cs only H own (loadAt own loads ps) ≡ judgedIn u notice cs only H own (loadIn own bs (take n es))
+      → judgedIn u notice cs only H own (loadBy own loads ps) ≡ judgedIn u notice cs only H own (loadIn own bs (take n es))
   unfolding judgedIn
   judged-places most b f e =
       ap (λ rows. told (firstRow rows))
-      (rows-load H own (loadAt own loads ps) (loadIn own bs (take n es))
-      (λ h i k. ap (λ (qs : List ℕ). loadAt own loads qs h) (e ∙ ap (λ m. marked bs (from 0 m)) (sym-length b)) ∙ load-places loads h own bs (take n es) i (omega arith) f)
+      (rows-load H own (loadBy own loads ps) (loadIn own bs (take n es))
+      (λ h i k. ap (λ (qs : List ℕ). loadBy own loads qs h) (e ∙ ap (λ m. marked bs (from 0 m)) (sym-length b)) ∙ load-places loads h own bs (take n es) i (omega arith) f)
       (judgedBy (map noticeIn cs) (registeredIn u notice) only))
     where
       sym-length : n ≤ length es → n ≡ length (take n es)

@@ -6,7 +6,7 @@ ghost use Prim.Native.Nat.{ℕ, _+_, _<_, _≤_};
 ghost use lib.ListN.{getD, take, length, replicate};
 ghost use Rattle.rules.specs.Lists.{addEach};
 ghost use Rattle.rules.specs.Units.{borderSum};
-ghost use Rattle.loads.specs.Loads.{loadAt};
+ghost use Rattle.loads.specs.Loads.{loadBy};
 ghost use Rattle.limits.specs.Limits.{noticeIn, lowestRow, judgedIn, noBorderLimit, borderAt};
 use loads::lowest_hour;
 use session::Judged;
@@ -139,7 +139,7 @@ pub fn judge_energy(
     hours: usize,
 ) -> Judged
     requires { ⌜ (count ≤ 128) × (hours ≤ 25) × (length (now at) ≡ 128) × ((l : ℕ) → l < count → getD (now at) l 0 < 128) ⌝ }
-    ensures { λ j. ⌜ j ≡ judgedIn unit notice capacities default hours own (loadAt own (now (loads .entry)) (take count (now (at .entry)))) ⌝ }
+    ensures { λ j. ⌜ j ≡ judgedIn unit notice capacities default hours own (loadBy own (now (loads .entry)) (take count (now (at .entry)))) ⌝ }
 {
     let most = maximum_energies(unit.maximum);
     let ten = lowest_hour(own, loads, at, count, hours, most);

@@ -17,7 +17,7 @@ use Rattle.rules.specs.Lodging.{passedAt}
 use Rattle.rules.proofs.ListLaws.{hourly-suc}
 use Rattle.rules.proofs.LowestLaws.{lowest-is, lowest-none}
 use Rattle.session.specs.declared.Energies.{Energies}
-use Rattle.loads.specs.Loads.{marked, bareEnergies, PutAt, LoadsOf, energyAtPlace, loadAt, laid}
+use Rattle.loads.specs.Loads.{marked, bareEnergies, PutAt, LoadsOf, energyAtPlace, loadBy, laid}
 
 -- Sums
 
@@ -44,8 +44,8 @@ module _ (h : ℕ) (loads ps : List ℕ) (n l : ℕ) where
   unfolding restAt sumOf sum
   rest-end i b = rw (drop-of-length-le (take n ps) {i = l} (omega (arith, length-take-le n ps b)))
 
-pub rest-start : (own loads ps : List ℕ) (n h : ℕ) → getD own h 0 + restAt (suc h) loads ps n 0 ≡ loadAt own loads (take n ps) (suc h)
-unfolding restAt loadAt
+pub rest-start : (own loads ps : List ℕ) (n h : ℕ) → getD own h 0 + restAt (suc h) loads ps n 0 ≡ loadBy own loads (take n ps) (suc h)
+unfolding restAt loadBy
 rest-start own loads ps n h = rw (hourly-suc own h)
 
 -- Places

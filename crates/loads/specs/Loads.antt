@@ -45,8 +45,8 @@ abbrev pub energyAtPlace : List ℕ → ℕ → ℕ → ℕ
 energyAtPlace loads h l = getD loads (l * 25 + (h - 1)) 0
 
 -- a lodgement's own energy in an hour plus that at the places of others
-unfoldable pub loadAt : List ℕ → List ℕ → List ℕ → ℕ → ℕ
-loadAt own loads places h = hourly own h + sumOf (energyAtPlace loads h) places
+unfoldable pub loadBy : List ℕ → List ℕ → List ℕ → ℕ → ℕ
+loadBy own loads places h = hourly own h + sumOf (energyAtPlace loads h) places
 
 -- a limit by hour, as an array has it (its number is not looked at here)
 abbrev pub laid : List ℕ → Limit

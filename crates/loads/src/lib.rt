@@ -4,7 +4,7 @@ ghost use Prim.Native.Nat.{ℕ, _<_, _≤_};
 ghost use lib.ListN.{getD, take, length};
 ghost use Rattle.rules.specs.Lists.{from, lowest};
 ghost use Rattle.rules.specs.Lodging.{passedAt};
-ghost use Rattle.loads.specs.Loads.{marked, PutAt, LoadsOf, loadAt, laid};
+ghost use Rattle.loads.specs.Loads.{marked, PutAt, LoadsOf, loadBy, laid};
 use session::Energies;
 
 // Places of lodgements, `count` of them in front of the array.
@@ -73,7 +73,7 @@ pub fn lowest_hour(
     limit: [u64; 25],
 ) -> u32
     requires { ⌜ (count ≤ 128) × (hours ≤ 25) × (length (now at) ≡ 128) × ((l : ℕ) → l < count → getD (now at) l 0 < 128) ⌝ }
-    ensures { λ r. ⌜ r ≡ lowest (passedAt own (loadAt own (now (loads .entry)) (take count (now (at .entry)))) (laid limit)) hours ⌝ }
+    ensures { λ r. ⌜ r ≡ lowest (passedAt own (loadBy own (now (loads .entry)) (take count (now (at .entry)))) (laid limit)) hours ⌝ }
 {
     let mut passed: u32 = 0;
     'hours: for h in 0..hours {

@@ -30,7 +30,7 @@ use Rattle.session.specs.declared.Verdict.{Verdict}
 use Rattle.session.specs.declared.Judged.{Judged}
 use Rattle.session.proofs.ImageLaws.{standing-as, hours-as, capacities-as, energies-as, registered-as, unit-as, notice-as}
 use Rattle.session.proofs.PlaceLaws.{placed, getD-map}
-use Rattle.loads.specs.Loads.{marked, loadIn, bareEnergies, LoadsOf, loadAt}
+use Rattle.loads.specs.Loads.{marked, loadIn, bareEnergies, LoadsOf, loadBy}
 use Rattle.limits.specs.Limits.{judgedIn}
 use Rattle.limits.proofs.NoticeLaws.{judged-as}
 use Rattle.loads.proofs.MarkLaws.{load-keep}
@@ -139,7 +139,7 @@ module _ (s : Session) (vs : List Verdict) (i : ℕ) (h : i < s .standing) (dl :
     pub judge-lent : (du : Unit) (dn : Notice) (own : Energies) (ms : List Bool) (loads ps : List ℕ) (j : Judged) (v : Verdict) → p < s .enrolled
         → Within s → own ≡ getD (s .energies) i bareEnergies → Loaded s loads
         → ms ≡ map (countsAt unitHere vs (s .lodgements)) (from 0 128) → ps ≡ marked ms (from 0 (s .standing))
-        → j ≡ judgedIn (getD (s .units) p du) (getD (s .notices) p dn) (s .capacities) false (s .hours) (own .energies) (loadAt (own .energies) loads ps)
+        → j ≡ judgedIn (getD (s .units) p du) (getD (s .notices) p dn) (s .capacities) false (s .hours) (own .energies) (loadBy (own .energies) loads ps)
         → v ≡ verdictBy j → JudgesAt s vs i v
     judge-lent du dn own ms loads ps j v k w eo lent em ep ej ev =
         judge-given bareEnergies du dn ms j v k em

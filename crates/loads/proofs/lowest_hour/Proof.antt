@@ -3,7 +3,7 @@ use mathlib.Core.Path.{_≡_, refl, ap, _∙_}
 use native.Mathlib.Omega.{arith}
 use lib.ListN.{take}
 use Rattle.rules.specs.Lodging.{passedAt}
-use Rattle.loads.specs.Loads.{loadAt, laid}
+use Rattle.loads.specs.Loads.{loadBy, laid}
 use Rattle.loads.proofs.LoadLaws.{restAt, rest-start, rest-again, rest-end, unnamed, over, within, NoneTo, none-start, none-next, none-all, none-found}
 use borrow.Author.Needs.{needs}
 use Rattle.loads.proofs.lowest_hour.Statement.{statement}
@@ -11,14 +11,14 @@ use Rattle.loads.proofs.lowest_hour.Tie as tie
 
 abbrev Inv-loop : tie.InvT-loop
 Inv-loop loads at count hours own limit passed₀ h₀ named most sum₀ l₀ passed h sum l =
-    (l ≤ count) × (passed ≡ passed₀) × (h ≡ h₀) × (sum ≤ 4294967296 * (l + 1)) × (sum + restAt (suc h₀) loads at count l ≡ loadAt own loads (take count at) (suc h₀))
+    (l ≤ count) × (passed ≡ passed₀) × (h ≡ h₀) × (sum ≤ 4294967296 * (l + 1)) × (sum + restAt (suc h₀) loads at count l ≡ loadBy own loads (take count at) (suc h₀))
 
 abbrev μ-loop : tie.MeasureT-loop
 μ-loop loads at count hours own limit passed₀ h₀ named most sum₀ l₀ passed h sum l = count - l
 
 abbrev Inv-hours : tie.InvT-hours
 Inv-hours loads at count hours own limit passed₀ h₀ passed h =
-    (h ≤ hours) × (passed ≡ 0) × NoneTo (passedAt own (loadAt own loads (take count at)) (laid limit)) h
+    (h ≤ hours) × (passed ≡ 0) × NoneTo (passedAt own (loadBy own loads (take count at)) (laid limit)) h
 
 abbrev μ-hours : tie.MeasureT-hours
 μ-hours loads at count hours own limit passed₀ h₀ passed h = hours - h
