@@ -1,13 +1,15 @@
 /*
  * The day-ahead market gate, proved (README.md): one session takes one delivery day of 23, 24 or 25 hours from the first
- * lodgement to the balances at the borders. The rules are document 01; every function here is proved to answer by them.
+ * lodgement to the balances at the borders. The rules are document 01; every function of the archive is proved to answer by them.
+ * The two inline helpers are plain C; that the structs lie as declared, and the stack that a call uses, are tested (tests/c).
  *
- * Build:  rt staticlib gate                        target/staticlib/libgate.a (x86-64, the C calling convention)
- *         cc -Iinclude program.c target/staticlib/libgate.a
+ * Build, at the root of the repository:
+ *         rt staticlib gate                        proves the gate, makes target/staticlib/libgate.a (x86-64, System V calling convention)
+ *         cc -Iinclude program.c target/staticlib/libgate.a -o program
  *
- * A day:  gate_open, then gate_register, gate_capacity, gate_available, gate_lodge and gate_annul in any order and number,
- *         then gate_close, then gate_clear; gate_verdict from closing on, the other queries from clearing on. A call that comes
- *         too early or too late is refused and changes nothing.
+ * A day:  gate_open, then gate_register, gate_capacity, gate_available, gate_lodge and gate_annul in any order and number (a unit
+ *         is registered before it is named), then gate_close, then gate_clear; gate_verdict from closing on, the other queries
+ *         from clearing on. A call that comes too early or too late is refused and changes nothing.
  *
  * Ownership. The caller owns every struct, message and buffer. Nothing is kept after a call returns, nothing is allocated, there
  * is no global state, and nothing is called but memcpy, memmove and memset: no system call, no callback. A session is plain data:
@@ -16,13 +18,14 @@
  * A call uses at most GATE_STACK bytes of the calling thread's stack.
  *
  * What may be passed. Any bytes may be passed as a message, and any numbers as arguments: what is wrong is refused by the table
- * below, the lowest row first. Two things are owed by the caller: a pointer is to what its type says (not NULL, also where a
- * length is 0, and message and buffer do not overlap the session), and a bool is 0 or 1. The promises are of the sessions that
- * gate_open and the calls leave. A call on any other session returns too, and nothing is promised of its answer.
+ * below, the lowest row first. Two things are owed by the caller: a pointer is to what its type says (a message and a buffer
+ * to at least `length` bytes; not NULL, also where a length is 0; neither overlaps the session), and a bool is 0 or 1. The
+ * promises are of the sessions that gate_open and the calls leave. A call on any other session returns too, and nothing is promised of
+ * its answer.
  *
  * Units of measure: energy in tenths of a MWh, 0 to 99,999; price in hundredths of a euro per MWh, 0 to 18,030. An hour is a number, 1 to
- * the day's 23, 24 or 25, never a clock name. Balances are exports less imports. At a border a sale is an import, a purchase an
- * export.
+ * the day's 23, 24 or 25, never a clock name. Balances are exports less imports. A maximum is counted in its own direction: one
+ * of imports bounds the balance negated. At a border a sale is an import, a purchase an export.
  */
 #ifndef GATE_H
 #define GATE_H
@@ -46,11 +49,11 @@ enum {
     GATE_NUMBERS = 65535,     /* highest number of a unit, an agent, a contract, a lodgement */
     GATE_HOURS = 25,          /* hours of the longest day */
     GATE_DIRECTIONS = 8,      /* of a capacity notice: see gate_direction */
-    GATE_WAYS = 10,           /* of an hour's figures: export and import of border 0, of 1, .. of 4 */
+    GATE_WAYS = 10,           /* of an hour's figures: export and import of border 0 (domestic purchases and sales), of 1, .. of 4 */
     GATE_MAX_ENERGY = 99999,
     GATE_MAX_PRICE = 18030,
     GATE_MESSAGE = 108,       /* bytes of the longest message */
-    GATE_STACK = 524288       /* bytes of stack that a call may use */
+    GATE_STACK = 524288       /* bytes of stack that a call may use, what it returns not counted */
 };
 
 enum { GATE_DOMESTIC = 0, GATE_FRANCE = 1, GATE_ANDORRA = 2, GATE_PORTUGAL = 3, GATE_MOROCCO = 4 };
@@ -84,7 +87,7 @@ enum {
     GATE_REFUSED_FULL = 9,       /* 64 units; 128 lodgements and none of this key; 65,535 accepted */
     GATE_REFUSED_MAXIMUM = 10,   /* limit 10 passed: the unit's maximum */
     GATE_REFUSED_AVAILABLE = 11, /* limit 11 passed: its available energy */
-    GATE_REFUSED_BORDER = 12,    /* limit 12 passed: both capacities of its border together */
+    GATE_REFUSED_BORDER = 12,    /* limit 12 passed: the sum of both capacities of its border, where both are published */
     GATE_REFUSED_ABSENT = 13,    /* no such key, or lodging number (0 too) not standing at closing */
     GATE_REFUSED_SHORT = 14      /* writer's buffer too small */
 };
@@ -128,7 +131,8 @@ typedef struct GateAvailability {
     uint32_t energies[GATE_HOURS];
 } GateAvailability;
 
-/* A direction of a capacity notice: absent, or `count` energies, hour 1 first. */
+/* A direction of a capacity notice: absent (then count and energies are not looked at), which means no maximum, or `count` energies,
+ * hour 1 first, of which 0 is a maximum too. Before the first notice every direction is absent. */
 typedef struct GatePublished {
     bool published;
     size_t count;
@@ -161,7 +165,7 @@ typedef struct GateFields {
     uint32_t contract;
     uint32_t map;                  /* the hours that it names: see gate_hour_bit */
     uint32_t energies[GATE_HOURS]; /* hour 1 first: 1 to 99,999 in a named hour, 0 in another */
-    uint32_t prices[GATE_HOURS];   /* likewise; all 0 for an execution */
+    uint32_t prices[GATE_HOURS];   /* hour 1 first: 0 to 18,030 in a named hour of an offer, 0 in another and in an execution */
 } GateFields;
 
 /* The bit of an hour, 1 to 25, in the hour map: hour 1 is bit 24, hour 25 bit 0. */
@@ -225,7 +229,7 @@ typedef struct GateCleared {
     uint32_t price;
     uint32_t market[GATE_WAYS];
     uint32_t bilateral[GATE_WAYS];
-    uint32_t maxima[GATE_WAYS]; /* market maxima, 0 where the direction has none */
+    uint32_t maxima[GATE_WAYS]; /* market maxima, 0 also where the direction has none (gate_market_maximum tells) */
     uint32_t matched[GATE_UNITS];
     uint32_t executed[GATE_UNITS];
 } GateCleared;
@@ -236,7 +240,7 @@ typedef struct GateSession {
     size_t enrolled;                           /* units */
     GateUnit units[GATE_UNITS];                /* in the order of registering */
     GateNotice notices[GATE_UNITS];            /* unavailability, in the units' places */
-    GateNotice capacities[GATE_DIRECTIONS];
+    GateNotice capacities[GATE_DIRECTIONS];    /* by gate_direction */
     size_t standing;                           /* lodgements */
     GateLodgement lodgements[GATE_LODGEMENTS]; /* in the order of their numbers */
     GateEnergies energies[GATE_LODGEMENTS];    /* in the lodgements' places */
@@ -350,7 +354,7 @@ GateResponse gate_market_maximum(const GateSession *session, uint32_t border, bo
 /* The bilateral maximum of a border's direction in an hour, which may be below zero: a figure, or absent. Refused 2, 4, 5. */
 GateResponse gate_bilateral_maximum(const GateSession *session, uint32_t border, bool is_export, uint32_t hour);
 
-/* The price of an hour, a figure. Refused 2, 4. */
+/* The price of an hour, a figure; 0 also where nothing is matched. Refused 2, 4. */
 GateResponse gate_price(const GateSession *session, uint32_t hour);
 
 #ifdef __cplusplus

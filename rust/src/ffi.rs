@@ -246,7 +246,7 @@ pub struct Cleared {
     pub executed: [u32; 64],
 }
 
-/// A session. Its fields are the gate's own business: they are here because C has to know its size.
+/// A session. Only the gate's calls change its fields: they are here because C has to know its size.
 #[repr(C)]
 #[derive(Clone, Copy, PartialEq, Eq)]
 pub struct Session {

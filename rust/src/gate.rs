@@ -80,7 +80,7 @@ fn refusal(row: u32, hour: u32) -> Refusal {
         7 => Refusal::Taken,
         8 => Refusal::Second,
         9 => Refusal::Full,
-        10..=12 => Refusal::Passed { limit: limit(row), hour },
+        10..=12 => Refusal::Limit { limit: limit(row), hour },
         13 => Refusal::Absent,
         14 => Refusal::Short,
         _ => panic!("the archive refuses with {row}, which the table lacks: it is not of this crate's interface"),
@@ -299,7 +299,7 @@ impl Gate {
         match given(response)? {
             Given::Accepted => Ok(Verdict::Accepted),
             Given::Hidden => Ok(Verdict::Hidden),
-            Given::Limit(limit, hour) => Ok(Verdict::Passed { limit, hour }),
+            Given::Limit(limit, hour) => Ok(Verdict::Refused { limit, hour }),
             _ => unexpected(response),
         }
     }
@@ -324,13 +324,14 @@ impl Gate {
         figure(ffi::bilateral(&self.session, border, hour))
     }
 
-    /// The market maximum of a border's direction in an hour, none without capacity. Refused as 2, 4 or 5.
+    /// The market maximum of a border's direction in an hour, after clearing, none without capacity. It is counted in that
+    /// direction: one of imports bounds the market balance negated. Refused as 2, 4 or 5.
     pub fn market_maximum(&self, border: u32, direction: Direction, hour: u32) -> Result<Option<i64>, Refusal> {
         maximum(ffi::market_maximum(&self.session, border, direction == Direction::Export, hour))
     }
 
-    /// The bilateral maximum of a border's direction in an hour, none without capacity; it may be below zero, when market
-    /// exports ride on bilateral imports. Refused as 2, 4 or 5.
+    /// The bilateral maximum of a border's direction in an hour, after clearing, none without capacity, counted in that direction;
+    /// it may be below zero, when the market exports more than the capacity since executions import. Refused as 2, 4 or 5.
     pub fn bilateral_maximum(&self, border: u32, direction: Direction, hour: u32) -> Result<Option<i64>, Refusal> {
         maximum(ffi::bilateral_maximum(&self.session, border, direction == Direction::Export, hour))
     }

@@ -258,7 +258,7 @@ pub enum Verdict {
     /// A normal lodgement hid it.
     Hidden,
     /// It was refused, for all hours.
-    Passed {
+    Refused {
         /// The limit that it passed.
         limit: Limit,
         /// The lowest hour in which it passed that limit.
@@ -271,7 +271,7 @@ impl fmt::Display for Verdict {
         match self {
             Verdict::Accepted => write!(f, "accepted"),
             Verdict::Hidden => write!(f, "hidden"),
-            Verdict::Passed { limit, hour } => {
+            Verdict::Refused { limit, hour } => {
                 write!(f, "limit {} {} hour {}", limit.number(), limit.word(), hour)
             }
         }
@@ -300,13 +300,13 @@ pub enum Refusal {
     /// 9: 64 units; 128 lodgements and none of this key; 65,535 accepted.
     Full,
     /// 10 to 12: a limit passed.
-    Passed {
+    Limit {
         /// The limit.
         limit: Limit,
         /// The lowest hour in which it is passed.
         hour: u32,
     },
-    /// 13: no such key, or lodging number not standing at closing.
+    /// 13: no such key, or lodging number (0 too) not standing at closing.
     Absent,
     /// 14: writer's buffer too small.
     Short,
@@ -325,7 +325,7 @@ impl Refusal {
             Refusal::Taken => 7,
             Refusal::Second => 8,
             Refusal::Full => 9,
-            Refusal::Passed { limit, .. } => limit.number(),
+            Refusal::Limit { limit, .. } => limit.number(),
             Refusal::Absent => 13,
             Refusal::Short => 14,
         }
@@ -343,7 +343,7 @@ impl Refusal {
             Refusal::Taken => "taken",
             Refusal::Second => "second",
             Refusal::Full => "full",
-            Refusal::Passed { limit, .. } => limit.word(),
+            Refusal::Limit { limit, .. } => limit.word(),
             Refusal::Absent => "absent",
             Refusal::Short => "short",
         }
@@ -352,7 +352,7 @@ impl Refusal {
     /// The lowest hour in which a limit is passed; 0 for every refusal but 10 to 12.
     pub fn hour(self) -> u32 {
         match self {
-            Refusal::Passed { hour, .. } => hour,
+            Refusal::Limit { hour, .. } => hour,
             _ => 0,
         }
     }
@@ -362,7 +362,7 @@ impl fmt::Display for Refusal {
     fn fmt(&self, f: &mut fmt::Formatter<'_>) -> fmt::Result {
         write!(f, "refused {} {}", self.number(), self.word())?;
         match self {
-            Refusal::Passed { hour, .. } => write!(f, " hour {hour}"),
+            Refusal::Limit { hour, .. } => write!(f, " hour {hour}"),
             _ => Ok(()),
         }
     }

@@ -111,7 +111,7 @@ fn the_numbers_of_the_header_are_ours() {
         assert_eq!(number(name), ours, "{name}");
     }
     use jeddyspangle::{Limit, Refusal};
-    let passed = |limit| Refusal::Passed { limit, hour: 1 };
+    let passed = |limit| Refusal::Limit { limit, hour: 1 };
     for refusal in [
         Refusal::Date,
         Refusal::Gate,

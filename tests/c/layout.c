@@ -51,7 +51,7 @@ static bool all(const uint8_t *bytes, size_t n, uint8_t value) {
 }
 static bool canaries(void) { return all(box.before, CANARY, 0x5A) && all(box.after, CANARY, 0xA5); }
 
-/* ---- sessions compared field by field, since padding is nobody's */
+/* ---- sessions compared field by field, since padding holds anything */
 
 static bool same32(const uint32_t *a, const uint32_t *b, size_t n) { return memcmp(a, b, n * sizeof *a) == 0; }
 static bool same_unit(GateUnit a, GateUnit b) {
@@ -253,7 +253,7 @@ static void full_day(void) {
     CHECK(refused(gate_clear(&copy), GATE_REFUSED_GATE, 0) && same_session(&copy, s) && !same_session(&fresh, s));
 }
 
-/* Document 01's case 12 in every hour of the short day, and below zero: market exports that ride on bilateral imports. */
+/* Document 01's case 12 in every hour of the short day, and below zero: the market exports more than the capacity, since executions import. */
 static void cuts(void) {
     const GateDate spring = {2006, 3, 26};
     open_day(spring);

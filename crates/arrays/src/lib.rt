@@ -1,4 +1,4 @@
-// Numbers and arrays by place: what every room uses, with no word of the market.
+// Numbers, and arrays by place: what many crates use, with no word of the market.
 ghost use mathlib.Core.Path.{_≡_};
 ghost use Prim.Native.Nat.{ℕ, _+_, _-_, _*_, _/_, _≤_, _<_, min, max};
 ghost use mathlib.Core.List.{List, _∷_};

@@ -42,9 +42,9 @@ use Rattle.session.proofs.LaidLaws.{map-last, set-pad}
 use Rattle.session.proofs.ImageLaws.{closed-as, cleared-as, hours-as, units-as}
 use Rattle.clearing.specs.declared.HourEnd.{HourEnd}
 use Rattle.gathering.specs.Built.{Holders, Built}
-use Rattle.keeping.specs.Shown.{clearedAs}
+use Rattle.results.specs.Shown.{clearedAs}
 use Rattle.clearing.specs.Hours.{HourAs, HoursAs}
-use Rattle.keeping.proofs.FigureLaws.{length-from}
+use Rattle.results.proofs.FigureLaws.{length-from}
 use Rattle.gathering.proofs.HourLaws.{hour-as}
 use Rattle.gathering.proofs.ReadyLaws.{hour-ready}
 

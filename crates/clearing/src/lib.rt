@@ -35,7 +35,7 @@ fn clear_hour(s: Session, holders: [Unit; 128], k: usize) -> HourEnd
     let c = hour::clear(h);
     let f = c.figures;
     let units = s.units;
-    let figures = keeping::kept(units, s.enrolled, h, f);
+    let figures = results::kept(units, s.enrolled, h, f);
     HourEnd {
         steps: f.steps,
         figures,

@@ -193,7 +193,7 @@ fn notice_at(capacities: [Notice; 8], w: usize) -> Notice
     capacities[w - 2]
 }
 
-// The capacities of the hour at place k, by way. "Absent means no maximum": its flag is down.
+// The capacities of the hour at place k, by way. "Absent means no maximum": its flag is false.
 fn capacities_at(capacities: [Notice; 8], k: usize) -> Published
     requires { ⌜ k < 25 ⌝ }
     ensures { λ r. ⌜ Given capacities k r ⌝ }

@@ -1,4 +1,5 @@
-// The lowest hour in which a lodgement's energy, with that of others that are counted, passes a limit.
+// The lodgements that are counted beside one, their places and energies, and the lowest hour in which its energy with theirs
+// passes a limit.
 ghost use mathlib.Core.Path.{_≡_};
 ghost use Prim.Native.Nat.{ℕ, _<_, _≤_};
 ghost use lib.ListN.{getD, take, length};

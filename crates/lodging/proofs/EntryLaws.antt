@@ -20,7 +20,7 @@ use Rattle.session.proofs.ImageLaws.{withLodgements, last-as, standing-as}
 use Rattle.session.proofs.SoundLaws.{open-stage}
 use Rattle.keys.specs.Keys.{keyFor}
 use Rattle.standing.specs.Kept.{struck, Dropped}
-use Rattle.judging.specs.Judging.{Room}
+use Rattle.admission.specs.Judging.{Room}
 use Rattle.lodging.specs.Entries.{EnteredFields}
 
 -- one more in the book is one more in its image

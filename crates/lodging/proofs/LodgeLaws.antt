@@ -15,7 +15,7 @@ use Rattle.session.specs.declared.Judged.{Judged}
 use Rattle.session.specs.declared.Judged.the-variants.{No}
 use Rattle.session.proofs.ImageLaws.{closed-as}
 use Rattle.session.proofs.StepLaws.{open-row}
-use Rattle.judging.specs.Judging.{fieldRows, lastRows, JudgesFields}
+use Rattle.admission.specs.Judging.{fieldRows, lastRows, JudgesFields}
 use Rattle.lodging.specs.Entries.{EnteredFields}
 
 -- rows that do not apply are passed over

@@ -1,6 +1,6 @@
 // Entering a message that no row refuses.
 ghost use Rattle.keys.specs.Keys.{keyFor};
-ghost use Rattle.judging.specs.Judging.{Room};
+ghost use Rattle.admission.specs.Judging.{Room};
 ghost use Rattle.lodging.specs.Entries.{EnteredFields};
 use keys::key_of;
 use message::Fields;

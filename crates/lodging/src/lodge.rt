@@ -3,7 +3,7 @@ ghost use mathlib.Core.Path.{_≡_};
 ghost use Rattle.rules.specs.DayBook.{lodge};
 ghost use Rattle.session.specs.Steps.{Met};
 use crate::entering::enter;
-use judging::judge_fields;
+use admission::judge_fields;
 use reader::bad_form;
 use reader::fields_of;
 use session::GATE;

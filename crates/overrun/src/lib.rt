@@ -1,4 +1,5 @@
-// Step 1 of a withdrawal, on the arrays of an hour (document 01, "Withdrawal step"): who runs in a direction passed.
+// Step 1 of a withdrawal, on the arrays of an hour (document 01, "Withdrawal step"): offers in a direction passed keep only what is
+// matched.
 ghost use mathlib.Core.Path.{_≡_};
 ghost use mathlib.Core.List.{map};
 ghost use Prim.Native.Nat.{ℕ, _<_, _≤_};

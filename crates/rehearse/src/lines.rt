@@ -30,7 +30,7 @@ use wording::words::number;
 use wording::words::number_in;
 use wording::words::one_of;
 
-// What a line's first word asks for. Register to clear are the kinds of the log's records; 11 to 18 are the queries (crates/report).
+// What a line's first word asks for. Register to clear are the kinds of the log's records; 11 to 18 are the queries (crates/asking).
 const NO_KIND: u8 = 0;
 
 const REGISTER: u8 = 1;

@@ -1,11 +1,12 @@
 -- What a call promises, from the contract under it; and that a response loses nothing of what it tells.
 use Prim.Native.Nat.{ℕ}
 use mathlib.Core.Path.{_≡_, refl, sym, _∙_, ap, subst}
-use mathlib.Core.Bool.{cond}
+use mathlib.Core.Bool.{true, cond}
+use native.Mathlib.Omega.{arith}
 use lib.Dec.{eqb}
 use lib.IntN.{ℤ, pos, negsuc}
 use Rattle.rules.specs.DayBook as D
-use Rattle.session.specs.Steps.{Met}
+use Rattle.session.specs.Steps.{Met, isRefusal}
 use Rattle.session.specs.declared.Session.{Session}
 use Rattle.session.specs.declared.Turn.{Turn}
 use Rattle.session.specs.declared.Answer.{Answer}
@@ -18,6 +19,18 @@ use Rattle.response.specs.declared.Stepped.{Stepped}
 
 pub met-as : (s : Session) (c : D.Call) (t : Turn) (r : Stepped) → Met s c t → r ≡ steppedAs t → MetAs s c r
 met-as s c t r m e = subst (MetAs s c) (sym e) (record { answer = t .answer; met = m; told = refl })
+
+-- "with the session unchanged": a call that is told as refused left the session as it was
+
+told-refused : (a : Answer) → ofAnswer a .kind ≡ 1 → isRefusal a ≡ true
+unfolding ofAnswer isRefusal
+told-refused A.Done e = absurd (omega (arith, e))
+told-refused (A.Refused n h) e = refl
+told-refused (A.Numbered n) e = absurd (omega (arith, e))
+told-refused (A.Steps n) e = absurd (omega (arith, e))
+
+pub refused-kept : (s : Session) (c : D.Call) (r : Stepped) → MetAs s c r → r .response .kind ≡ 1 → r .session ≡ s
+refused-kept s c r m e = m .met .kept (told-refused (m .answer) (sym (ap (λ (x : Response). x .kind) (m .told)) ∙ e))
 
 -- Nothing is lost: an answer and a reply are found again from what they are told as
 

@@ -1,3 +1,4 @@
+// Document 01 as definitions, in specs/, and laws about them, in proofs/. A crate with no function is not checked.
 ghost use mathlib.Core.Path.{_≡_};
 ghost use Rattle.rules.specs.Units.{maxEnergy};
 

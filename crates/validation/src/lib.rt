@@ -1,4 +1,4 @@
-// One lodgement's verdict at closing.
+// One lodgement's verdict at closing (document 01, "Closing").
 ghost use mathlib.Core.Path.{_≡_};
 ghost use mathlib.Core.List.{map};
 ghost use Prim.Native.Nat.{_<_};

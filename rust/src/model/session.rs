@@ -287,7 +287,7 @@ impl Exchange for Session {
             self.judge(place, &self.lodging_sums(&fields, place), true)
         };
         if let Some((limit, hour)) = found {
-            return Err(Refusal::Passed { limit, hour });
+            return Err(Refusal::Limit { limit, hour });
         }
         let twin = self.standing(&Key { default: !key.default, ..key });
         if let (false, Some(twin)) = (key.default, twin) {
@@ -354,7 +354,7 @@ impl Exchange for Session {
                     }
                 }
                 let verdict = match self.judge(place, &sums, true) {
-                    Some((limit, hour)) => Verdict::Passed { limit, hour },
+                    Some((limit, hour)) => Verdict::Refused { limit, hour },
                     None => {
                         add(&mut accepted[place], &lodgement.energies);
                         Verdict::Accepted

@@ -120,7 +120,7 @@ impl Observer for Seen {
                 let place = match verdict {
                     Verdict::Accepted => 0,
                     Verdict::Hidden => 1,
-                    Verdict::Passed { limit, .. } => limit.number() as usize - 8,
+                    Verdict::Refused { limit, .. } => limit.number() as usize - 8,
                 };
                 self.verdicts[place] += 1;
             }

@@ -1,4 +1,4 @@
--- `read::bad_form` meets its contract: each way out is the next test of the definition.
+-- `bad_form` meets its contract: each way out is the next test of the definition.
 use Prim.Native.Nat.{_*_, _+_, _<_, _≤_}
 use mathlib.Core.Path.{_≡_, sym, _∙_}
 use native.Mathlib.Omega.{arith}

@@ -1,0 +1,149 @@
+-- Judging a message's fields: each way out.
+use Prim.Native.Nat.{ℕ, _≤_, _<_}
+use mathlib.Core.Path.{_≡_, refl, sym, ap, _∙_}
+use mathlib.Core.Bool.{Bool, true, false, not, _&&_, _||_}
+use mathlib.Core.List.{List, map}
+use lib.Dec.{leb}
+use native.Mathlib.Omega.{arith}
+use lib.ListN.{take, getD, length-take}
+use borrow.Author.Tests.{leb-false, le-leb, lt-leb, not-false}
+use Rattle.rules.specs.Lists.{any}
+use Rattle.rules.specs.Refusals.{row, firstRow}
+use Rattle.rules.specs.Units as U
+use Rattle.rules.specs.Message.{badMap, badFields}
+use Rattle.rules.specs.Lodging as L
+use Rattle.rules.specs.Book.{Book}
+use Rattle.rules.specs.DayBook as D
+use Rattle.rules.proofs.BoolLaws.{by-bool, neither}
+use Rattle.rules.proofs.ListLaws.{length-keep, length-drop-one}
+use Rattle.message.specs.View.{fieldsIn}
+use Rattle.message.specs.declared.Fields.{Fields}
+use Rattle.session.specs.Image.{image, keyIn}
+use Rattle.session.specs.Parts.{Within, told, numberIs, placeOf}
+use Rattle.session.specs.declared.Session.{Session}
+use Rattle.session.specs.declared.Unit.{Unit}
+use Rattle.session.specs.declared.Notice.{Notice}
+use Rattle.session.specs.declared.Key.{Key}
+use Rattle.session.specs.declared.Lodgement.{Lodgement}
+use Rattle.session.specs.declared.Judged.{Judged}
+use Rattle.session.specs.declared.Judged.the-variants.{No}
+use Rattle.session.proofs.ImageLaws.{hours-as, last-as, standing-as, capacities-as, unit-as, notice-as}
+use Rattle.loads.specs.Loads.{loadIn}
+use Rattle.limits.specs.Limits.{judgedIn}
+use Rattle.limits.proofs.NoticeLaws.{judged-by}
+use Rattle.keys.specs.Keys.{keyFor, ofKey, ofOther, Enrolled}
+use Rattle.keys.proofs.KeyLaws.{stands-as}
+use Rattle.beside.specs.Beside.{besideMarks}
+use Rattle.beside.proofs.BesideLaws.{load-as}
+use Rattle.admission.specs.Judging.{Room, fullIn, lastRows, fieldRows, JudgesFields, JudgesLimits}
+
+-- Row 9
+
+or-true : (t : Bool) → true ≡ (t || true)
+or-true true = refl
+or-true false = refl
+
+or-false : (t : Bool) → t ≡ (t || false)
+or-false true = refl
+or-false false = refl
+
+module _ (ls : List Lodgement) (n last : ℕ) (k : Key) where
+  pub full-number : 65535 ≤ last → true ≡ fullIn ls n last k
+  unfolding fullIn
+  full-number h = rw (le-leb 65535 last h) (or-true (leb 128 n && not (any (ofKey k) ls)))
+
+  pub full-free : last < 65535 → n < 128 → false ≡ fullIn ls n last k
+  unfolding fullIn
+  full-free h m = rw (lt-leb 65535 last h, lt-leb 128 n m)
+
+  pub full-place : last < 65535 → 128 ≤ n → not (any (ofKey k) ls) ≡ fullIn ls n last k
+  unfolding fullIn
+  full-place h m = rw (lt-leb 65535 last h, le-leb 128 n m) (or-false (not (any (ofKey k) ls)))
+
+module _ (s : Session) (k : Key) where
+  abbrev left : List Lodgement
+  left = take (s .standing) (s .lodgements)
+
+  -- a place is free
+  room-free : Within s → s .standing < 128 → s .last < 65535 → Room s k
+  room-free w f l = record { within = w; place = omega (arith, length-keep (ofOther k) left, length-take (s .standing) (s .lodgements)); number = l }
+
+  -- or the key's lodgement leaves one
+  room-key : Within s → any (ofKey k) left ≡ true → s .last < 65535 → Room s k
+  room-key w f l = record { within = w; place = omega (arith, length-drop-one (ofKey k) left f, length-take (s .standing) (s .lodgements)); number = l }
+
+  abbrev pub isFull : Bool
+  isFull = fullIn left (s .standing) (s .last) k
+
+  pub full-as : (b : Book) → s ≡ image b → D.full b (keyIn k) ≡ isFull
+  unfolding D.full fullIn
+  full-as b e = rw (stands-as s b e k, standing-as s b e, last-as s b e)
+
+  -- a place and a number are free
+  room : Within s → isFull ≡ false → Room s k
+  unfolding fullIn
+  room w h =
+      let parts = neither (leb 128 (s .standing) && not (any (ofKey k) left)) (leb 65535 (s .last)) h in
+      let number = leb-false 65535 (s .last) (parts .1) in
+      by-bool (leb 128 (s .standing)) (λ t. room-key w (not-false (any (ofKey k) left) (rw t at (parts .0))) number)
+      (λ t. room-free w (leb-false 128 (s .standing) t) number)
+
+-- The limits
+
+module _ (s : Session) (m : Fields) where
+  abbrev loadOf : List Bool → ℕ → ℕ
+  loadOf marks = loadIn (m .energies) marks (take (s .standing) (s .energies))
+
+  -- judged by what stands at the unit's place, with those marked
+  pub limits-judged : (p : ℕ) (u : Unit) (x : Notice) (k : Key) (marks : List Bool) {j : Judged}
+      → p ≡ placeOf (numberIs (m .unit)) (take (s .enrolled) (s .units)) → p < s .enrolled
+      → k ≡ keyFor m → marks ≡ besideMarks (take (s .standing) (s .lodgements)) k
+      → j ≡ judgedIn (getD (s .units) p u) (getD (s .notices) p x) (s .capacities) (m .default) (s .hours) (m .energies) (loadOf marks)
+      → JudgesLimits s (fieldsIn m) j
+  unfolding lastRows
+  limits-judged p u x k marks at in-list q r t b e =
+      let holder = U.unitOf (b .units) (m .unit) in
+      let own : marks ≡ besideMarks (take (s .standing) (s .lodgements)) (keyFor m) = r ∙ ap (besideMarks (take (s .standing) (s .lodgements))) q in
+      t
+      ∙ (judged-by holder (b .capacities) (s .hours) (m .energies) (loadOf marks) _ _ _ (m .default) (L.judgedAt (b .standing) (fieldsIn m))
+      (unit-as s b e (m .unit) p at in-list u) (notice-as s b e (m .unit) p at in-list x) (capacities-as s b e) (λ h low high. ap (λ ms. loadOf ms h) own ∙ load-as s b e m h)
+      ∙ ap (λ H. told (firstRow (L.limitRows H (m .energies) (L.judgedAt (b .standing) (fieldsIn m)) (L.judgedBy (b .capacities) holder (m .default))))) (sym (hours-as s b e)))
+
+-- Rows 4, 5, 6, 9 and the limits
+
+module _ (s : Session) (m : Fields) where
+  abbrev bad4 : Bool
+  bad4 = badMap (m .map) || L.namesBeyond (s .hours) (m .map)
+
+  pub fields-4 : bad4 ≡ true → JudgesFields s (fieldsIn m) (No 4 0)
+  unfolding fieldRows row firstRow
+  fields-4 h b e = rw (hours-as s b e, h)
+
+  pub fields-5 : bad4 ≡ false → badFields (fieldsIn m) ≡ true → JudgesFields s (fieldsIn m) (No 5 0)
+  unfolding fieldRows row firstRow
+  fields-5 h k b e = rw (hours-as s b e, h, k)
+
+  module _ (k : Key) (q : k ≡ keyFor m) (h : bad4 ≡ false) (f : badFields (fieldsIn m) ≡ false) (t : Bool) (u : (b : Book) → s ≡ image b → t ≡ D.badHolder b (keyIn k)) where
+    held : (b : Book) → s ≡ image b → D.badHolder b (keyIn (keyFor m)) ≡ t
+    held b e = ap (λ x. D.badHolder b (keyIn x)) (sym q) ∙ sym (u b e)
+
+    filled : (b : Book) → s ≡ image b → D.full b (keyIn (keyFor m)) ≡ isFull s k
+    filled b e = ap (λ x. D.full b (keyIn x)) (sym q) ∙ full-as s k b e
+
+    pub fields-6 : t ≡ true → JudgesFields s (fieldsIn m) (No 6 0)
+    unfolding fieldRows row firstRow L.keyOf
+    fields-6 x b e = rw (hours-as s b e, h, f, held b e, x)
+
+    pub fields-9 : t ≡ false → isFull s k ≡ true → JudgesFields s (fieldsIn m) (No 9 0)
+    unfolding fieldRows row firstRow L.keyOf
+    fields-9 x y b e = rw (hours-as s b e, h, f, held b e, x, filled b e, y)
+
+    pub fields-limits : t ≡ false → isFull s k ≡ false → (j : Judged) → JudgesLimits s (fieldsIn m) j → JudgesFields s (fieldsIn m) j
+    unfolding fieldRows row firstRow L.keyOf
+    fields-limits x y j l b e = rw (hours-as s b e, h, f, held b e, x, filled b e, y) (l b e)
+
+  pub room-for : (k : Key) → k ≡ keyFor m → Within s → isFull s k ≡ false → Room s (keyFor m)
+  room-for k q w h = room s (keyFor m) w (ap (isFull s) (sym q) ∙ h)
+
+  pub enrolled-for : (k : Key) → k ≡ keyFor m → Enrolled s (k .unit) → Enrolled s (m .unit)
+  enrolled-for k q h = rw (ap (λ (x : Key). x .unit) q) at h

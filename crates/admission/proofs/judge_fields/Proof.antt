@@ -1,0 +1,55 @@
+use mathlib.Core.Path.{sym, _∙_}
+use Rattle.session.proofs.StepLaws.{not-clear}
+use Rattle.admission.proofs.JudgeLaws.{fields-4, fields-5, fields-6, fields-9, fields-limits, room-for, enrolled-for}
+use borrow.Author.Needs.{needs}
+use Rattle.admission.proofs.judge_fields.Statement.{statement}
+use Rattle.admission.proofs.judge_fields.Tie as tie
+
+bad-hours-requires : tie.Need-bad-hours-requires
+bad-hours-requires c κs = search needs
+
+returns : tie.Need-returns
+returns c = (fields-4 _ _ (sym (c .before .bad-hours .ensures) ∙ c .if1 .taken), not-clear _ _)
+
+bad-fields-requires : tie.Need-bad-fields-requires
+bad-fields-requires c κs = search needs
+
+returns-2 : tie.Need-returns-2
+returns-2 c = (fields-5 _ _ (sym (c .before .before .before .bad-hours .ensures) ∙ c .before .before .if1 .left) (sym (c .before .bad-fields .ensures) ∙ c .if2 .taken), not-clear _ _)
+
+key-of-requires : tie.Need-key-of-requires
+key-of-requires c κs = search needs
+
+bad-holder-requires : tie.Need-bad-holder-requires
+bad-holder-requires c κs = search needs
+
+returns-3 : tie.Need-returns-3
+returns-3 c = (fields-6 _ _ _ (c .before .before .key-of .ensures) (sym (c .before .before .before .before .before .before .bad-hours .ensures) ∙ c .before .before .before .before .before .if1 .left) (sym (c .before .before .before .before .bad-fields .ensures) ∙ c .before .before .before .if2 .left) _ (c .before .bad-holder .ensures .0) (c .if3 .taken), not-clear _ _)
+
+is-full-requires : tie.Need-is-full-requires
+is-full-requires c κs = search needs
+
+returns-4 : tie.Need-returns-4
+returns-4 c = (fields-9 _ _ _ (c .before .before .before .before .before .key-of .ensures) (sym (c .before .before .before .before .before .before .before .before .before .bad-hours .ensures) ∙ c .before .before .before .before .before .before .before .before .if1 .left) (sym (c .before .before .before .before .before .before .before .bad-fields .ensures) ∙ c .before .before .before .before .before .before .if2 .left) _ (c .before .before .before .before .bad-holder .ensures .0) (c .before .before .before .if3 .left) (sym (c .before .is-full .ensures) ∙ c .if4 .taken), not-clear _ _)
+
+judge-limits-requires : tie.Need-judge-limits-requires
+judge-limits-requires c κs = (c .before .before .before .before .before .before .before .before .before .before .pre, enrolled-for _ (c .before .before .before .before .before .before .before .before .before .before .args .m) _ (c .before .before .before .before .before .key-of .ensures) (c .before .before .before .before .bad-holder .ensures .1 (c .before .before .before .if3 .left)))
+
+returns-5 : tie.Need-returns-5
+returns-5 c = (fields-limits _ _ _ (c .before .before .before .before .before .before .key-of .ensures) (sym (c .before .before .before .before .before .before .before .before .before .before .bad-hours .ensures) ∙ c .before .before .before .before .before .before .before .before .before .if1 .left) (sym (c .before .before .before .before .before .before .before .before .bad-fields .ensures) ∙ c .before .before .before .before .before .before .before .if2 .left) _ (c .before .before .before .before .before .bad-holder .ensures .0) (c .before .before .before .before .if3 .left) (sym (c .before .before .is-full .ensures) ∙ c .before .if4 .left) _ (c .judge-limits .ensures), λ q. room-for _ (c .before .before .before .before .before .before .before .before .before .before .before .args .m) _ (c .before .before .before .before .before .before .key-of .ensures) (c .before .before .before .before .before .before .before .before .before .before .before .pre) (sym (c .before .before .is-full .ensures) ∙ c .before .if4 .left))
+
+pub judge-fields-spec : {M : Type 1} → statement M
+judge-fields-spec =
+    tie.close
+    (tie.spec
+    bad-hours-requires
+    returns
+    bad-fields-requires
+    returns-2
+    key-of-requires
+    bad-holder-requires
+    returns-3
+    is-full-requires
+    returns-4
+    judge-limits-requires
+    returns-5)

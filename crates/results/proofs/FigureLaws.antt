@@ -1,0 +1,214 @@
+-- An hour's figures from arrays are those that the session keeps.
+use Prim.Native.Nat.{ℕ, zero, suc, _+_, _-_, _/_, _%_, _≤_, _<_}
+use mathlib.Core.Path.{_≡_, refl, sym, ap, _∙_}
+use mathlib.Core.Bool.{Bool, true, false, cond, _&&_, Bool·beq}
+use mathlib.Core.List.{List, [], _∷_, _++_, map, map-map}
+use mathlib.Core.Logic.{⊎-elim}
+use native.Mathlib.Omega.{arith}
+use native.Mathlib.Nat.{eq-or-lt-of-le}
+use lib.Dec.{eqb, ltb}
+use lib.ListN.{getD, length, take, replicate, length-map, length-append, length-replicate}
+use lib.Seq.{ext-getD, getD-append-add}
+use borrow.Author.Tests.{eqb-true, eqb-false, ltb-true, ltb-false, lt-ltb, le-ltb, eq-eqb, ne-eqb}
+use Rattle.rules.specs.Lists.{keep, sum, sumOf, from}
+use Rattle.rules.specs.Match.{Holder, Offer}
+use Rattle.rules.specs.Borders.{Execution, runs}
+use Rattle.rules.proofs.BoolLaws.{by-bool}
+use Rattle.arrays.proofs.PlaceLaws.{from-all, from-next, from-end, none-off, map-all}
+use Rattle.matching.specs.declared.Offers.{Offers}
+use Rattle.matching.specs.View.{offerAt, offersOf}
+use Rattle.borders.specs.declared.Executions.{Executions}
+use Rattle.borders.specs.View.{executionAt, executionsOf}
+use Rattle.borders.specs.Ways.{wayOf, directed, publishedIn}
+use Rattle.borders.proofs.WayLaws.{way-back, runs-way}
+use Rattle.hour.specs.declared.Hour.{Hour}
+use Rattle.hour.specs.declared.Figures.{Figures}
+use Rattle.hour.specs.View.{figuresIn, AtBorders}
+use Rattle.session.specs.declared.Unit.{Unit}
+use Rattle.session.specs.declared.Cleared.{Cleared}
+use Rattle.session.specs.Laid.{pad}
+use Rattle.session.specs.Image.{noUnit, byWay, energyOf}
+use Rattle.gathering.specs.Columns.{Column}
+use Rattle.results.specs.Shown.{addsTo, unitEnergy, energyAtPlace, shownAt, clearedAs}
+use Rattle.gathering.proofs.ColumnLaws.{blanks}
+use Rattle.gathering.proofs.ListLaws.{front-places, all-places, laid-at}
+
+-- Columns as lists
+
+pub length-from : (a n : ℕ) → length (from a n) ≡ n
+unfolding from
+length-from a zero = refl
+length-from a (suc n) = ap suc (length-from (suc a) n)
+
+from-at : (a n i : ℕ) → i < n → getD (from a n) i 0 ≡ a + i
+unfolding from
+from-at a zero i h = absurd (omega arith)
+from-at a (suc n) zero h = omega arith
+from-at a (suc n) (suc i) h = from-at (suc a) n i (omega arith) ∙ omega arith
+
+pad-behind : {A : Type 0} (d : A) (l : List A) (m i : ℕ) → length l ≤ i → getD (l ++ replicate m d) i d ≡ d
+pad-behind d l m i h =
+    let o : length l + (i - length l) ≡ i = omega arith in
+    rw (← o) (getD-append-add l (replicate m d) (i - length l) d ∙ blanks d m (i - length l))
+
+-- a column is a list laid into an array
+pub column-laid : {A : Type 0} (f : ℕ → A) (d : A) (n size : ℕ) (r : List A) → Column f d n size r → n ≤ size → r ≡ pad size d (map f (from 0 n))
+unfolding pad
+column-laid f d n size r c h =
+    ext-getD d r (pad size d (map f (from 0 n))) (c .long ∙ sym long)
+    (λ i l. by-bool (ltb i n) (λ t. let k = ltb-true i n t in c .at i k ∙ sym (laid-at 0 f size d d (from 0 n) i (omega (arith, length-from 0 n)) ∙ ap f (from-at 0 n i k ∙ omega arith)))
+    (λ t. let k = ltb-false i n t in c .behind i k ∙ sym (behind i k)))
+  where
+    many : length (map f (from 0 n)) ≡ n
+    many = length-map (from 0 n) f ∙ length-from 0 n
+
+    long : length (pad size d (map f (from 0 n))) ≡ size
+    long = omega (arith, length-append (map f (from 0 n)) (replicate (size - length (map f (from 0 n))) d), length-replicate (size - length (map f (from 0 n))) d, many)
+
+    behind : (i : ℕ) → n ≤ i → getD (pad size d (map f (from 0 n))) i d ≡ d
+    behind i k = pad-behind d (map f (from 0 n)) (size - length (map f (from 0 n))) i (omega (arith, many))
+
+-- By way
+
+pub by-way : (f : ℕ → Bool → ℕ) (a : List ℕ) → length a ≡ 10 → ((w : ℕ) → w < 10 → getD a w 0 ≡ f (w / 2) (eqb (w % 2) 0)) → a ≡ byWay f
+unfolding byWay
+by-way f a l g =
+    sym (all-places 0 a) ∙ (ap (λ n. map (λ w. getD a w 0) (from 0 n)) l ∙ map-all _ (λ w. f (w / 2) (eqb (w % 2) 0)) (from-all _ 0 10 (λ w h k. g w (omega arith))))
+
+-- flows by border and direction
+flows-by-way : (f : ℕ → Bool → ℕ) (a : List ℕ) → length a ≡ 10 → ((b : ℕ) (e : Bool) → b < 5 → getD a (wayOf b e) 0 ≡ f b e) → a ≡ byWay f
+flows-by-way f a l g = by-way f a l (λ w h. ap (λ v. getD a v 0) (sym (way-back w)) ∙ g (w / 2) (eqb (w % 2) 0) (omega arith))
+
+-- The energy of a direction among the published ones
+
+-- two ways are the same direction
+same-way : (a : List ℕ) (v w : ℕ) → (eqb (directed a v .border) (w / 2) && Bool·beq (directed a v .export) (eqb (w % 2) 0)) ≡ eqb v w
+unfolding directed runs
+same-way a v w =
+    let x : Holder = record { number = 0; unit = 0; border = v / 2; purchase = eqb (v % 2) 0; legacy = false } in
+    runs-way (w / 2) (eqb (w % 2) 0) x ∙ (ap (λ u. eqb u (wayOf (w / 2) (eqb (w % 2) 0))) (way-back v) ∙ ap (eqb v) (way-back w))
+
+module _ (a : List ℕ) (p : ℕ → Bool) (w : ℕ) where
+  abbrev among : List ℕ → ℕ
+  among vs = energyOf (map (directed a) (keep p vs)) (w / 2) (eqb (w % 2) 0)
+
+  among-next : (v : ℕ) (vs : List ℕ) → among (v ∷ vs) ≡ cond (p v) (cond (eqb v w) (getD a v 0) (among vs)) (among vs)
+  unfolding keep energyOf directed
+  among-next v vs = by-bool (p v) (λ t. rw t (ap (λ q. cond q (getD a v 0) (among vs)) (same-way a v w))) (λ t. rw t)
+
+  among-none : among [] ≡ 0
+  unfolding keep energyOf
+  among-none = refl
+
+  among-behind : (i n : ℕ) → w < i → among (from i n) ≡ 0
+  unfolding from
+  among-behind i zero h = among-none
+  among-behind i (suc n) h =
+      among-next i (from (suc i) n)
+      ∙ rw (ne-eqb i w (λ z. absurd (omega arith)), among-behind (suc i) n (omega arith)) (by-bool (p i) (λ t. rw t) (λ t. rw t))
+
+  among-own : (i n : ℕ) → i ≤ w → w < i + n → among (from i n) ≡ cond (p w) (getD a w 0) 0
+  unfolding from
+  among-own i zero h l = absurd (omega arith)
+  among-own i (suc n) h l =
+      among-next i (from (suc i) n)
+      ∙ by-bool (eqb i w)
+      (λ e. let q = eqb-true i w e in rw (e, among-behind (suc i) n (omega arith), q) (by-bool (p w) (λ t. rw t) (λ t. rw t)))
+      (λ e. let r = among-own (suc i) n (apart (eqb-false i w e)) (omega arith) in rw (e, r) (by-bool (p i) (λ t. rw t) (λ t. rw t)))
+    where
+      apart : (i ≡ w → ⊥) → suc i ≤ w
+      apart d = ⊎-elim (λ z. absurd (d z)) (λ z. z) (eq-or-lt-of-le h)
+
+pub shown-energy : (flags : List Bool) (a : List ℕ) (w : ℕ) → w < 10 → shownAt flags a w ≡ energyOf (publishedIn flags a) (w / 2) (eqb (w % 2) 0)
+unfolding shownAt publishedIn
+shown-energy flags a w h =
+    by-bool (ltb w 2) (λ t. rw t (sym (among-behind a (λ v. getD flags v false) w 2 8 (ltb-true w 2 t))))
+    (λ t. rw t (sym (among-own a (λ v. getD flags v false) w 2 8 (ltb-false w 2 t) (omega arith))))
+
+pub shown-done : (flags : List Bool) (a r : List ℕ) → Column (shownAt flags a) 0 10 10 r → r ≡ byWay (energyOf (publishedIn flags a))
+shown-done flags a r c = by-way (energyOf (publishedIn flags a)) r (c .long) (λ w h. c .at w h ∙ shown-energy flags a w h)
+
+-- one turn of the sum over holders
+unfoldable pub summed : List ℕ → List ℕ → ℕ → ℕ → ℕ → ℕ
+summed unit energy u i n = sumOf (addsTo unit energy u) (from i (n - i))
+
+module _ (unit energy : List ℕ) (u : ℕ) where
+  pub sum-start : (n : ℕ) → summed unit energy u 0 n ≡ unitEnergy unit energy n u
+  unfolding summed unitEnergy
+  sum-start n = rw (none-off n) refl
+
+  pub sum-next : (i n x : ℕ) → i < n → x ≡ cond (eqb (getD unit i 0) u) (getD energy i 0) 0 → x + summed unit energy u (i + 1) n ≡ summed unit energy u i n
+  unfolding summed sumOf sum addsTo
+  sum-next i n x h e = rw (from-next n i h, e)
+
+  pub sum-end : (i n : ℕ) → n ≤ i → summed unit energy u i n ≡ 0
+  unfolding summed sumOf sum
+  sum-end i n h = rw (from-end n i h)
+
+-- The energy of a unit
+
+-- a list by index: the energy of those that pass a test
+kept-sum : {A : Type 0} (energy : A → ℕ) (p : A → Bool) (at : ℕ → A) (is : List ℕ) → sumOf (λ i. cond (p (at i)) (energy (at i)) 0) is ≡ sumOf energy (keep p (map at is))
+unfolding sumOf sum keep
+kept-sum energy p at [] = refl
+kept-sum energy p at (i ∷ is) =
+    by-bool (p (at i)) (λ t. rw t (ap (λ n. energy (at i) + n) (kept-sum energy p at is))) (λ t. rw t (ap (λ n. 0 + n) (kept-sum energy p at is) ∙ omega arith))
+
+unit-offers : (o : Offers) (e m : List ℕ) (u : ℕ) → unitEnergy (o .unit) m (o .count) u ≡ sumOf (λ x. x .matched) (keep (λ x. eqb (x .holder .unit) u) (offersOf o e m))
+unfolding unitEnergy addsTo offersOf
+unit-offers o e m u = kept-sum (λ (x : Offer). x .matched) (λ x. eqb (x .holder .unit) u) (offerAt o e m) (from 0 (o .count))
+
+unit-executions : (x : Executions) (e : List ℕ) (u : ℕ) → unitEnergy (x .unit) e (x .count) u ≡ sumOf (λ y. y .energy) (keep (λ y. eqb (y .holder .unit) u) (executionsOf x e))
+unfolding unitEnergy addsTo executionsOf
+unit-executions x e u = kept-sum (λ (y : Execution). y .energy) (λ y. eqb (y .holder .unit) u) (executionAt x e) (from 0 (x .count))
+
+-- of each unit, in its place
+units-said : (us : List Unit) (unit energy : List ℕ) (n m : ℕ) (r : List ℕ) (g : Unit → ℕ) → Column (energyAtPlace us unit energy n) 0 m 64 r → m ≤ 64 → m ≤ length us
+    → ((u : Unit) → unitEnergy unit energy n (u .number) ≡ g u) → r ≡ pad 64 0 (map g (take m us))
+unfolding energyAtPlace
+units-said us unit energy n m r g c h l f =
+    column-laid _ 0 m 64 r c h
+    ∙ ap (pad 64 0) (map-all _ (λ p. g (getD us p noUnit)) (from-all _ 0 m (λ p a b. f (getD us p noUnit)))
+    ∙ (sym (map-map g (λ p. getD us p noUnit) (from 0 m)) ∙ ap (map g) (front-places noUnit us m l)))
+
+-- What the session keeps
+
+cleared-same : {p : ℕ} {m m′ b b′ x x′ d d′ e e′ : List ℕ} → m ≡ m′ → b ≡ b′ → x ≡ x′ → d ≡ d′ → e ≡ e′
+    → _≡_ {A = Cleared} (record { price = p; market = m; bilateral = b; maxima = x; matched = d; executed = e }) (record { price = p; market = m′; bilateral = b′; maxima = x′; matched = d′; executed = e′ })
+cleared-same a b c d e = rw (a, b, c, d, e)
+
+pub kept-said : (us : List Unit) (n : ℕ) (h : Hour) (f : Figures) (matched executed maxima : List ℕ)
+    → Column (energyAtPlace us (h .offers .unit) (f .matched) (h .offers .count)) 0 n 64 matched
+    → Column (energyAtPlace us (h .executions .unit) (f .executed) (h .executions .count)) 0 n 64 executed
+    → maxima ≡ byWay (energyOf (publishedIn (h .published) (f .maxima)))
+    → n ≤ 64 → length us ≡ 64 → length (f .market) ≡ 10 → length (f .bilateral) ≡ 10 → AtBorders h f
+    → record { price = f .price; market = f .market; bilateral = f .bilateral; maxima = maxima; matched = matched; executed = executed } ≡ clearedAs (figuresIn h f) (take n us)
+unfolding clearedAs figuresIn
+kept-said us n h f matched executed maxima a b c l k m x w =
+    cleared-same
+    (flows-by-way _ (f .market) m (w .market))
+    (flows-by-way _ (f .bilateral) x (w .bilateral))
+    c
+    (units-said us (h .offers .unit) (f .matched) (h .offers .count) n matched _ a l (omega arith) (λ u. unit-offers (h .offers) (f .offered) (f .matched) (u .number)))
+    (units-said us (h .executions .unit) (f .executed) (h .executions .count) n executed _ b l (omega arith) (λ u. unit-executions (h .executions) (f .executed) (u .number)))
+
+-- Ways out
+
+pub own-here : (u n e : ℕ) → u ≡ n → (e ≡ cond (eqb u n) e 0) × (e ≤ e)
+own-here u n e h = (rw (eq-eqb u n h), omega arith)
+
+pub own-none : (u n e : ℕ) → (u ≡ n → ⊥) → (0 ≡ cond (eqb u n) e 0) × (0 ≤ e)
+own-none u n e h = (rw (ne-eqb u n h), omega arith)
+
+module _ (flags : List Bool) (a : List ℕ) (w : ℕ) where
+  pub shown-home : w < 2 → 0 ≡ shownAt flags a w
+  unfolding shownAt
+  shown-home h = rw (lt-ltb w 2 h)
+
+  pub shown-given : 2 ≤ w → getD flags w false ≡ true → getD a w 0 ≡ shownAt flags a w
+  unfolding shownAt
+  shown-given h k = rw (le-ltb w 2 h, k)
+
+  pub shown-absent : 2 ≤ w → getD flags w false ≡ false → 0 ≡ shownAt flags a w
+  unfolding shownAt
+  shown-absent h k = rw (le-ltb w 2 h, k)
