@@ -212,6 +212,10 @@ fn play<E: Exchange>(day: &str) -> Vec<String> {
         if words.first().is_none_or(|word| word.starts_with('#')) {
             continue;
         }
+        if words == ["report"] {
+            answers.push(format!("{}: report", index + 1));
+            continue;
+        }
         let answer = match answer(&mut session, &words) {
             Some(answer) => {
                 calls += 1;
@@ -241,7 +245,8 @@ fn play_all<E: Exchange>() {
     let (mut lines, mut differences) = (0, Vec::new());
     for path in days {
         let stored = fs::read_to_string(path.with_extension("out")).unwrap();
-        let stored: Vec<&str> = stored.lines().collect();
+        // Of a report only its first line: its tables are the rehearsal's, not an answer.
+        let stored: Vec<&str> = stored.lines().filter(|line| !line.is_empty() && !line.starts_with("  ")).collect();
         let played = play::<E>(&fs::read_to_string(&path).unwrap());
         lines += played.len();
         let name = path.file_stem().unwrap().to_string_lossy().into_owned();

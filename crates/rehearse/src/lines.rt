@@ -1,12 +1,8 @@
 // A line run on a session.
 use crate::telling::Said;
 use crate::telling::Told;
-use asking::BILATERAL;
 use asking::BILATERAL_MAXIMUM;
-use asking::EXECUTED;
-use asking::MARKET;
 use asking::MARKET_MAXIMUM;
-use asking::MATCHED;
 use asking::PRICE;
 use asking::VERDICT;
 use asking::reply_to;
@@ -16,117 +12,29 @@ use queries::Reply;
 use session::Answer;
 use session::Session;
 use session::Turn;
+use wording::kinds::ANNUL;
+use wording::kinds::AVAILABLE;
+use wording::kinds::CAPACITY;
+use wording::kinds::CLEAR;
+use wording::kinds::EXECUTION;
+use wording::kinds::LODGE;
+use wording::kinds::NO_KIND;
+use wording::kinds::OFFER;
+use wording::kinds::OPEN;
+use wording::kinds::REGISTER;
+use wording::kinds::REPORT;
+use wording::kinds::kind_of;
 use wording::messages::message;
 use wording::records::Record;
 use wording::words::Scan;
-use wording::words::Word;
 use wording::words::after;
 use wording::words::ended;
 use wording::words::find;
 use wording::words::is_ended;
-use wording::words::is_word;
 use wording::words::next_word;
 use wording::words::number;
 use wording::words::number_in;
 use wording::words::one_of;
-
-// What a line's first word asks for. Register to clear are the kinds of the log's records; 11 to 18 are the queries (crates/asking).
-const NO_KIND: u8 = 0;
-
-const REGISTER: u8 = 1;
-
-const CAPACITY: u8 = 2;
-
-const AVAILABLE: u8 = 3;
-
-const LODGE: u8 = 4;
-
-const ANNUL: u8 = 5;
-
-const CLOSE: u8 = 6;
-
-const CLEAR: u8 = 7;
-
-const OPEN: u8 = 8;
-
-const OFFER: u8 = 9;
-
-const EXECUTION: u8 = 10;
-
-const REPORT: u8 = 19;
-
-fn call_kind(line: &[u8], w: Word) -> u8 {
-    if is_word(line, w, b"register") {
-        return REGISTER;
-    }
-    if is_word(line, w, b"capacity") {
-        return CAPACITY;
-    }
-    if is_word(line, w, b"available") {
-        return AVAILABLE;
-    }
-    if is_word(line, w, b"lodge") {
-        return LODGE;
-    }
-    if is_word(line, w, b"annul") {
-        return ANNUL;
-    }
-    if is_word(line, w, b"close") {
-        return CLOSE;
-    }
-    if is_word(line, w, b"clear") {
-        return CLEAR;
-    }
-    if is_word(line, w, b"open") {
-        return OPEN;
-    }
-    if is_word(line, w, b"offer") {
-        return OFFER;
-    }
-    if is_word(line, w, b"execution") {
-        return EXECUTION;
-    }
-    NO_KIND
-}
-
-fn query_kind(line: &[u8], w: Word) -> u8 {
-    if is_word(line, w, b"verdict") {
-        return VERDICT;
-    }
-    if is_word(line, w, b"matched") {
-        return MATCHED;
-    }
-    if is_word(line, w, b"executed") {
-        return EXECUTED;
-    }
-    if is_word(line, w, b"market") {
-        return MARKET;
-    }
-    if is_word(line, w, b"bilateral") {
-        return BILATERAL;
-    }
-    if is_word(line, w, b"price") {
-        return PRICE;
-    }
-    if is_word(line, w, b"market-maximum") {
-        return MARKET_MAXIMUM;
-    }
-    if is_word(line, w, b"bilateral-maximum") {
-        return BILATERAL_MAXIMUM;
-    }
-    if is_word(line, w, b"report") {
-        return REPORT;
-    }
-    NO_KIND
-}
-
-fn kind_of(line: &[u8], w: Word) -> u8 {
-    let kind = call_kind(line, w);
-    if kind != NO_KIND {
-        return kind;
-    }
-    query_kind(line, w)
-}
 
 fn unknown(s: Session) -> Told {
     Told {

@@ -1,5 +1,6 @@
 // The lines of a rehearsal read (docs/REHEARSAL.md): words and numbers, the records of calls, the fields of messages. Nothing of
 // a session.
+pub mod kinds;
 pub mod messages;
 pub mod records;
 pub mod words;
