@@ -3,3 +3,4 @@ pub mod AskedTwo
 pub mod AskedWay
 pub mod Applied
 pub mod AppliedTo
+pub mod LentLaws
