@@ -1,4 +1,5 @@
--- The queries by a number: 11 to 18.
+-- The queries by a number: 11 to 17, and any other number the last. The numbers are ours: those below 11 are a rehearsal's calls
+-- (crates/wording).
 use Prim.Native.Nat.{ℕ}
 use mathlib.Core.Bool.{Bool, cond}
 use lib.Dec.{eqb}

@@ -32,7 +32,7 @@ impl<'a> Reader<'a> {
         t.value
     }
 
-    // Whether the message has the next `width` bits.
+    // Whether the message has the next `width` bits; of 0 bits, whether all that were taken were there.
     pub fn has(self, width: usize) -> bool
         ensures { λ b. ⌜ b ≡ leb (self .entry .at + width) (length (bitsOf (now (self .entry .message)))) ⌝ }
     {
