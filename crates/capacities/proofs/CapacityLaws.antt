@@ -18,6 +18,7 @@ use Rattle.rules.proofs.RefusalLaws.{accepted-rows}
 use Rattle.rules.proofs.HoursLaws.{hours-most}
 use Rattle.session.specs.Laid.{counted}
 use Rattle.session.specs.Image.{image, verdictsIn, hoursIn, publishedIn, capacitiesIn, noticeAs, noNotice}
+use Rattle.session.specs.Changes.{withRegistry}
 use Rattle.session.specs.Steps.{said, isRefusal}
 use Rattle.session.specs.Parts.{Judges, Entered}
 use Rattle.notices.specs.Notices.{keptAs}
@@ -28,7 +29,7 @@ use Rattle.session.specs.declared.Published.{Published}
 use Rattle.session.specs.declared.Judged.the-variants.{No, Clear}
 use Rattle.session.specs.declared.Answer.the-variants.{Done}
 use Rattle.session.proofs.LaidLaws.{length-counted, any-map}
-use Rattle.session.proofs.ImageLaws.{closed-as, hours-as, withRegistry}
+use Rattle.session.proofs.ImageLaws.{closed-as, hours-as}
 use Rattle.session.proofs.StepLaws.{open-row}
 use Rattle.session.proofs.SoundLaws.{open-stage}
 use Rattle.notices.proofs.NoticeLaws.{kept-as}

@@ -11,12 +11,13 @@ use Rattle.rules.specs.DayBook as D
 use Rattle.message.specs.View.{fieldsIn}
 use Rattle.message.specs.declared.Fields.{Fields}
 use Rattle.session.specs.Image.{image, Sound, verdictsIn, hoursIn, keyIn, lodgementAs, energiesAs, noLodgement, noEnergies}
+use Rattle.session.specs.Changes.{withLodgements}
 use Rattle.session.specs.Steps.{said, isRefusal}
 use Rattle.session.specs.declared.Key.{Key}
 use Rattle.session.specs.declared.Session.{Session}
 use Rattle.session.specs.declared.Answer.the-variants.{Numbered}
 use Rattle.session.proofs.LaidLaws.{map-last, length-last, set-pad}
-use Rattle.session.proofs.ImageLaws.{withLodgements, last-as, standing-as}
+use Rattle.session.proofs.ImageLaws.{last-as, standing-as}
 use Rattle.session.proofs.SoundLaws.{open-stage}
 use Rattle.keys.specs.Keys.{keyFor}
 use Rattle.standing.specs.Kept.{struck, Dropped}

@@ -19,6 +19,7 @@ use Rattle.rules.proofs.RefusalLaws.{accepted-rows}
 use Rattle.rules.proofs.HoursLaws.{hours-most}
 use Rattle.session.specs.Laid.{pad, counted}
 use Rattle.session.specs.Image.{image, verdictsIn, hoursIn, unitOf, noticeOf, noticeAs, noNotice}
+use Rattle.session.specs.Changes.{withRegistry}
 use Rattle.session.specs.Steps.{said, isRefusal}
 use Rattle.session.specs.Parts.{numberIs, Judges, Entered}
 use Rattle.notices.specs.Notices.{keptAs, noted}
@@ -28,7 +29,7 @@ use Rattle.session.specs.declared.Notice.{Notice}
 use Rattle.session.specs.declared.Judged.the-variants.{No, Clear}
 use Rattle.session.specs.declared.Answer.the-variants.{Done}
 use Rattle.session.proofs.LaidLaws.{length-counted, any-counted, pad-counted}
-use Rattle.session.proofs.ImageLaws.{closed-as, hours-as, units-as, registered-as, withRegistry}
+use Rattle.session.proofs.ImageLaws.{closed-as, hours-as, units-as, registered-as}
 use Rattle.session.proofs.StepLaws.{open-row}
 use Rattle.session.proofs.SoundLaws.{open-stage}
 

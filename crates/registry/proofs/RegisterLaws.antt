@@ -13,6 +13,7 @@ use Rattle.rules.specs.Units as U
 use Rattle.rules.specs.Book as B
 use Rattle.rules.specs.DayBook as D
 use Rattle.session.specs.Image.{image, verdictsIn, hoursIn, unitIn, unitOf, noticeOf, noticeAs, noUnit, noNotice}
+use Rattle.session.specs.Changes.{withRegistry}
 use Rattle.session.specs.Steps.{said, isRefusal}
 use Rattle.session.specs.Parts.{numberIs, Judges, Entered}
 use Rattle.registry.specs.Registry.{besideUnit}
@@ -23,7 +24,7 @@ use Rattle.session.specs.declared.Answer.the-variants.{Done}
 use Rattle.session.proofs.LaidLaws.{any-map, map-last, length-last, set-pad, pad-empty}
 use Rattle.session.proofs.StepLaws.{open-row}
 use Rattle.session.proofs.SoundLaws.{open-stage}
-use Rattle.session.proofs.ImageLaws.{closed-as, enrolled-as, units-as, registered-as, withRegistry}
+use Rattle.session.proofs.ImageLaws.{closed-as, enrolled-as, units-as, registered-as}
 
 -- a search of the array for one of the same agent, border and side is a search of the list
 second-as : (s : Session) (b : B.Book) → s ≡ image b → (u : Unit) → D.isSecond b (unitIn u) ≡ any (besideUnit u) (take (s .enrolled) (s .units))

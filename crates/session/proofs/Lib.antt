@@ -2,5 +2,6 @@ pub mod LaidLaws
 pub mod PlaceLaws
 pub mod ImageLaws
 pub mod StepLaws
+pub mod ChangeLaws
 pub mod OpenLaws
 pub mod SoundLaws

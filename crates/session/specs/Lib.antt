@@ -1,4 +1,5 @@
 pub mod Laid
 pub mod Image
 pub mod Steps
+pub mod Changes
 pub mod Parts

@@ -11,13 +11,14 @@ use Rattle.rules.specs.Book as B
 use Rattle.rules.specs.DayBook as D
 use Rattle.rules.proofs.BoolLaws.{by-bool}
 use Rattle.rules.proofs.ListLaws.{keep-map, length-keep}
+use Rattle.session.specs.Changes.{withLodgements}
 use Rattle.session.specs.Laid.{pad}
 use Rattle.session.specs.Image.{image, verdictsIn, hoursIn, keyIn, lodgementAs, energiesAs, noLodgement, noEnergies}
 use Rattle.session.specs.declared.Key.{Key}
 use Rattle.session.specs.declared.Lodgement.{Lodgement}
 use Rattle.session.specs.declared.Energies.{Energies}
 use Rattle.session.specs.declared.Session.{Session}
-use Rattle.session.proofs.ImageLaws.{withLodgements, standing-as, lodgements-as, energies-as}
+use Rattle.session.proofs.ImageLaws.{standing-as, lodgements-as, energies-as}
 use Rattle.session.proofs.SoundLaws.{open-stage}
 use Rattle.keys.specs.Keys.{ofOther}
 use Rattle.standing.specs.Kept.{keepBeside, struck, Dropped}

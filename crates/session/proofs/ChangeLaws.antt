@@ -1,0 +1,77 @@
+-- What calls change: a change of nothing, and elements moved forward.
+use Prim.Native.Nat.{ℕ, zero, suc, _+_, _≤_, _<_}
+use mathlib.Core.Path.{_≡_, refl, ap, _∙_}
+use mathlib.Core.List.{List, [], _∷_}
+use native.Mathlib.Omega.{arith}
+use native.Mathlib.Numerals.{add-one}
+use lib.ListN.{length, getD, set}
+use lib.Seq.{set-getD}
+use Rattle.session.specs.Parts.{refusedWith}
+use Rattle.session.specs.Changes.{withLodgements, moved, movedIn, registryTurn, standingTurn}
+use Rattle.session.specs.declared.Unit.{Unit}
+use Rattle.session.specs.declared.Notice.{Notice}
+use Rattle.session.specs.declared.Lodgement.{Lodgement}
+use Rattle.session.specs.declared.Energies.{Energies}
+use Rattle.session.specs.declared.Session.{Session}
+use Rattle.session.specs.declared.Answer.the-variants.{Refused}
+
+-- Elements moved forward
+
+module _ {A : Type 0} where
+  pub moved-none : (i : ℕ) (l : List A) → moved i i l ≡ l
+  unfolding moved
+  moved-none zero l = refl
+  moved-none (suc i) [] = refl
+  moved-none (suc i) (x ∷ l) = ap (λ (t : List A). x ∷ t) (moved-none i l)
+
+  length-moved : (f i : ℕ) (l : List A) → length (moved f i l) ≡ length l
+  unfolding moved
+  length-moved zero zero l = refl
+  length-moved zero (suc i) [] = refl
+  length-moved zero (suc i) (x ∷ []) = refl
+  length-moved zero (suc i) (x ∷ y ∷ l) = ap suc (length-moved zero i (y ∷ l))
+  length-moved (suc f) zero l = refl
+  length-moved (suc f) (suc i) [] = refl
+  length-moved (suc f) (suc i) (x ∷ l) = ap suc (length-moved f i l)
+
+  one-more : (d : A) (f i : ℕ) (l : List A) → f ≤ i → suc i < length l → set (moved f i l) i (getD (moved f i l) (suc i) d) ≡ moved f (suc i) l
+  unfolding moved
+  one-more d f i [] h k = absurd (omega arith)
+  one-more d f i (x ∷ []) h k = absurd (omega arith)
+  one-more d zero zero (x ∷ y ∷ l) h k = refl
+  one-more d zero (suc i) (x ∷ y ∷ l) h k = ap (λ (t : List A). y ∷ t) (one-more d zero i (y ∷ l) (omega arith) (omega arith))
+  one-more d (suc f) zero (x ∷ y ∷ l) h k = absurd (omega arith)
+  one-more d (suc f) (suc i) (x ∷ y ∷ l) h k = ap (λ (t : List A). x ∷ t) (one-more d f i (y ∷ l) (omega arith) (omega arith))
+
+  pub moved-more : (d : A) (f i : ℕ) (l a : List A) → f ≤ i → i + 1 < length l → a ≡ moved f i l → set a i (getD a (i + 1) d) ≡ moved f (i + 1) l
+  moved-more d f i l a h k e = rw (e, add-one) (one-more d f i l h (omega arith))
+
+  pub moved-long : (f i : ℕ) (l a : List A) → a ≡ moved f i l → length a ≡ length l
+  moved-long f i l a e = ap length e ∙ length-moved f i l
+
+-- A session with some moved, by its two arrays
+
+pub session-none : (s : Session) (i : ℕ) → s ≡ movedIn s i i
+session-none s i = rw (moved-none i (s .lodgements), moved-none i (s .energies))
+
+module _ (s t : Session) (f i : ℕ) (e : t ≡ movedIn s f i) (h : f ≤ i) (k : i + 1 < 128) (m : length (t .lodgements) ≡ 128) (n : length (t .energies) ≡ 128) where
+  pub session-more : (d : Lodgement) (x : Energies)
+      → withLodgements t (t .standing) (set (t .lodgements) i (getD (t .lodgements) (i + 1) d)) (set (t .energies) i (getD (t .energies) (i + 1) x)) (t .last) ≡ movedIn s f (i + 1)
+  session-more d x =
+      let p : t .lodgements ≡ moved f i (s .lodgements) = rw e refl in
+      let q : t .energies ≡ moved f i (s .energies) = rw e refl in
+      let a = moved-more d f i (s .lodgements) (t .lodgements) h (omega (arith, moved-long f i (s .lodgements) (t .lodgements) p)) p in
+      let b = moved-more x f i (s .energies) (t .energies) h (omega (arith, moved-long f i (s .energies) (t .energies) q)) q in
+      rw (a, b, e)
+
+-- A change of nothing
+
+module _ (s : Session) (n h : ℕ) where
+  pub registry-kept : (d : Unit) (x : Notice)
+      → registryTurn s (record { change = record { enrolled = s .enrolled; at = 0; unit = getD (s .units) 0 d; notice = getD (s .notices) 0 x; capacities = s .capacities }; answer = Refused n h }) ≡ refusedWith s n h
+  registry-kept d x = rw (set-getD (s .units) 0 d, set-getD (s .notices) 0 x)
+
+  pub standing-kept : (d : Lodgement) (x : Energies)
+      → standingTurn s (record { change = record { from = 0; to = 0; at = 0; lodgement = getD (s .lodgements) 0 d; energies = getD (s .energies) 0 x; standing = s .standing; last = s .last }; answer = Refused n h }) ≡ refusedWith s n h
+  standing-kept d x =
+      rw (moved-none 0 (s .lodgements), moved-none 0 (s .energies), set-getD (s .lodgements) 0 d, set-getD (s .energies) 0 x)

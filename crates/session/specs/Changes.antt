@@ -1,0 +1,135 @@
+-- What calls change of a session.
+use Prim.Native.Nat.{ℕ, zero, suc, _≤_, _<_}
+use mathlib.Core.List.{List, [], _∷_}
+use lib.ListN.{set}
+use Rattle.session.specs.declared.Notice.{Notice}
+use Rattle.session.specs.declared.Unit.{Unit}
+use Rattle.session.specs.declared.Lodgement.{Lodgement}
+use Rattle.session.specs.declared.Energies.{Energies}
+use Rattle.session.specs.declared.Session.{Session}
+use Rattle.session.specs.declared.Turn.{Turn}
+use Rattle.session.specs.declared.RegistryChange.{RegistryChange}
+use Rattle.session.specs.declared.RegistryTurn.{RegistryTurn}
+use Rattle.session.specs.declared.StandingChange.{StandingChange}
+use Rattle.session.specs.declared.StandingTurn.{StandingTurn}
+use Rattle.session.specs.declared.ClosingTurn.{ClosingTurn}
+use Rattle.session.specs.declared.ClearingTurn.{ClearingTurn}
+
+-- Sessions with other parts
+
+abbrev pub withLodgements : Session → ℕ → List Lodgement → List Energies → ℕ → Session
+withLodgements s n ls es last = record {
+  date = s .date;
+  hours = s .hours;
+  enrolled = s .enrolled;
+  units = s .units;
+  notices = s .notices;
+  capacities = s .capacities;
+  standing = n;
+  lodgements = ls;
+  energies = es;
+  last = last;
+  closed = s .closed;
+  cleared = s .cleared;
+  verdicts = s .verdicts;
+  figures = s .figures;
+}
+
+abbrev pub withRegistry : Session → ℕ → List Unit → List Notice → List Notice → Session
+withRegistry s n us ns cs = record {
+  date = s .date;
+  hours = s .hours;
+  enrolled = n;
+  units = us;
+  notices = ns;
+  capacities = cs;
+  standing = s .standing;
+  lodgements = s .lodgements;
+  energies = s .energies;
+  last = s .last;
+  closed = s .closed;
+  cleared = s .cleared;
+  verdicts = s .verdicts;
+  figures = s .figures;
+}
+
+-- Units and notices
+
+abbrev pub registryWith : Session → RegistryChange → Session
+registryWith s c = withRegistry s (c .enrolled) (set (s .units) (c .at) (c .unit)) (set (s .notices) (c .at) (c .notice)) (c .capacities)
+
+abbrev pub registryTurn : Session → RegistryTurn → Turn
+registryTurn s t = record { session = registryWith s (t .change); answer = t .answer }
+
+-- Standing lodgements
+
+-- the elements behind place `from`, up to place `to`, each one place forward
+unfoldable pub moved : {A : Type 0} → ℕ → ℕ → List A → List A
+moved zero zero l = l
+moved zero (suc to) [] = []
+moved zero (suc to) (x ∷ []) = x ∷ []
+moved zero (suc to) (x ∷ y ∷ l) = y ∷ moved zero to (y ∷ l)
+moved (suc from) zero l = l
+moved (suc from) (suc to) [] = []
+moved (suc from) (suc to) (x ∷ l) = x ∷ moved from to l
+
+abbrev pub movedIn : Session → ℕ → ℕ → Session
+movedIn s from to = withLodgements s (s .standing) (moved from to (s .lodgements)) (moved from to (s .energies)) (s .last)
+
+abbrev pub standingWith : Session → StandingChange → Session
+standingWith s c =
+    withLodgements s (c .standing) (set (moved (c .from) (c .to) (s .lodgements)) (c .at) (c .lodgement))
+    (set (moved (c .from) (c .to) (s .energies)) (c .at) (c .energies)) (c .last)
+
+abbrev pub standingTurn : Session → StandingTurn → Turn
+standingTurn s t = record { session = standingWith s (t .change); answer = t .answer }
+
+-- its places are places of the array
+pub record Placed (c : StandingChange) : Type 0 where
+  pub forward : c .from ≤ c .to
+  pub to : c .to < 128
+  pub at : c .at < 128
+
+-- Verdicts and figures
+
+abbrev pub closingWith : Session → ClosingTurn → Session
+closingWith s t = record {
+  date = s .date;
+  hours = s .hours;
+  enrolled = s .enrolled;
+  units = s .units;
+  notices = s .notices;
+  capacities = s .capacities;
+  standing = s .standing;
+  lodgements = s .lodgements;
+  energies = s .energies;
+  last = s .last;
+  closed = t .closed;
+  cleared = s .cleared;
+  verdicts = t .verdicts;
+  figures = s .figures;
+}
+
+abbrev pub closingTurn : Session → ClosingTurn → Turn
+closingTurn s t = record { session = closingWith s t; answer = t .answer }
+
+abbrev pub clearingWith : Session → ClearingTurn → Session
+clearingWith s t = record {
+  date = s .date;
+  hours = s .hours;
+  enrolled = s .enrolled;
+  units = s .units;
+  notices = s .notices;
+  capacities = s .capacities;
+  standing = s .standing;
+  lodgements = s .lodgements;
+  energies = s .energies;
+  last = s .last;
+  closed = s .closed;
+  cleared = t .cleared;
+  verdicts = s .verdicts;
+  figures = t .figures;
+}
+
+abbrev pub clearingTurn : Session → ClearingTurn → Turn
+clearingTurn s t = record { session = clearingWith s t; answer = t .answer }
