@@ -22,6 +22,8 @@ use Rattle.queries.specs.declared.Reply.{Reply}
 use Rattle.queries.specs.declared.Reply.the-variants as R
 use Rattle.response.specs.declared.Response.{Response}
 use Rattle.response.specs.declared.Stepped.{Stepped}
+use Rattle.response.specs.declared.Closed.{Closed}
+use Rattle.response.specs.declared.DayCleared.{DayCleared}
 use Rattle.response.specs.declared.Availability.{Availability}
 use Rattle.response.specs.declared.Capacities.{Capacities}
 use Rattle.response.specs.declared.Opening.{Opening}
@@ -54,6 +56,43 @@ ofNamed (N.Given c) = record { row = 0; name = c .name; second = c .second }
 
 abbrev pub steppedAs : Turn → Stepped
 steppedAs t = record { session = t .session; response = ofAnswer (t .answer) }
+
+-- the session that what closing or clearing changes leaves
+abbrev pub closedBy : Session → Closed → Session
+closedBy s t = record {
+  date = s .date;
+  hours = s .hours;
+  enrolled = s .enrolled;
+  units = s .units;
+  notices = s .notices;
+  capacities = s .capacities;
+  standing = s .standing;
+  lodgements = s .lodgements;
+  energies = s .energies;
+  last = s .last;
+  closed = t .closed;
+  cleared = s .cleared;
+  verdicts = t .verdicts;
+  figures = s .figures;
+}
+
+abbrev pub clearedBy : Session → DayCleared → Session
+clearedBy s t = record {
+  date = s .date;
+  hours = s .hours;
+  enrolled = s .enrolled;
+  units = s .units;
+  notices = s .notices;
+  capacities = s .capacities;
+  standing = s .standing;
+  lodgements = s .lodgements;
+  energies = s .energies;
+  last = s .last;
+  closed = s .closed;
+  cleared = t .cleared;
+  verdicts = s .verdicts;
+  figures = t .figures;
+}
 
 -- the calls that the notices' structs stand for
 abbrev pub availableIn : Availability → D.Call

@@ -12,11 +12,15 @@ use calendar::Date;
 use calendar::Named;
 use queries::Reply;
 use session::Answer;
+use session::Cleared;
 use session::Key;
 use session::Published;
+use session::RegistryChange;
 use session::Session;
+use session::StandingChange;
 use session::Turn;
 use session::Unit;
+use session::Verdict;
 
 // An answer or a reply. Its kind says which of the other fields hold something; those that do not are 0.
 #[repr(C)]
@@ -64,6 +68,32 @@ pub struct ClockName {
 // What a call leaves and says.
 pub struct Stepped {
     pub session: Session,
+    pub response: Response,
+}
+
+// What a call changes of units and notices, and says.
+pub struct Registered {
+    pub change: RegistryChange,
+    pub response: Response,
+}
+
+// What a call changes of standing lodgements, and says.
+pub struct Lodged {
+    pub change: StandingChange,
+    pub response: Response,
+}
+
+// What closing changes, and says.
+pub struct Closed {
+    pub verdicts: [Verdict; 128],
+    pub closed: bool,
+    pub response: Response,
+}
+
+// What clearing changes, and says.
+pub struct DayCleared {
+    pub figures: [Cleared; 25],
+    pub cleared: bool,
     pub response: Response,
 }
 

@@ -1,0 +1,62 @@
+// "The session is lent to each call and changed in place": what a step changes, stored in the lent session.
+ghost use mathlib.Core.Path.{_≡_};
+ghost use Prim.Native.Nat.{_<_};
+ghost use Rattle.session.specs.Changes.{Placed, registryWith, standingWith};
+ghost use Rattle.response.specs.Told.{closedBy, clearedBy};
+use response::Closed;
+use response::DayCleared;
+use response::Lodged;
+use response::Registered;
+use response::Response;
+use session::Session;
+
+// Units and notices: one unit and its notice, the count, all capacities.
+pub fn settle_registry(s: &mut Session, t: Registered) -> Response
+    requires { ⌜ t .change .at < 64 ⌝ }
+    ensures { λ r. ⌜ (now (s .exit) ≡ registryWith (now (s .entry)) (t .change)) × (r ≡ t .response) ⌝ }
+{
+    let at = t.change.at;
+    s.units[at] = t.change.unit;
+    s.notices[at] = t.change.notice;
+    s.enrolled = t.change.enrolled;
+    s.capacities = t.change.capacities;
+    t.response
+}
+
+// Standing lodgements: some go one place forward, one is put at a place.
+pub fn settle_standing(s: &mut Session, t: Lodged) -> Response
+    requires { ⌜ Placed (t .change) ⌝ }
+    ensures { λ r. ⌜ (now (s .exit) ≡ standingWith (now (s .entry)) (t .change)) × (r ≡ t .response) ⌝ }
+{
+    let mut i = t.change.from;
+    while i < t.change.to {
+        let j = i + 1;
+        s.lodgements[i] = s.lodgements[j];
+        s.energies[i] = s.energies[j];
+        i = j;
+    }
+    let at = t.change.at;
+    s.lodgements[at] = t.change.lodgement;
+    s.energies[at] = t.change.energies;
+    s.standing = t.change.standing;
+    s.last = t.change.last;
+    t.response
+}
+
+// Verdicts.
+pub fn settle_closing(s: &mut Session, t: Closed) -> Response
+    ensures { λ r. ⌜ (now (s .exit) ≡ closedBy (now (s .entry)) t) × (r ≡ t .response) ⌝ }
+{
+    s.verdicts = t.verdicts;
+    s.closed = t.closed;
+    t.response
+}
+
+// Figures.
+pub fn settle_clearing(s: &mut Session, t: DayCleared) -> Response
+    ensures { λ r. ⌜ (now (s .exit) ≡ clearedBy (now (s .entry)) t) × (r ≡ t .response) ⌝ }
+{
+    s.figures = t.figures;
+    s.cleared = t.cleared;
+    t.response
+}
