@@ -1,2 +1,4 @@
 pub mod Elements
+pub mod ArrayLaws
 pub mod Cell
+pub mod SessionCell
