@@ -43,12 +43,20 @@ module _ {M : Type 1} {𝓤 : URA M} {H : Heap 𝓤} {A : Atoms 𝓤} {K : Type 
   field-stored t {ν} {τs} {b} {o} {vs} {τ} {d} {v} k e q wt =
       subst (λ (w : Val). Writes K W (‵ (fat fullShare (tyStruct ν τs) b o (vstruct vs)) ∷ Γ) τ b (o + d) v (‵ (fat fullShare (tyStruct ν τs) b o w) ∷ Γ)) q (store-in t 0 (sub t k e (whole t)) wt)
 
-  -- a field of a struct in entry n is read
+  -- a part of entry n is read
+  part-read : K → {i : Item 𝓤} {q : Share} {b o : ℕ} {τ : Ty} {v w : Val} {back : Val → Item 𝓤} (n : ℕ) → nth 𝓤 H A n Γ ≡ i → Part K W i q τ b o v back → v ≡ w → Reads K W Γ τ b o w
+  part-read t {i} {q} {b} {o} {τ} {v} {w} {back} n at p e =
+      subst (λ (u : Val). Reads K W Γ τ b o u) e (look-in t n (subst (λ (j : Item 𝓤). Part K W j q τ b o v back) (sym at) p))
+
+  -- a field of a struct there, and a field of a struct that is its field
   pub field-read : K → {q : Share} {ν : Sym} {τs : Tys} {b o : ℕ} {vs : Vals} {τ : Ty} {d : ℕ} {v : Val} (n k : ℕ) → nth 𝓤 H A n Γ ≡ ‵ (fat q (tyStruct ν τs) b o (vstruct vs)) → fieldAt zero τs k ≡ some (τ, d) → getV vs k ≡ v
       → Reads K W Γ τ b (o + d) v
-  field-read t {q} {ν} {τs} {b} {o} {vs} {τ} {d} {v} n k at e g =
-      look-in t n (subst (λ (i : Item 𝓤). Part K W i q τ b (o + d) v (λ u. ‵ (fat q (tyStruct ν τs) b o (vstruct (setV vs k u))))) (sym at)
-      (subst (λ (v : Val). Part K W (‵ (fat q (tyStruct ν τs) b o (vstruct vs))) q τ b (o + d) v (λ u. ‵ (fat q (tyStruct ν τs) b o (vstruct (setV vs k u))))) g (sub t k e (whole t))))
+  field-read t n k at e g = part-read t n at (sub t k e (whole t)) g
+
+  pub nested-read : K → {q : Share} {ν μ : Sym} {τs σs : Tys} {b o : ℕ} {vs us : Vals} {τ : Ty} {d c : ℕ} {v : Val} (n k j : ℕ) → nth 𝓤 H A n Γ ≡ ‵ (fat q (tyStruct ν τs) b o (vstruct vs))
+      → fieldAt zero τs k ≡ some (tyStruct μ σs, d) → getV vs k ≡ vstruct us → fieldAt zero σs j ≡ some (τ, c) → getV us j ≡ v → Reads K W Γ τ b (o + d + c) v
+  nested-read t {q} {ν} {μ} {τs} {σs} {b} {o} {vs} {us} {τ} {d} {c} n k j at e g f i =
+      part-read t n at (sub t j f (subst (λ (v : Val). Part K W (‵ (fat q (tyStruct ν τs) b o (vstruct vs))) q (tyStruct μ σs) b (o + d) v (λ u. ‵ (fat q (tyStruct ν τs) b o (vstruct (setV vs k u))))) g (sub t k e (whole t)))) i
 
   -- one in the first entry is stored, and the struct is then w
   pub element-stored : K → {ν : Sym} {τs : Tys} {b o : ℕ} {vs : Vals} {τ : Ty} {n d : ℕ} {v w : Val} {us′ : List Val} (us : List Val) (k i : ℕ)
