@@ -1,24 +1,26 @@
 -- Annulling: each way out.
+use Prim.Native.Nat.{ℕ, _≤_, _<_}
 use mathlib.Core.Path.{_≡_, refl, sym, _∙_}
 use mathlib.Core.Bool.{Bool, true, false}
-use lib.ListN.{take}
-use Rattle.rules.specs.Lists.{any}
+use native.Mathlib.Omega.{arith}
+use borrow.Author.Tests.{lt-ltb, le-ltb}
 use Rattle.rules.specs.Refusals.{row, firstRow}
 use Rattle.rules.specs.Lodging as L
 use Rattle.rules.specs.Book as B
 use Rattle.rules.specs.DayBook as D
 use Rattle.session.specs.Image.{image, keyIn}
+use Rattle.session.specs.Changes.{Placed, standingTurn}
 use Rattle.session.specs.Steps.{said, isRefusal}
 use Rattle.session.specs.Parts.{Judges, Entered}
 use Rattle.session.specs.declared.Key.{Key}
 use Rattle.session.specs.declared.Session.{Session}
 use Rattle.session.specs.declared.Judged.the-variants.{No, Clear}
-use Rattle.session.specs.declared.Answer.the-variants.{Done}
 use Rattle.session.proofs.ImageLaws.{closed-as}
 use Rattle.session.proofs.StepLaws.{open-row}
-use Rattle.keys.specs.Keys.{ofKey}
-use Rattle.keys.proofs.KeyLaws.{stands-as}
-use Rattle.standing.specs.Kept.{Dropped}
+use Rattle.keys.specs.Keys.{keyPlace, leftOf}
+use Rattle.keys.proofs.KeyLaws.{stands-at}
+use Rattle.keys.proofs.TakenLaws.{left-in, taken-image}
+use Rattle.annulling.specs.Annulling.{struckAt}
 
 module _ (s : Session) (k : Key) where
   abbrev call : D.Call
@@ -30,9 +32,6 @@ module _ (s : Session) (k : Key) where
   -- r says whether the key's unit is refused
   abbrev Held : Bool → Type 0
   Held r = (b : B.Book) → s ≡ image b → r ≡ D.badHolder b (keyIn k)
-
-  abbrev here : Bool
-  here = any (ofKey k) (take (s .standing) (s .lodgements))
 
   pub annul-2 : s .closed ≡ true → Judges s call (No 2 0)
   unfolding D.rowsOf D.changeRow row firstRow
@@ -46,18 +45,24 @@ module _ (s : Session) (k : Key) where
   unfolding D.rowsOf D.changeRow row firstRow
   annul-6 r h t o u b e = rw (t, sym (o b e) ∙ u, closed-as s b e, h)
 
-  pub annul-13 : (r : Bool) → s .closed ≡ false → bad ≡ false → Held r → r ≡ false → here ≡ false → Judges s call (No 13 0)
-  unfolding D.rowsOf D.changeRow row firstRow
-  annul-13 r h t o u w b e = rw (t, sym (o b e) ∙ u, stands-as s b e k, w, closed-as s b e, h)
+  -- p is the place of the key's lodgement
+  module _ (p : ℕ) (at : p ≡ keyPlace s k) where
+    pub annul-13 : (r : Bool) → s .closed ≡ false → bad ≡ false → Held r → r ≡ false → s .standing ≤ p → Judges s call (No 13 0)
+    unfolding D.rowsOf D.changeRow row firstRow
+    annul-13 r h t o u w b e = rw (t, sym (o b e) ∙ u, stands-at s b e k p at, le-ltb p (s .standing) w, closed-as s b e, h)
 
-  pub annul-0 : (r : Bool) → s .closed ≡ false → bad ≡ false → Held r → r ≡ false → here ≡ true → Judges s call Clear
-  unfolding D.rowsOf D.changeRow row firstRow
-  annul-0 r h t o u w b e = rw (t, sym (o b e) ∙ u, stands-as s b e k, w, closed-as s b e, h)
+    pub annul-0 : (r : Bool) → s .closed ≡ false → bad ≡ false → Held r → r ≡ false → p < s .standing → Judges s call Clear
+    unfolding D.rowsOf D.changeRow row firstRow
+    annul-0 r h t o u w b e = rw (t, sym (o b e) ∙ u, stands-at s b e k p at, lt-ltb p (s .standing) w, closed-as s b e, h)
 
-  -- "annulling drops the key's lodgement"
-  pub annulled : (t : Session) → Dropped s k t → Entered s call (record { session = t; answer = Done })
-  unfolding said isRefusal D.reply D.rowsOf D.applied
-  annulled t d = record {
-    book = λ b sound o e. record { answer = refl; session = d .book b sound (open-row b _ o) e };
-    fine = refl;
-  }
+    -- "annulling drops the key's lodgement"
+    pub annulled : leftOf (s .standing) p < 128 → Entered s call (standingTurn s (struckAt s p))
+    unfolding said isRefusal D.reply D.rowsOf D.applied
+    annulled free = record {
+      book = λ b sound o e. record { answer = refl; session = taken-image s k p (leftOf (s .standing) p) at refl free b sound (open-row b _ o) e };
+      fine = refl;
+    }
+
+-- its places are places of the array
+pub struck-placed : (s : Session) (p : ℕ) → s .standing ≤ 128 → p < s .standing → Placed (struckAt s p .change)
+struck-placed s p w h = let l = left-in (s .standing) p h in record { forward = omega arith; to = omega arith; at = omega arith }

@@ -1,10 +1,12 @@
 // Capacity notices: the borders' 4 times 2 directions, each absent or its energies.
 ghost use mathlib.Core.Path.{_≡_};
 ghost use mathlib.Core.List.{map};
+ghost use Prim.Native.Nat.{_<_};
 ghost use Rattle.rules.specs.Lists.{any};
 ghost use Rattle.rules.specs.Units.{notOfHours, badPublished};
 ghost use Rattle.rules.specs.DayBook.{capacity};
 ghost use Rattle.session.specs.Image.{publishedIn, capacitiesIn};
+ghost use Rattle.session.specs.Changes.{registryTurn};
 ghost use Rattle.session.specs.Steps.{Met};
 ghost use Rattle.session.specs.Parts.{Judges, Entered};
 ghost use Rattle.capacities.specs.Capacities.{directionAs, offHours, offRange};
@@ -17,8 +19,12 @@ use session::Judged;
 use session::Notice;
 use session::Published;
 use session::RANGE;
+use session::RegistryChange;
+use session::RegistryTurn;
 use session::Session;
 use session::Turn;
+use session::changes::registry_refused;
+use session::changes::with_registry;
 use session::no_notice;
 
 // Row 4, of a direction: "a notice not of H hours". What is absent has no hours.
@@ -109,16 +115,37 @@ fn judge_capacity(s: Session, directions: [Published; 8]) -> Judged
     Judged::Clear
 }
 
-// "It replaces the notice before it."
-fn note_capacity(s: Session, directions: [Published; 8]) -> Turn
-    ensures { λ r. ⌜ Entered s (capacity (capacitiesIn directions)) r ⌝ }
+// "It replaces the notice before it." Units and their notices stay.
+fn note_capacity(s: Session, directions: [Published; 8]) -> RegistryTurn
+    ensures { λ r. ⌜ Entered s (capacity (capacitiesIn directions)) (registryTurn s r) × (r .change .at < 64) ⌝ }
 {
     let kept = kept_directions(directions);
-    let mut next = s;
-    next.capacities = kept;
-    Turn {
-        session: next,
+    let unit = s.units[0];
+    let notice = s.notices[0];
+    let change = RegistryChange {
+        enrolled: s.enrolled,
+        at: 0,
+        unit: unit,
+        notice: notice,
+        capacities: kept,
+    };
+    RegistryTurn {
+        change: change,
         answer: Answer::Done,
+    }
+}
+
+// What a capacity notice changes.
+pub fn capacity_change(s: Session, directions: [Published; 8]) -> RegistryTurn
+    ensures { λ r. ⌜ Met s (capacity (capacitiesIn directions)) (registryTurn s r) × (r .change .at < 64) ⌝ }
+{
+    if !s.sound() {
+        return registry_refused(s, GATE, 0);
+    }
+    let j = judge_capacity(s, directions);
+    match j {
+        Judged::No(row, hour) => registry_refused(s, row, hour),
+        Judged::Clear => note_capacity(s, directions),
     }
 }
 
@@ -126,12 +153,6 @@ fn note_capacity(s: Session, directions: [Published; 8]) -> Turn
 pub fn capacity(s: Session, directions: [Published; 8]) -> Turn
     ensures { λ r. ⌜ Met s (capacity (capacitiesIn directions)) r ⌝ }
 {
-    if !s.sound() {
-        return s.refused(GATE, 0);
-    }
-    let j = judge_capacity(s, directions);
-    match j {
-        Judged::No(row, hour) => s.refused(row, hour),
-        Judged::Clear => note_capacity(s, directions),
-    }
+    let t = capacity_change(s, directions);
+    with_registry(s, t)
 }

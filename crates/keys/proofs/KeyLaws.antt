@@ -13,14 +13,14 @@ use Rattle.rules.specs.Lodging as L
 use Rattle.rules.specs.Book as B
 use Rattle.rules.specs.DayBook as D
 use Rattle.session.specs.Laid.{pad}
-use Rattle.session.specs.Image.{image, keyIn, unitOf, lodgementAs, noUnit}
+use Rattle.session.specs.Image.{image, keyIn, lodgementAs, noLodgement, noUnit}
 use Rattle.session.specs.Parts.{numberIs, placeOf}
 use Rattle.session.specs.declared.Key.{Key}
 use Rattle.session.specs.declared.Session.{Session}
 use Rattle.session.proofs.LaidLaws.{any-map}
 use Rattle.session.proofs.PlaceLaws.{place-any}
-use Rattle.session.proofs.ImageLaws.{lodgements-as, registered-as, unit-as}
-use Rattle.keys.specs.Keys.{ofKey, hiding, Enrolled}
+use Rattle.session.proofs.ImageLaws.{lodgements-as, registered-at, unit-as}
+use Rattle.keys.specs.Keys.{ofKey, keyPlace, hiding, Enrolled}
 
 module _ (s : Session) (b : B.Book) (e : s ≡ image b) where
   -- a lodgement of the key stands
@@ -28,33 +28,34 @@ module _ (s : Session) (b : B.Book) (e : s ≡ image b) where
   unfolding L.stands
   stands-as k = rw (lodgements-as s b e) (sym (any-map lodgementAs (ofKey k) (b .standing)))
 
+  lodgements-fit : s .standing ≤ length (s .lodgements)
+  unfolding image pad
+  lodgements-fit =
+      rw e (omega (arith, length-append (map lodgementAs (b .standing)) (replicate (128 - length (map lodgementAs (b .standing))) noLodgement), length-map (b .standing) lodgementAs))
+
+  -- by its place
+  pub stands-at : (k : Key) (p : ℕ) → p ≡ keyPlace s k → L.stands (b .standing) (keyIn k) ≡ ltb p (s .standing)
+  stands-at k p at =
+      stands-as k ∙ (sym (place-any (ofKey k) (s .lodgements) (s .standing) lodgements-fit) ∙ ap (λ j. ltb j (s .standing)) (sym at))
+
   -- a lodgement of the key is hidden
   pub hidden-as : (k : Key) (l : L.Lodgement) → l .key ≡ keyIn k → L.isHidden (b .standing) l ≡ any (hiding k) (take (s .standing) (s .lodgements))
   unfolding L.isHidden
   hidden-as k l q = rw (lodgements-as s b e, q) (sym (any-map lodgementAs (hiding k) (b .standing)))
 
-  units-fit : s .enrolled ≤ length (s .units)
-  unfolding image pad
-  units-fit = rw e (omega (arith, length-append (map unitOf (b .units)) (replicate (64 - length (map unitOf (b .units))) noUnit), length-map (b .units) unitOf))
-
   -- Row 6, by the place of the key's unit
   module _ (k : Key) (p : ℕ) (at : p ≡ placeOf (numberIs (k .unit)) (take (s .enrolled) (s .units))) where
-    registered-at : U.isRegistered (b .units) (k .unit) ≡ ltb p (s .enrolled)
-    registered-at =
-        registered-as s b e (k .unit)
-        ∙ (sym (place-any (numberIs (k .unit)) (s .units) (s .enrolled) units-fit) ∙ ap (λ j. ltb j (s .enrolled)) (sym at))
-
     pub no-holder : s .enrolled ≤ p → true ≡ D.badHolder b (keyIn k)
     unfolding D.badHolder D.unregistered
-    no-holder h = rw (registered-at, le-ltb p (s .enrolled) h)
+    no-holder h = rw (registered-at s b e (k .unit) p at, le-ltb p (s .enrolled) h)
 
     pub holds-offer : p < s .enrolled → k .execution ≡ false → false ≡ D.badHolder b (keyIn k)
     unfolding D.badHolder D.unregistered L.domesticExecution
-    holds-offer h x = rw (registered-at, lt-ltb p (s .enrolled) h, x)
+    holds-offer h x = rw (registered-at s b e (k .unit) p at, lt-ltb p (s .enrolled) h, x)
 
     pub holds-execution : p < s .enrolled → k .execution ≡ true → eqb (getD (s .units) p noUnit .border) 0 ≡ D.badHolder b (keyIn k)
     unfolding D.badHolder D.unregistered L.domesticExecution U.domestic
-    holds-execution h x = rw (registered-at, lt-ltb p (s .enrolled) h, x, unit-as s b e (k .unit) p at h noUnit)
+    holds-execution h x = rw (registered-at s b e (k .unit) p at, lt-ltb p (s .enrolled) h, x, unit-as s b e (k .unit) p at h noUnit)
 
 -- the unit of a key that passes row 6 is enrolled
 module _ (s : Session) (n p : ℕ) (at : p ≡ placeOf (numberIs n) (take (s .enrolled) (s .units))) where

@@ -1,6 +1,7 @@
 -- A message's key, and what is looked for among the session's lodgements and units by a key.
-use Prim.Native.Nat.{ℕ, _<_}
-use mathlib.Core.Bool.{Bool, not}
+use Prim.Native.Nat.{ℕ, _-_, _<_}
+use mathlib.Core.Bool.{Bool, cond, not}
+use lib.Dec.{ltb}
 use lib.ListN.{take}
 use Rattle.rules.specs.Lodging.{sameKey, hides}
 use Rattle.message.specs.declared.Fields.{Fields}
@@ -25,6 +26,14 @@ ofOther k l = not (ofKey k l)
 -- one that hides those of a key
 abbrev pub hiding : Key → Lodgement → Bool
 hiding k l = hides (keyIn (l .key)) (keyIn k)
+
+-- the place of the key's lodgement among those that stand, or behind the last
+abbrev pub keyPlace : Session → Key → ℕ
+keyPlace s k = placeOf (ofKey k) (take (s .standing) (s .lodgements))
+
+-- how many of n are left without the one at place p, if p is one of their places
+unfoldable pub leftOf : ℕ → ℕ → ℕ
+leftOf n p = cond (ltb p n) (n - 1) n
 
 -- the unit with a number stands at one of the places enrolled
 unfoldable pub Enrolled : Session → ℕ → Type 0

@@ -8,8 +8,8 @@ ghost use Rattle.rules.specs.Lodging.{sameButDefault, sameKey, hides, badKey};
 ghost use Rattle.rules.specs.Book.{Book};
 ghost use Rattle.rules.specs.DayBook.{badHolder};
 ghost use Rattle.session.specs.Image.{image, keyIn};
-ghost use Rattle.session.specs.Parts.{Within};
-ghost use Rattle.keys.specs.Keys.{keyFor, ofKey, hiding, Enrolled};
+ghost use Rattle.session.specs.Parts.{Within, placeOf};
+ghost use Rattle.keys.specs.Keys.{keyFor, ofKey, leftOf, hiding, Enrolled};
 use message::Fields;
 use message::judge::bad_contract;
 use session::Key;
@@ -66,19 +66,37 @@ pub fn hides(a: Key, b: Key) -> bool
     false
 }
 
-// Whether one of the first n lodgements is of this key.
-pub fn is_standing(lodgements: [Lodgement; 128], n: usize, key: Key) -> bool
+// The place of the lodgement of this key among the first n, or n.
+pub fn key_place(lodgements: [Lodgement; 128], n: usize, key: Key) -> usize
     requires { ⌜ n ≤ 128 ⌝ }
-    ensures { λ r. ⌜ r ≡ any (ofKey key) (take n lodgements) ⌝ }
+    ensures { λ r. ⌜ (r ≡ placeOf (ofKey key) (take n lodgements)) × (r ≤ n) ⌝ }
 {
     for i in 0..n {
         let l = lodgements[i];
         let k = l.key;
         if same_key(k, key) {
-            return true;
+            return i;
         }
     }
-    false
+    n
+}
+
+// Whether one of the first n lodgements is of this key.
+pub fn is_standing(lodgements: [Lodgement; 128], n: usize, key: Key) -> bool
+    requires { ⌜ n ≤ 128 ⌝ }
+    ensures { λ r. ⌜ r ≡ any (ofKey key) (take n lodgements) ⌝ }
+{
+    key_place(lodgements, n, key) < n
+}
+
+// How many of n lodgements are left without the one at place p, if p is one of their places.
+pub fn left_of(n: usize, p: usize) -> usize
+    ensures { λ r. ⌜ r ≡ leftOf n p ⌝ }
+{
+    if p < n {
+        return n - 1;
+    }
+    n
 }
 
 // Whether one of the first n lodgements hides those of this key.

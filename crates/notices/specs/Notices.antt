@@ -1,19 +1,22 @@
 -- What the code makes of an unavailability notice.
 use Prim.Native.Nat.{ℕ}
-use mathlib.Core.Bool.{true, cond}
-use mathlib.Core.List.{List, [], _∷_}
-use lib.Dec.{eqb}
+use mathlib.Core.Bool.{true}
+use mathlib.Core.List.{List}
 use lib.ListN.{take}
 use Rattle.session.specs.Laid.{pad}
 use Rattle.session.specs.declared.Unit.{Unit}
 use Rattle.session.specs.declared.Notice.{Notice}
+use Rattle.session.specs.declared.Session.{Session}
+use Rattle.session.specs.declared.Answer.the-variants.{Done}
+use Rattle.session.specs.declared.RegistryTurn.{RegistryTurn}
 
 -- energies that are kept: those of the count, 0 behind
 unfoldable pub keptAs : ℕ → List ℕ → Notice
 keptAs count es = record { given = true; energies = pad 25 0 (take count es) }
 
--- the notices of units, x in the place of each unit with number n
-unfoldable pub noted : ℕ → Notice → List Unit → List Notice → List Notice
-noted n x [] ns = ns
-noted n x (u ∷ us) [] = []
-noted n x (u ∷ us) (m ∷ ns) = cond (eqb (u .number) n) x m ∷ noted n x us ns
+-- a notice at the place of unit u, all else as it was
+abbrev pub notedAt : Session → ℕ → Unit → ℕ → List ℕ → RegistryTurn
+notedAt s at u count es = record {
+  change = record { enrolled = s .enrolled; at = at; unit = u; notice = keptAs count es; capacities = s .capacities };
+  answer = Done;
+}

@@ -1,13 +1,14 @@
 // Unavailability notices: what a unit has available.
 ghost use mathlib.Core.Path.{_≡_};
-ghost use Prim.Native.Nat.{_≤_};
+ghost use Prim.Native.Nat.{_<_};
 ghost use lib.ListN.{take};
 ghost use Rattle.rules.specs.Units.{badEnergies};
 ghost use Rattle.rules.specs.DayBook.{available};
 ghost use Rattle.session.specs.Laid.{pad, counted};
+ghost use Rattle.session.specs.Changes.{registryTurn};
 ghost use Rattle.session.specs.Steps.{Met};
-ghost use Rattle.session.specs.Parts.{Within, Judges, Entered};
-ghost use Rattle.notices.specs.Notices.{keptAs, noted};
+ghost use Rattle.session.specs.Parts.{Judges, numberIs, placeOf};
+ghost use Rattle.notices.specs.Notices.{keptAs, notedAt};
 use session::Answer;
 use session::GATE;
 use session::HOUR;
@@ -15,11 +16,15 @@ use session::Judged;
 use session::NO_UNIT;
 use session::Notice;
 use session::RANGE;
+use session::RegistryChange;
+use session::RegistryTurn;
 use session::Session;
 use session::Turn;
 use session::Unit;
+use session::changes::registry_refused;
+use session::changes::with_registry;
 use session::units::bad_number;
-use session::units::is_registered;
+use session::units::place;
 
 // Row 5: one of `count` energies is above the limit.
 pub fn bad_energies(count: usize, energies: [u32; 25]) -> bool
@@ -61,31 +66,10 @@ pub fn kept_notice(count: usize, energies: [u32; 25]) -> Notice
     }
 }
 
-// The notices with x in the place of those of the units with this number.
-fn noted_notices(
-    units: [Unit; 64],
-    n: usize,
-    number: u32,
-    x: Notice,
-    notices: [Notice; 64],
-) -> [Notice; 64]
-    requires { ⌜ n ≤ 64 ⌝ }
-    ensures { λ r. ⌜ r ≡ noted number x (take n units) notices ⌝ }
-{
-    let mut next = notices;
-    for i in 0..n {
-        let u = units[i];
-        if u.number == number {
-            next[i] = x;
-        }
-    }
-    next
-}
-
-// The refusal that applies to a notice of `count` energies for a unit.
-fn judge_available(s: Session, number: u32, count: usize, energies: [u32; 25]) -> Judged
-    requires { ⌜ Within s ⌝ }
-    ensures { λ r. ⌜ Judges s (available number (counted count energies)) r ⌝ }
+// The refusal that applies to a notice of `count` energies for a unit, `at` the unit's place.
+fn judge_available(s: Session, at: usize, number: u32, count: usize, energies: [u32; 25]) -> Judged
+    requires { ⌜ at ≡ placeOf (numberIs number) (take (s .enrolled) (s .units)) ⌝ }
+    ensures { λ r. ⌜ Judges s (available number (counted count energies)) r × (r ≡ Judged.Clear → at < s .enrolled) ⌝ }
 {
     if s.closed {
         return Judged::No(GATE, 0);
@@ -99,28 +83,53 @@ fn judge_available(s: Session, number: u32, count: usize, energies: [u32; 25]) -
     if bad_energies(count, energies) {
         return Judged::No(RANGE, 0);
     }
-    let units = s.units;
-    let n = s.enrolled;
-    if is_registered(units, n, number) {
-        return Judged::Clear;
+    if s.enrolled <= at {
+        return Judged::No(NO_UNIT, 0);
     }
-    Judged::No(NO_UNIT, 0)
+    Judged::Clear
 }
 
-// "a notice replaces its earlier one"
-fn note_available(s: Session, number: u32, count: usize, energies: [u32; 25]) -> Turn
-    requires { ⌜ Within s ⌝ }
-    ensures { λ r. ⌜ Entered s (available number (counted count energies)) r ⌝ }
+// "a notice replaces its earlier one": the unit at the place stays.
+fn note_available(
+    s: Session,
+    at: usize,
+    unit: Unit,
+    count: usize,
+    energies: [u32; 25],
+) -> RegistryTurn
+    ensures { λ r. ⌜ r ≡ notedAt s at unit count energies ⌝ }
 {
-    let x = kept_notice(count, energies);
-    let units = s.units;
-    let notices = s.notices;
-    let changed = noted_notices(units, s.enrolled, number, x, notices);
-    let mut next = s;
-    next.notices = changed;
-    Turn {
-        session: next,
+    let notice = kept_notice(count, energies);
+    let capacities = s.capacities;
+    let change = RegistryChange {
+        enrolled: s.enrolled,
+        at: at,
+        unit: unit,
+        notice: notice,
+        capacities: capacities,
+    };
+    RegistryTurn {
+        change: change,
         answer: Answer::Done,
+    }
+}
+
+// What an unavailability notice changes: that of one place.
+pub fn available_change(s: Session, number: u32, count: usize, energies: [u32; 25]) -> RegistryTurn
+    ensures { λ r. ⌜ Met s (available number (counted count energies)) (registryTurn s r) × (r .change .at < 64) ⌝ }
+{
+    if !s.sound() {
+        return registry_refused(s, GATE, 0);
+    }
+    let units = s.units;
+    let at = place(units, s.enrolled, number);
+    let j = judge_available(s, at, number, count, energies);
+    match j {
+        Judged::No(row, hour) => registry_refused(s, row, hour),
+        Judged::Clear => {
+            let unit = units[at];
+            note_available(s, at, unit, count, energies)
+        }
     }
 }
 
@@ -128,12 +137,6 @@ fn note_available(s: Session, number: u32, count: usize, energies: [u32; 25]) ->
 pub fn available(s: Session, number: u32, count: usize, energies: [u32; 25]) -> Turn
     ensures { λ r. ⌜ Met s (available number (counted count energies)) r ⌝ }
 {
-    if !s.sound() {
-        return s.refused(GATE, 0);
-    }
-    let j = judge_available(s, number, count, energies);
-    match j {
-        Judged::No(row, hour) => s.refused(row, hour),
-        Judged::Clear => note_available(s, number, count, energies),
-    }
+    let t = available_change(s, number, count, energies);
+    with_registry(s, t)
 }

@@ -21,7 +21,7 @@ use Rattle.session.specs.declared.Session.{Session}
 use Rattle.session.specs.declared.Unit.{Unit}
 use Rattle.session.specs.declared.Judged.the-variants.{No, Clear}
 use Rattle.session.specs.declared.Answer.the-variants.{Done}
-use Rattle.session.proofs.LaidLaws.{any-map, map-last, length-last, set-pad, pad-empty}
+use Rattle.session.proofs.LaidLaws.{any-map, map-last, length-last, set-pad}
 use Rattle.session.proofs.StepLaws.{open-row}
 use Rattle.session.proofs.SoundLaws.{open-stage}
 use Rattle.session.proofs.ImageLaws.{closed-as, enrolled-as, units-as, registered-as}
@@ -71,7 +71,7 @@ module _ (s : Session) (u : Unit) where
       rw (k, registered-as s b e (u .number), t, second-as s b e u, g, enrolled-as s b e, lt-leb 64 (s .enrolled) f, closed-as s b e, h)
 
   abbrev pub withUnit : Session
-  withUnit = withRegistry s (s .enrolled + 1) (set (s .units) (s .enrolled) u) (s .notices) (s .capacities)
+  withUnit = withRegistry s (s .enrolled + 1) (set (s .units) (s .enrolled) u) (set (s .notices) (s .enrolled) noNotice) (s .capacities)
 
 -- one unit more in the book is one more in its image
 enrolled-image : (b : B.Book) (u : Unit) → length (b .units) < 64 → b .closed ≡ false → b .cleared ≡ false → withUnit (image b) u ≡ image (D.applied b (D.register (unitIn u)))
@@ -85,8 +85,8 @@ enrolled-image b u h k c =
       length-last us r,
       map-last unitOf us r,
       map-last noticeOf us r,
-      ← (pad-empty 64 noNotice (map noticeOf us) (omega arith)),
       set-pad 64 noUnit (map unitOf us) (length us) (unitOf r) (omega arith) (omega arith),
+      set-pad 64 noNotice (map noticeOf us) (length us) (noticeOf r) (omega arith) (omega arith),
       k,
       c,
     )

@@ -6,6 +6,7 @@ ghost use Rattle.rules.specs.Lists.{any};
 ghost use Rattle.rules.specs.Units.{badUnit, sameBorderSide};
 ghost use Rattle.rules.specs.DayBook.{register};
 ghost use Rattle.session.specs.Image.{unitIn};
+ghost use Rattle.session.specs.Changes.{registryTurn};
 ghost use Rattle.session.specs.Steps.{Met};
 ghost use Rattle.session.specs.Parts.{Within, Judges, Entered};
 ghost use Rattle.registry.specs.Registry.{besideUnit};
@@ -14,11 +15,16 @@ use session::FULL;
 use session::GATE;
 use session::Judged;
 use session::RANGE;
+use session::RegistryChange;
+use session::RegistryTurn;
 use session::SECOND;
 use session::Session;
 use session::TAKEN;
 use session::Turn;
 use session::Unit;
+use session::changes::registry_refused;
+use session::changes::with_registry;
+use session::no_notice;
 use session::units::bad_number;
 use session::units::is_registered;
 
@@ -100,18 +106,38 @@ fn judge_register(s: Session, u: Unit) -> Judged
     Judged::Clear
 }
 
-// "registering adds the unit"
-fn enrol(s: Session, u: Unit) -> Turn
+// "registering adds the unit", behind the others.
+fn enrol(s: Session, u: Unit) -> RegistryTurn
     requires { ⌜ s .enrolled < 64 ⌝ }
-    ensures { λ r. ⌜ Entered s (register (unitIn u)) r ⌝ }
+    ensures { λ r. ⌜ Entered s (register (unitIn u)) (registryTurn s r) × (r .change .at < 64) ⌝ }
 {
-    let mut next = s;
-    let at = next.enrolled;
-    next.units[at] = u;
-    next.enrolled = at + 1;
-    Turn {
-        session: next,
+    let at = s.enrolled;
+    let notice = no_notice();
+    let capacities = s.capacities;
+    let change = RegistryChange {
+        enrolled: at + 1,
+        at: at,
+        unit: u,
+        notice: notice,
+        capacities: capacities,
+    };
+    RegistryTurn {
+        change: change,
         answer: Answer::Done,
+    }
+}
+
+// What registering a unit changes.
+pub fn register_change(s: Session, u: Unit) -> RegistryTurn
+    ensures { λ r. ⌜ Met s (register (unitIn u)) (registryTurn s r) × (r .change .at < 64) ⌝ }
+{
+    if !s.sound() {
+        return registry_refused(s, GATE, 0);
+    }
+    let j = judge_register(s, u);
+    match j {
+        Judged::No(number, hour) => registry_refused(s, number, hour),
+        Judged::Clear => enrol(s, u),
     }
 }
 
@@ -119,12 +145,6 @@ fn enrol(s: Session, u: Unit) -> Turn
 pub fn register(s: Session, u: Unit) -> Turn
     ensures { λ r. ⌜ Met s (register (unitIn u)) r ⌝ }
 {
-    if !s.sound() {
-        return s.refused(GATE, 0);
-    }
-    let j = judge_register(s, u);
-    match j {
-        Judged::No(number, hour) => s.refused(number, hour),
-        Judged::Clear => enrol(s, u),
-    }
+    let t = register_change(s, u);
+    with_registry(s, t)
 }

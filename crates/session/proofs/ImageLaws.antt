@@ -1,11 +1,11 @@
 -- What the image of a book shows of it, and the guard.
-use Prim.Native.Nat.{ℕ, _<_}
+use Prim.Native.Nat.{ℕ, _-_, _≤_, _<_}
 use mathlib.Core.Path.{_≡_, refl, sym, ap, _∙_}
 use native.Mathlib.Omega.{arith}
 use mathlib.Core.Bool.{true}
 use mathlib.Core.List.{List, map}
-use lib.Dec.{leb}
-use lib.ListN.{length, take, getD, length-map}
+use lib.Dec.{leb, ltb}
+use lib.ListN.{length, take, getD, replicate, length-map, length-append}
 use lib.Seq.{getD-take}
 use borrow.Author.Tests.{le-leb, leb-true}
 use Rattle.rules.specs.Lists.{any}
@@ -13,6 +13,7 @@ use Rattle.rules.specs.Units as U
 use Rattle.rules.specs.Book as B
 use Rattle.rules.proofs.BoolLaws.{both}
 use Rattle.rules.proofs.HoursLaws.{hours-most}
+use Rattle.session.specs.Laid.{pad}
 use Rattle.session.specs.Image.{image, unitOf, noticeOf, noticeAs, lodgementAs, energiesAs, noUnit, noNotice, noLodgement, noEnergies, Sound}
 use Rattle.session.specs.Parts.{Within, within, numberIs, placeOf}
 use Rattle.session.specs.declared.Session.{Session}
@@ -21,7 +22,7 @@ use Rattle.session.specs.declared.Notice.{Notice}
 use Rattle.session.specs.declared.Lodgement.{Lodgement}
 use Rattle.session.specs.declared.Energies.{Energies}
 use Rattle.session.proofs.LaidLaws.{take-pad, any-map}
-use Rattle.session.proofs.PlaceLaws.{place-first, place-map, getD-map}
+use Rattle.session.proofs.PlaceLaws.{place-first, place-any, place-map, getD-map}
 
 -- The guard
 
@@ -99,6 +100,15 @@ module _ (s : Session) (b : B.Book) (e : s ≡ image b) where
   pub place-as : (n : ℕ) → placeOf (U.hasNumber n) (b .units) ≡ placeOf (numberIs n) (take (s .enrolled) (s .units))
   unfolding U.hasNumber
   place-as n = rw units-as (sym (place-map unitOf (numberIs n) (b .units)))
+
+  units-fit : s .enrolled ≤ length (s .units)
+  unfolding image pad
+  units-fit = rw e (omega (arith, length-append (map unitOf (b .units)) (replicate (64 - length (map unitOf (b .units))) noUnit), length-map (b .units) unitOf))
+
+  -- whether one is registered, by the place
+  pub registered-at : (n p : ℕ) → p ≡ placeOf (numberIs n) (take (s .enrolled) (s .units)) → U.isRegistered (b .units) n ≡ ltb p (s .enrolled)
+  registered-at n p at =
+      registered-as n ∙ (sym (place-any (numberIs n) (s .units) (s .enrolled) units-fit) ∙ ap (λ j. ltb j (s .enrolled)) (sym at))
 
   module _ (n p : ℕ) (at : p ≡ placeOf (numberIs n) (take (s .enrolled) (s .units))) (in-list : p < s .enrolled) where
     here : U.unitOf (b .units) n ≡ getD (b .units) p U.nobody

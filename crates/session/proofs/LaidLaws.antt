@@ -70,17 +70,6 @@ module _ {A : Type 0} (n : ℕ) (d : A) where
       let m : n - length l ≡ suc (n - (length l + 1)) = omega arith in
       rw (e, length-last l x, m) (set-over l (n - (length l + 1)) x)
 
-  over-empty : (l : List A) (k : ℕ) → l ++ replicate (suc k) d ≡ (l ++ (d ∷ [])) ++ replicate k d
-  over-empty [] k = refl
-  over-empty (y ∷ l) k = ap (λ (t : List A). y ∷ t) (over-empty l k)
-
-  -- one more that is as an empty place
-  pub pad-empty : (l : List A) → length l < n → pad n d l ≡ pad n d (l ++ (d ∷ []))
-  unfolding pad
-  pad-empty l h =
-      let m : n - length l ≡ suc (n - (length l + 1)) = omega arith in
-      rw (length-last l d, m) (over-empty l (n - (length l + 1)))
-
 -- The first numbers of an array
 
 pub length-counted : (n : ℕ) (l : List ℕ) → length (counted n l) ≡ n

@@ -9,9 +9,13 @@ use lib.Dec.{ltb}
 use lib.ListN.{length, getD, take, drop, length-take, drop-of-length-le}
 use lib.Seq.{getD-take, drop-cons}
 use borrow.Author.Tests.{lt-ltb, le-ltb}
-use Rattle.rules.specs.Lists.{any, first}
+use Rattle.rules.specs.Lists.{Pairwise, any, first}
 use Rattle.rules.proofs.BoolLaws.{by-bool}
 use Rattle.session.specs.Parts.{placeOf}
+
+-- at most one passes
+abbrev pub Once : {A : Type 0} → (A → Bool) → List A → Type 0
+Once p xs = Pairwise (λ x y. p x ≡ true → p y ≡ false) xs
 
 module _ {A : Type 0} (p : A → Bool) where
   -- it is a place of the list exactly where one passes

@@ -1,13 +1,19 @@
-use Rattle.annulling.proofs.AnnulLaws.{annulled}
 use borrow.Author.Needs.{needs}
 use Rattle.annulling.proofs.strike.Statement.{statement}
 use Rattle.annulling.proofs.strike.Tie as tie
 
-drop-key-requires : tie.Need-drop-key-requires
-drop-key-requires c κs = search needs
+left-of-requires : tie.Need-left-of-requires
+left-of-requires c κs = search needs
+
+no-lodgement-requires : tie.Need-no-lodgement-requires
+no-lodgement-requires c κs = search needs
+
+no-energies-requires : tie.Need-no-energies-requires
+no-energies-requires c κs = search needs
 
 returns : tie.Need-returns
-returns c = annulled _ _ _ (c .drop-key .ensures)
+returns c = rw (c .before .before .left-of .ensures, c .before .no-lodgement .ensures, c .no-energies .ensures)
 
 pub strike-spec : {M : Type 1} → statement M
-strike-spec = tie.close (tie.spec drop-key-requires returns)
+strike-spec =
+    tie.close (tie.spec left-of-requires no-lodgement-requires no-energies-requires returns)

@@ -1,51 +1,15 @@
-use mathlib.Core.Path.{sym, _∙_}
-use borrow.Author.Tests.{not-true}
-use Rattle.session.proofs.StepLaws.{out-unsound, out-refused, out-entered}
 use borrow.Author.Needs.{needs}
 use Rattle.capacities.proofs.capacity.Statement.{statement}
 use Rattle.capacities.proofs.capacity.Tie as tie
 
-sound-requires : tie.Need-sound-requires
-sound-requires c κs = search needs
+capacity-change-requires : tie.Need-capacity-change-requires
+capacity-change-requires c κs = search needs
 
-refused-requires : tie.Need-refused-requires
-refused-requires c κs = search needs
+with-registry-requires : tie.Need-with-registry-requires
+with-registry-requires c κs = search needs
 
 returns : tie.Need-returns
-returns c = out-unsound _ _ _ _ _ (c .refused .ensures) (sym (c .before .before .sound .ensures) ∙ not-true _ (c .before .if1 .taken))
-
-judge-capacity-requires : tie.Need-judge-capacity-requires
-judge-capacity-requires c κs = search needs
-
-enum-known-j : tie.Need-enum-known-j
-enum-known-j c = search needs
-
-refused-requires-2 : tie.Need-refused-requires-2
-refused-requires-2 c κs = search needs
-
-enum-told : tie.Need-enum-told
-enum-told c = search needs
-
-note-capacity-requires : tie.Need-note-capacity-requires
-note-capacity-requires c κs = search needs
-
-returns-2 : tie.Need-returns-2
-returns-2 c = out-refused _ _ _ _ _ (c .refused2 .ensures) (λ b e. sym (c .before .before .j .given .1) ∙ c .before .before .before .before .judge-capacity .ensures b e)
-
-returns-3 : tie.Need-returns-3
-returns-3 c = out-entered _ _ _ (λ b e. sym (c .before .enum-told .given .1) ∙ c .before .before .before .judge-capacity .ensures b e) (c .note-capacity .ensures)
+returns c = rw (c .with-registry .ensures) (c .before .capacity-change .ensures .0)
 
 pub capacity-spec : {M : Type 1} → statement M
-capacity-spec =
-    tie.close
-    (tie.spec
-    sound-requires
-    refused-requires
-    returns
-    judge-capacity-requires
-    enum-known-j
-    refused-requires-2
-    enum-told
-    note-capacity-requires
-    returns-2
-    returns-3)
+capacity-spec = tie.close (tie.spec capacity-change-requires with-registry-requires returns)

@@ -1,4 +1,3 @@
-use Rattle.notices.proofs.NoticeLaws.{available-entered}
 use borrow.Author.Needs.{needs}
 use Rattle.notices.proofs.note_available.Statement.{statement}
 use Rattle.notices.proofs.note_available.Tie as tie
@@ -6,11 +5,8 @@ use Rattle.notices.proofs.note_available.Tie as tie
 kept-notice-requires : tie.Need-kept-notice-requires
 kept-notice-requires c κs = search needs
 
-noted-notices-requires : tie.Need-noted-notices-requires
-noted-notices-requires c κs = search needs
-
 returns : tie.Need-returns
-returns c = available-entered _ _ _ _ _ _ (c .before .before .before .kept-notice .ensures) (c .noted-notices .ensures)
+returns c = rw (c .before .kept-notice .ensures)
 
 pub note-available-spec : {M : Type 1} → statement M
-note-available-spec = tie.close (tie.spec kept-notice-requires noted-notices-requires returns)
+note-available-spec = tie.close (tie.spec kept-notice-requires returns)

@@ -3,17 +3,14 @@ use borrow.Author.Needs.{needs}
 use Rattle.registry.proofs.enrol.Statement.{statement}
 use Rattle.registry.proofs.enrol.Tie as tie
 
-mul-u : tie.Need-mul-u
-mul-u c = search needs
+no-notice-requires : tie.Need-no-notice-requires
+no-notice-requires c κs = search needs
 
-element-set-from-u : tie.Need-element-set-from-u
-element-set-from-u c = search needs
-
-add-next : tie.Need-add-next
-add-next c = search needs
+add-t7 : tie.Need-add-t7
+add-t7 c = search needs
 
 returns : tie.Need-returns
-returns c = unit-entered _ _ (c .pre)
+returns c = (rw (c .before .no-notice .ensures) (unit-entered _ _ (c .before .before .pre)), c .before .before .pre)
 
 pub enrol-spec : {M : Type 1} → statement M
-enrol-spec = tie.close (tie.spec mul-u element-set-from-u add-next returns)
+enrol-spec = tie.close (tie.spec no-notice-requires add-t7 returns)

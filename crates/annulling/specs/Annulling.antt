@@ -1,0 +1,16 @@
+-- What annulling changes.
+use Prim.Native.Nat.{ℕ}
+use Rattle.session.specs.Image.{noLodgement, noEnergies}
+use Rattle.session.specs.declared.Session.{Session}
+use Rattle.session.specs.declared.Answer.the-variants.{Done}
+use Rattle.session.specs.declared.StandingTurn.{StandingTurn}
+use Rattle.keys.specs.Keys.{leftOf}
+
+-- the lodgement at place p taken out, m the count of those left
+abbrev pub struckAt : Session → ℕ → StandingTurn
+struckAt s p =
+    let m = leftOf (s .standing) p in
+    record {
+      change = record { from = p; to = m; at = m; lodgement = noLodgement; energies = noEnergies; standing = m; last = s .last };
+      answer = Done;
+    }
