@@ -1,5 +1,5 @@
 // The C interface (include/gate.h). "The session is lent to each call and changed in place": thin entries that apply the
-// by-value steps of `response`. The numbers at each are the rows of the refusal table that it can answer with.
+// by-value steps of `response` and store what these change (`lent`). The numbers at each are the rows of the refusal table that it can answer with.
 ghost use mathlib.Core.Path.{_≡_};
 ghost use lib.ListN.{length};
 ghost use Rattle.rules.specs.Hours.{hoursAt, clockAt, hourAt};
@@ -12,6 +12,10 @@ ghost use Rattle.session.specs.Image.{unitIn, keyIn};
 ghost use Rattle.response.specs.Told.{ofCounted, ofNamed, availableIn, capacityIn, OpensAs, MetAs, AnsweredAs};
 use calendar::Clock;
 use calendar::Date;
+use lent::settle_clearing;
+use lent::settle_closing;
+use lent::settle_registry;
+use lent::settle_standing;
 use message::Fields;
 use message::Reading;
 use message::Written;
@@ -85,8 +89,7 @@ pub extern "C" fn gate_register(s: &mut Session, unit: Unit) -> Response
     ensures { λ r. ⌜ MetAs (now (s .entry)) (register (unitIn unit)) (record { session = now (s .exit); response = r }) ⌝ }
 {
     let t = response::register(*s, unit);
-    *s = t.session;
-    t.response
+    settle_registry(s, t)
 }
 
 // Takes an unavailability notice of a unit: 2, 4, 5, 6.
@@ -95,8 +98,7 @@ pub extern "C" fn gate_available(s: &mut Session, notice: Availability) -> Respo
     ensures { λ r. ⌜ MetAs (now (s .entry)) (availableIn notice) (record { session = now (s .exit); response = r }) ⌝ }
 {
     let t = response::available(*s, notice);
-    *s = t.session;
-    t.response
+    settle_registry(s, t)
 }
 
 // Takes a capacity notice, export and import of border 1, of 2, of 3, of 4: 2, 4, 5.
@@ -105,8 +107,7 @@ pub extern "C" fn gate_capacity(s: &mut Session, notice: Capacities) -> Response
     ensures { λ r. ⌜ MetAs (now (s .entry)) (capacityIn notice) (record { session = now (s .exit); response = r }) ⌝ }
 {
     let t = response::capacity(*s, notice);
-    *s = t.session;
-    t.response
+    settle_registry(s, t)
 }
 
 // Lodges a message: 2, 3, 4, 5, 6, 9, 10, 11, 12.
@@ -115,8 +116,7 @@ pub extern "C" fn gate_lodge(s: &mut Session, message: &[u8]) -> Response
     ensures { λ r. ⌜ MetAs (now (s .entry)) (lodge (now (message .entry))) (record { session = now (s .exit); response = r }) ⌝ }
 {
     let t = response::lodge(*s, message);
-    *s = t.session;
-    t.response
+    settle_standing(s, t)
 }
 
 // Annuls the lodgement of a key: 2, 5, 6, 13.
@@ -125,8 +125,7 @@ pub extern "C" fn gate_annul(s: &mut Session, key: Key) -> Response
     ensures { λ r. ⌜ MetAs (now (s .entry)) (annul (keyIn key)) (record { session = now (s .exit); response = r }) ⌝ }
 {
     let t = response::annul(*s, key);
-    *s = t.session;
-    t.response
+    settle_standing(s, t)
 }
 
 // Closes the gate: 2.
@@ -135,8 +134,7 @@ pub extern "C" fn gate_close(s: &mut Session) -> Response
     ensures { λ r. ⌜ MetAs (now (s .entry)) close (record { session = now (s .exit); response = r }) ⌝ }
 {
     let t = response::close(*s);
-    *s = t.session;
-    t.response
+    settle_closing(s, t)
 }
 
 // Clears the day: 2.
@@ -145,8 +143,7 @@ pub extern "C" fn gate_clear(s: &mut Session) -> Response
     ensures { λ r. ⌜ MetAs (now (s .entry)) clear (record { session = now (s .exit); response = r }) ⌝ }
 {
     let t = response::clear(*s);
-    *s = t.session;
-    t.response
+    settle_clearing(s, t)
 }
 
 // Queries

@@ -1,8 +1,7 @@
 // "The session is lent to each call and changed in place": what a step changes, stored in the lent session.
 ghost use mathlib.Core.Path.{_≡_};
 ghost use Prim.Native.Nat.{_<_};
-ghost use Rattle.session.specs.Changes.{Placed, registryWith, standingWith};
-ghost use Rattle.response.specs.Told.{closedBy, clearedBy};
+ghost use Rattle.session.specs.Changes.{Placed, withVerdicts, withFigures, registryWith, standingWith};
 use response::Closed;
 use response::DayCleared;
 use response::Lodged;
@@ -45,7 +44,7 @@ pub fn settle_standing(s: &mut Session, t: Lodged) -> Response
 
 // Verdicts.
 pub fn settle_closing(s: &mut Session, t: Closed) -> Response
-    ensures { λ r. ⌜ (now (s .exit) ≡ closedBy (now (s .entry)) t) × (r ≡ t .response) ⌝ }
+    ensures { λ r. ⌜ (now (s .exit) ≡ withVerdicts (now (s .entry)) (t .closed) (t .verdicts)) × (r ≡ t .response) ⌝ }
 {
     s.verdicts = t.verdicts;
     s.closed = t.closed;
@@ -54,7 +53,7 @@ pub fn settle_closing(s: &mut Session, t: Closed) -> Response
 
 // Figures.
 pub fn settle_clearing(s: &mut Session, t: DayCleared) -> Response
-    ensures { λ r. ⌜ (now (s .exit) ≡ clearedBy (now (s .entry)) t) × (r ≡ t .response) ⌝ }
+    ensures { λ r. ⌜ (now (s .exit) ≡ withFigures (now (s .entry)) (t .cleared) (t .figures)) × (r ≡ t .response) ⌝ }
 {
     s.figures = t.figures;
     s.cleared = t.cleared;

@@ -1,5 +1,5 @@
 -- What a call promises, from the contract under it; and that a response loses nothing of what it tells.
-use Prim.Native.Nat.{ℕ}
+use Prim.Native.Nat.{ℕ, _<_}
 use mathlib.Core.Path.{_≡_, refl, sym, _∙_, ap, subst}
 use mathlib.Core.Bool.{true, cond}
 use native.Mathlib.Omega.{arith}
@@ -7,18 +7,47 @@ use lib.Dec.{eqb}
 use lib.IntN.{ℤ, pos, negsuc}
 use Rattle.rules.specs.DayBook as D
 use Rattle.session.specs.Steps.{Met, isRefusal}
+use Rattle.session.specs.Changes.{Placed, registryTurn, standingTurn, closingTurn, clearingTurn}
 use Rattle.session.specs.declared.Session.{Session}
 use Rattle.session.specs.declared.Turn.{Turn}
+use Rattle.session.specs.declared.RegistryTurn.{RegistryTurn}
+use Rattle.session.specs.declared.StandingTurn.{StandingTurn}
+use Rattle.session.specs.declared.ClosingTurn.{ClosingTurn}
+use Rattle.session.specs.declared.ClearingTurn.{ClearingTurn}
 use Rattle.session.specs.declared.Answer.{Answer}
 use Rattle.session.specs.declared.Answer.the-variants as A
 use Rattle.queries.specs.declared.Reply.{Reply}
 use Rattle.queries.specs.declared.Reply.the-variants as R
-use Rattle.response.specs.Told.{ofAnswer, ofReply, steppedAs, MetAs}
+use Rattle.response.specs.Told.{Stepped, ofAnswer, ofReply, steppedAs, registeredAs, lodgedAs, closedAs, dayClearedAs, registryLeft, standingLeft, closingLeft, clearingLeft, MetAs}
 use Rattle.response.specs.declared.Response.{Response}
-use Rattle.response.specs.declared.Stepped.{Stepped}
+use Rattle.response.specs.declared.Registered.{Registered}
+use Rattle.response.specs.declared.Lodged.{Lodged}
+use Rattle.response.specs.declared.Closed.{Closed}
+use Rattle.response.specs.declared.DayCleared.{DayCleared}
 
-pub met-as : (s : Session) (c : D.Call) (t : Turn) (r : Stepped) → Met s c t → r ≡ steppedAs t → MetAs s c r
-met-as s c t r m e = subst (MetAs s c) (sym e) (record { answer = t .answer; met = m; told = refl })
+-- a call's answer is told, whatever it changes
+met-as : (s : Session) (c : D.Call) (t : Turn) → Met s c t → MetAs s c (steppedAs t)
+met-as s c t m = record { answer = t .answer; met = m; told = refl }
+
+module _ (s : Session) (c : D.Call) where
+  pub registry-met : (t : RegistryTurn) (r : Registered) → Met s c (registryTurn s t) → r ≡ registeredAs t → MetAs s c (registryLeft s r)
+  registry-met t r m e = subst (λ x. MetAs s c (registryLeft s x)) (sym e) (met-as s c (registryTurn s t) m)
+
+  pub standing-met : (t : StandingTurn) (r : Lodged) → Met s c (standingTurn s t) → r ≡ lodgedAs t → MetAs s c (standingLeft s r)
+  standing-met t r m e = subst (λ x. MetAs s c (standingLeft s x)) (sym e) (met-as s c (standingTurn s t) m)
+
+  pub closing-met : (t : ClosingTurn) (r : Closed) → Met s c (closingTurn s t) → r ≡ closedAs t → MetAs s c (closingLeft s r)
+  closing-met t r m e = subst (λ x. MetAs s c (closingLeft s x)) (sym e) (met-as s c (closingTurn s t) m)
+
+  pub clearing-met : (t : ClearingTurn) (r : DayCleared) → Met s c (clearingTurn s t) → r ≡ dayClearedAs t → MetAs s c (clearingLeft s r)
+  clearing-met t r m e = subst (λ x. MetAs s c (clearingLeft s x)) (sym e) (met-as s c (clearingTurn s t) m)
+
+-- places are told as they are
+pub registry-placed : (t : RegistryTurn) (r : Registered) → t .change .at < 64 → r ≡ registeredAs t → r .change .at < 64
+registry-placed t r h e = subst (λ x. x .change .at < 64) (sym e) h
+
+pub standing-placed : (t : StandingTurn) (r : Lodged) → Placed (t .change) → r ≡ lodgedAs t → Placed (r .change)
+standing-placed t r h e = subst (λ x. Placed (x .change)) (sym e) h
 
 -- "with the session unchanged": a call that is told as refused left the session as it was
 

@@ -12,16 +12,22 @@ use Rattle.calendar.specs.declared.Named.{Named}
 use Rattle.calendar.specs.declared.Named.the-variants as N
 use Rattle.session.specs.Laid.{counted}
 use Rattle.session.specs.Image.{capacitiesIn}
+use Rattle.session.specs.Changes.{withVerdicts, withFigures, registryWith, standingWith}
 use Rattle.session.specs.Steps.{Met, Opens}
 use Rattle.session.specs.declared.Session.{Session}
 use Rattle.session.specs.declared.Turn.{Turn}
+use Rattle.session.specs.declared.RegistryTurn.{RegistryTurn}
+use Rattle.session.specs.declared.StandingTurn.{StandingTurn}
+use Rattle.session.specs.declared.ClosingTurn.{ClosingTurn}
+use Rattle.session.specs.declared.ClearingTurn.{ClearingTurn}
 use Rattle.session.specs.declared.Answer.{Answer}
 use Rattle.session.specs.declared.Answer.the-variants as A
 use Rattle.queries.specs.Replies.{Answered}
 use Rattle.queries.specs.declared.Reply.{Reply}
 use Rattle.queries.specs.declared.Reply.the-variants as R
 use Rattle.response.specs.declared.Response.{Response}
-use Rattle.response.specs.declared.Stepped.{Stepped}
+use Rattle.response.specs.declared.Registered.{Registered}
+use Rattle.response.specs.declared.Lodged.{Lodged}
 use Rattle.response.specs.declared.Closed.{Closed}
 use Rattle.response.specs.declared.DayCleared.{DayCleared}
 use Rattle.response.specs.declared.Availability.{Availability}
@@ -54,45 +60,39 @@ unfoldable pub ofNamed : Named → ClockName
 ofNamed (N.Refused n) = record { row = n; name = 0; second = false }
 ofNamed (N.Given c) = record { row = 0; name = c .name; second = c .second }
 
+-- what a call leaves and says
+pub record Stepped : Type 0 where
+  pub session : Session
+  pub response : Response
+
 abbrev pub steppedAs : Turn → Stepped
 steppedAs t = record { session = t .session; response = ofAnswer (t .answer) }
 
--- the session that what closing or clearing changes leaves
-abbrev pub closedBy : Session → Closed → Session
-closedBy s t = record {
-  date = s .date;
-  hours = s .hours;
-  enrolled = s .enrolled;
-  units = s .units;
-  notices = s .notices;
-  capacities = s .capacities;
-  standing = s .standing;
-  lodgements = s .lodgements;
-  energies = s .energies;
-  last = s .last;
-  closed = t .closed;
-  cleared = s .cleared;
-  verdicts = t .verdicts;
-  figures = s .figures;
-}
+-- what a call changes, with its answer told
+abbrev pub registeredAs : RegistryTurn → Registered
+registeredAs t = record { change = t .change; response = ofAnswer (t .answer) }
 
-abbrev pub clearedBy : Session → DayCleared → Session
-clearedBy s t = record {
-  date = s .date;
-  hours = s .hours;
-  enrolled = s .enrolled;
-  units = s .units;
-  notices = s .notices;
-  capacities = s .capacities;
-  standing = s .standing;
-  lodgements = s .lodgements;
-  energies = s .energies;
-  last = s .last;
-  closed = s .closed;
-  cleared = t .cleared;
-  verdicts = s .verdicts;
-  figures = t .figures;
-}
+abbrev pub lodgedAs : StandingTurn → Lodged
+lodgedAs t = record { change = t .change; response = ofAnswer (t .answer) }
+
+abbrev pub closedAs : ClosingTurn → Closed
+closedAs t = record { verdicts = t .verdicts; closed = t .closed; response = ofAnswer (t .answer) }
+
+abbrev pub dayClearedAs : ClearingTurn → DayCleared
+dayClearedAs t = record { figures = t .figures; cleared = t .cleared; response = ofAnswer (t .answer) }
+
+-- the session that storing what a call changes leaves, and its response
+abbrev pub registryLeft : Session → Registered → Stepped
+registryLeft s r = record { session = registryWith s (r .change); response = r .response }
+
+abbrev pub standingLeft : Session → Lodged → Stepped
+standingLeft s r = record { session = standingWith s (r .change); response = r .response }
+
+abbrev pub closingLeft : Session → Closed → Stepped
+closingLeft s r = record { session = withVerdicts s (r .closed) (r .verdicts); response = r .response }
+
+abbrev pub clearingLeft : Session → DayCleared → Stepped
+clearingLeft s r = record { session = withFigures s (r .cleared) (r .figures); response = r .response }
 
 -- the calls that the notices' structs stand for
 abbrev pub availableIn : Availability → D.Call

@@ -1,11 +1,29 @@
 // The calls and the queries answered with a plain struct, `Response`, which C can be handed: an enum cannot be exported.
 ghost use mathlib.Core.Path.{_≡_};
+ghost use Prim.Native.Nat.{_<_};
 ghost use Rattle.rules.specs.Hours.{hoursAt, clockAt, hourAt};
 ghost use Rattle.rules.specs.DayBook.{register, available, capacity, lodge, annul, close, clear};
 ghost use Rattle.rules.specs.Queries as Q;
 ghost use Rattle.calendar.specs.View.{dateIn, clockIn, countedAs, namedAs};
 ghost use Rattle.session.specs.Image.{unitIn, keyIn};
-ghost use Rattle.response.specs.Told.{ofAnswer, ofReply, ofCounted, ofNamed, steppedAs, availableIn, capacityIn, OpensAs, MetAs, AnsweredAs};
+ghost use Rattle.session.specs.Changes.{Placed};
+ghost use Rattle.response.specs.Told.{
+  ofAnswer,
+  ofReply,
+  ofCounted,
+  ofNamed,
+  registeredAs,
+  lodgedAs,
+  registryLeft,
+  standingLeft,
+  closingLeft,
+  clearingLeft,
+  availableIn,
+  capacityIn,
+  OpensAs,
+  MetAs,
+  AnsweredAs,
+};
 use calendar::Clock;
 use calendar::Counted;
 use calendar::Date;
@@ -16,9 +34,10 @@ use session::Cleared;
 use session::Key;
 use session::Published;
 use session::RegistryChange;
+use session::RegistryTurn;
 use session::Session;
 use session::StandingChange;
-use session::Turn;
+use session::StandingTurn;
 use session::Unit;
 use session::Verdict;
 
@@ -63,12 +82,6 @@ pub struct ClockName {
     pub row: u32,
     pub name: u32,
     pub second: bool,
-}
-
-// What a call leaves and says.
-pub struct Stepped {
-    pub session: Session,
-    pub response: Response,
 }
 
 // What a call changes of units and notices, and says.
@@ -238,13 +251,24 @@ fn of_named(n: Named) -> ClockName
     }
 }
 
-fn of_turn(t: Turn) -> Stepped
-    ensures { λ r. ⌜ r ≡ steppedAs t ⌝ }
+// What a call changes stays as it is, and its answer is told.
+
+fn of_registry(t: RegistryTurn) -> Registered
+    ensures { λ r. ⌜ r ≡ registeredAs t ⌝ }
 {
-    let session = t.session;
+    let change = t.change;
     let answer = t.answer;
     let response = of_answer(answer);
-    Stepped { session, response }
+    Registered { change, response }
+}
+
+fn of_standing(t: StandingTurn) -> Lodged
+    ensures { λ r. ⌜ r ≡ lodgedAs t ⌝ }
+{
+    let change = t.change;
+    let answer = t.answer;
+    let response = of_answer(answer);
+    Lodged { change, response }
 }
 
 // Dates
@@ -287,61 +311,75 @@ pub fn clock(date: Date, hour: u32) -> ClockName
 // Calls
 
 // Registers a unit: 2, 5, 7, 8, 9.
-pub fn register(s: Session, unit: Unit) -> Stepped
-    ensures { λ r. ⌜ MetAs s (register (unitIn unit)) r ⌝ }
+pub fn register(s: Session, unit: Unit) -> Registered
+    ensures { λ r. ⌜ MetAs s (register (unitIn unit)) (registryLeft s r) × (r .change .at < 64) ⌝ }
 {
-    let t = registry::register(s, unit);
-    of_turn(t)
+    let t = registry::register_change(s, unit);
+    of_registry(t)
 }
 
 // Takes an unavailability notice: 2, 4, 5, 6.
-pub fn available(s: Session, notice: Availability) -> Stepped
-    ensures { λ r. ⌜ MetAs s (availableIn notice) r ⌝ }
+pub fn available(s: Session, notice: Availability) -> Registered
+    ensures { λ r. ⌜ MetAs s (availableIn notice) (registryLeft s r) × (r .change .at < 64) ⌝ }
 {
     let energies = notice.energies;
-    let t = notices::available(s, notice.unit, notice.count, energies);
-    of_turn(t)
+    let t = notices::available_change(s, notice.unit, notice.count, energies);
+    of_registry(t)
 }
 
 // Takes a capacity notice: 2, 4, 5.
-pub fn capacity(s: Session, notice: Capacities) -> Stepped
-    ensures { λ r. ⌜ MetAs s (capacityIn notice) r ⌝ }
+pub fn capacity(s: Session, notice: Capacities) -> Registered
+    ensures { λ r. ⌜ MetAs s (capacityIn notice) (registryLeft s r) × (r .change .at < 64) ⌝ }
 {
     let directions = notice.directions;
-    let t = capacities::capacity(s, directions);
-    of_turn(t)
+    let t = capacities::capacity_change(s, directions);
+    of_registry(t)
 }
 
 // Lodges a message: 2, 3, 4, 5, 6, 9, 10, 11, 12.
-pub fn lodge(s: Session, message: &[u8]) -> Stepped
-    ensures { λ r. ⌜ MetAs s (lodge (now (message .entry))) r ⌝ }
+pub fn lodge(s: Session, message: &[u8]) -> Lodged
+    ensures { λ r. ⌜ MetAs s (lodge (now (message .entry))) (standingLeft s r) × Placed (r .change) ⌝ }
 {
-    let t = lodging::lodge::lodge(s, message);
-    of_turn(t)
+    let t = lodging::lodge::lodge_change(s, message);
+    of_standing(t)
 }
 
 // Annuls the lodgement of a key: 2, 5, 6, 13.
-pub fn annul(s: Session, key: Key) -> Stepped
-    ensures { λ r. ⌜ MetAs s (annul (keyIn key)) r ⌝ }
+pub fn annul(s: Session, key: Key) -> Lodged
+    ensures { λ r. ⌜ MetAs s (annul (keyIn key)) (standingLeft s r) × Placed (r .change) ⌝ }
 {
-    let t = annulling::annul(s, key);
-    of_turn(t)
+    let t = annulling::annul_change(s, key);
+    of_standing(t)
 }
 
 // Closes the gate: 2.
-pub fn close(s: Session) -> Stepped
-    ensures { λ r. ⌜ MetAs s close r ⌝ }
+pub fn close(s: Session) -> Closed
+    ensures { λ r. ⌜ MetAs s close (closingLeft s r) ⌝ }
 {
-    let t = closing::close(s);
-    of_turn(t)
+    let t = closing::close_change(s);
+    let verdicts = t.verdicts;
+    let answer = t.answer;
+    let response = of_answer(answer);
+    Closed {
+        verdicts,
+        closed: t.closed,
+        response,
+    }
 }
 
 // Clears the day: 2.
-pub fn clear(s: Session) -> Stepped
-    ensures { λ r. ⌜ MetAs s clear r ⌝ }
+pub fn clear(s: Session) -> DayCleared
+    ensures { λ r. ⌜ MetAs s clear (clearingLeft s r) ⌝ }
 {
-    let t = clearing::clear(s);
-    of_turn(t)
+    let t = clearing::clear_change(s);
+    let figures = t.figures;
+    let answer = t.answer;
+    let response = of_answer(answer);
+    DayCleared {
+        figures,
+        cleared: t.cleared,
+        response,
+    }
 }
 
 // Queries

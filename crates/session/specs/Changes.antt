@@ -1,11 +1,14 @@
 -- What calls change of a session.
 use Prim.Native.Nat.{ℕ, zero, suc, _≤_, _<_}
+use mathlib.Core.Bool.{Bool}
 use mathlib.Core.List.{List, [], _∷_}
 use lib.ListN.{set}
 use Rattle.session.specs.declared.Notice.{Notice}
 use Rattle.session.specs.declared.Unit.{Unit}
 use Rattle.session.specs.declared.Lodgement.{Lodgement}
 use Rattle.session.specs.declared.Energies.{Energies}
+use Rattle.session.specs.declared.Verdict.{Verdict}
+use Rattle.session.specs.declared.Cleared.{Cleared}
 use Rattle.session.specs.declared.Session.{Session}
 use Rattle.session.specs.declared.Turn.{Turn}
 use Rattle.session.specs.declared.RegistryChange.{RegistryChange}
@@ -53,6 +56,42 @@ withRegistry s n us ns cs = record {
   figures = s .figures;
 }
 
+abbrev pub withVerdicts : Session → Bool → List Verdict → Session
+withVerdicts s closed vs = record {
+  date = s .date;
+  hours = s .hours;
+  enrolled = s .enrolled;
+  units = s .units;
+  notices = s .notices;
+  capacities = s .capacities;
+  standing = s .standing;
+  lodgements = s .lodgements;
+  energies = s .energies;
+  last = s .last;
+  closed = closed;
+  cleared = s .cleared;
+  verdicts = vs;
+  figures = s .figures;
+}
+
+abbrev pub withFigures : Session → Bool → List Cleared → Session
+withFigures s cleared fs = record {
+  date = s .date;
+  hours = s .hours;
+  enrolled = s .enrolled;
+  units = s .units;
+  notices = s .notices;
+  capacities = s .capacities;
+  standing = s .standing;
+  lodgements = s .lodgements;
+  energies = s .energies;
+  last = s .last;
+  closed = s .closed;
+  cleared = cleared;
+  verdicts = s .verdicts;
+  figures = fs;
+}
+
 -- Units and notices
 
 abbrev pub registryWith : Session → RegistryChange → Session
@@ -92,44 +131,8 @@ pub record Placed (c : StandingChange) : Type 0 where
 
 -- Verdicts and figures
 
-abbrev pub closingWith : Session → ClosingTurn → Session
-closingWith s t = record {
-  date = s .date;
-  hours = s .hours;
-  enrolled = s .enrolled;
-  units = s .units;
-  notices = s .notices;
-  capacities = s .capacities;
-  standing = s .standing;
-  lodgements = s .lodgements;
-  energies = s .energies;
-  last = s .last;
-  closed = t .closed;
-  cleared = s .cleared;
-  verdicts = t .verdicts;
-  figures = s .figures;
-}
-
 abbrev pub closingTurn : Session → ClosingTurn → Turn
-closingTurn s t = record { session = closingWith s t; answer = t .answer }
-
-abbrev pub clearingWith : Session → ClearingTurn → Session
-clearingWith s t = record {
-  date = s .date;
-  hours = s .hours;
-  enrolled = s .enrolled;
-  units = s .units;
-  notices = s .notices;
-  capacities = s .capacities;
-  standing = s .standing;
-  lodgements = s .lodgements;
-  energies = s .energies;
-  last = s .last;
-  closed = s .closed;
-  cleared = t .cleared;
-  verdicts = s .verdicts;
-  figures = t .figures;
-}
+closingTurn s t = record { session = withVerdicts s (t .closed) (t .verdicts); answer = t .answer }
 
 abbrev pub clearingTurn : Session → ClearingTurn → Turn
-clearingTurn s t = record { session = clearingWith s t; answer = t .answer }
+clearingTurn s t = record { session = withFigures s (t .cleared) (t .figures); answer = t .answer }

@@ -36,7 +36,7 @@ use denote.Triple.Walked.{says, Stays, stay-ref, stay-none, walkOf, AllGo, goes-
 use denote.Exit.{yes}
 use Rattle.session.specs.declared.Session.{Session}
 use Rattle.response.specs.declared.DayCleared.{DayCleared}
-use Rattle.response.specs.Told.{clearedBy}
+use Rattle.session.specs.Changes.{withFigures}
 use Rattle.session.proofs.Session as T
 use Rattle.session.proofs.Session.Laws as T′
 use Rattle.session.proofs.Cleared.Laws as E′
@@ -62,22 +62,7 @@ pv t = G′.the-laws .0 .val (G.the-type .to t .0)
 
 -- the session with the first field stored
 abbrev half : Session → DayCleared → Session
-half s t = record {
-  date = s .date;
-  hours = s .hours;
-  enrolled = s .enrolled;
-  units = s .units;
-  notices = s .notices;
-  capacities = s .capacities;
-  standing = s .standing;
-  lodgements = s .lodgements;
-  energies = s .energies;
-  last = s .last;
-  closed = s .closed;
-  cleared = s .cleared;
-  verdicts = s .verdicts;
-  figures = t .figures;
-}
+half s t = withFigures s (s .cleared) (t .figures)
 
 module _ {M : Type 1} {𝓤 : URA M} {H : Heap 𝓤} {A : Atoms 𝓤} {K : Type 0} {W : Given 𝓤 H A} {Γ : List (Item 𝓤)} where
   read-part : K → {q : Share} {l : ℕ} (t : DayCleared) (n : ℕ) → nth 𝓤 H A n Γ ≡ ‵ (fat q G′.mir l 0 (tv t)) → Reads K W Γ partTy l 0 (pv t)
@@ -108,7 +93,7 @@ module _ {M : Type 1} {𝓤 : URA M} {H : Heap 𝓤} {A : Atoms 𝓤} {K : Type 
   store-part : K → {b o : ℕ} (s : Session) (t : DayCleared) → Tᵇ (hasTy partTy (pv t)) × WT (pv t) → Writes K W (‵ (fat fullShare T′.mir b o (sv s)) ∷ Γ) partTy b (o + 38248) (pv t) (‵ (fat fullShare T′.mir b o (sv (half s t))) ∷ Γ)
   store-part k s t wt = field-stored k 13 refl refl wt
 
-  store-flag : K → {b o : ℕ} (s : Session) (t : DayCleared) → Writes K W (‵ (fat fullShare T′.mir b o (sv (half s t))) ∷ Γ) tyBool b (o + 36709) (vbool (t .cleared)) (‵ (fat fullShare T′.mir b o (sv (clearedBy s t))) ∷ Γ)
+  store-flag : K → {b o : ℕ} (s : Session) (t : DayCleared) → Writes K W (‵ (fat fullShare T′.mir b o (sv (half s t))) ∷ Γ) tyBool b (o + 36709) (vbool (t .cleared)) (‵ (fat fullShare T′.mir b o (sv (withFigures s (t .cleared) (t .figures)))) ∷ Γ)
   store-flag k s t = field-stored k 11 refl refl (tt, tt)
 
 abbrev stayed : Stays (f.ended .signature .params) (f.ended .kept)
@@ -119,7 +104,7 @@ module _ {M : Type 1} (𝓤 : URA M) (H : Heap 𝓤) (A : Atoms 𝓤) (W : Given
   x = (record { ptr = (b, o); name = γ; now = h }, (t, tt))
 
   abbrev h′ : Session
-  h′ = clearedBy h t
+  h′ = withFigures h (t .cleared) (t .figures)
 
   abbrev at : List Val × (List Val × Unit {0})
   at = (vptr b o ∷ [], (tv t ∷ [], tt))

@@ -1,16 +1,16 @@
-use Rattle.response.proofs.TellLaws.{met-as}
+use Rattle.response.proofs.TellLaws.{registry-met, registry-placed}
 use borrow.Author.Needs.{needs}
 use Rattle.response.proofs.register.Statement.{statement}
 use Rattle.response.proofs.register.Tie as tie
 
-register-requires : tie.Need-register-requires
-register-requires c κs = search needs
+register-change-requires : tie.Need-register-change-requires
+register-change-requires c κs = search needs
 
-of-turn-requires : tie.Need-of-turn-requires
-of-turn-requires c κs = search needs
+of-registry-requires : tie.Need-of-registry-requires
+of-registry-requires c κs = search needs
 
 returns : tie.Need-returns
-returns c = met-as _ _ _ _ (c .before .register .ensures) (c .of-turn .ensures)
+returns c = (registry-met _ _ _ _ (c .before .register-change .ensures .0) (c .of-registry .ensures), registry-placed _ _ (c .before .register-change .ensures .1) (c .of-registry .ensures))
 
 pub register-spec : {M : Type 1} → statement M
-register-spec = tie.close (tie.spec register-requires of-turn-requires returns)
+register-spec = tie.close (tie.spec register-change-requires of-registry-requires returns)
