@@ -1,0 +1,17 @@
+-- Whether the room holds, as the loop finds it.
+use Prim.Native.Nat.{ℕ, _+_, _*_, _≤_, _<_}
+use mathlib.Core.Path.{_≡_, subst}
+use mathlib.Core.Bool.{Bool, true, false, false≢true}
+use mathlib.Core.List.{List}
+use native.Mathlib.Omega.{arith}
+use borrow.Author.Count.{below-more}
+use lib.ListN.{getD}
+use Rattle.room.specs.Room.{Fits, holds, lacks}
+
+module _ (room : List ℕ) (p : ℕ) (loads : List ℕ) (at : ℕ) where
+  pub held : {n : ℕ} {r : Bool} → Fits room p loads at n r → r ≡ true → (h : ℕ) → h < n → getD loads (at * 25 + h) 0 ≤ getD room (p * 25 + h) 0
+  held (holds f) e = f
+  held (lacks h i l) e = absurd (false≢true e)
+
+  pub fits-as : {n : ℕ} {r t : Bool} → Fits room p loads at n r → r ≡ t → Fits room p loads at n t
+  fits-as {n} f e = subst (λ x. Fits room p loads at n x) e f
