@@ -29,7 +29,7 @@ line-of false n = refl
 
 pub line-as : (cs : List Notice) (b : ℕ) (l : BorderLimit) (h : ℕ) → borderAt l (suc h) ≡ borderSum (map noticeIn cs) b (suc h) → lineIn l h ≡ lineAt cs b h
 unfolding lineIn lineAt borderAt
-line-as cs b l h e = sym (line-of (l .applies) (getD (l .energies) h 0) ) ∙ ap (λ n. lineOf (cond (l .applies) (some n) none)) (sym (hourly-suc (l .energies) h)) ∙ ap lineOf e
+line-as cs b l h e = sym (line-of (l .applies) (getD (l .energies) h 0)) ∙ ap (λ n. lineOf (cond (l .applies) (some n) none)) (sym (hourly-suc (l .energies) h)) ∙ ap lineOf e
 
 -- a number that no border has
 row-none : (cs : List Notice) (b h : ℕ) → length cs ≡ 8 → 4 < b → lineAt cs 0 h ≡ lineAt cs b h

@@ -76,12 +76,22 @@ fn lay_unit(ceilings: &mut [u32; 1625], p: usize, u: Unit, notice: Notice, lines
 {
     let row = line_row(u.border);
     for h in 0..25 {
-        ceilings[p * 25 + h] = ceiling_at(u.maximum, notice.given, notice.energies[h], lines[row * 25 + h]);
+        ceilings[p * 25 + h] = ceiling_at(
+            u.maximum,
+            notice.given,
+            notice.energies[h],
+            lines[row * 25 + h],
+        );
     }
 }
 
 // The ceilings of the first n units, 25 numbers for each and a row more.
-pub fn ceilings_of(units: [Unit; 64], notices: [Notice; 64], capacities: [Notice; 8], n: usize) -> [u32; 1625]
+pub fn ceilings_of(
+    units: [Unit; 64],
+    notices: [Notice; 64],
+    capacities: [Notice; 8],
+    n: usize,
+) -> [u32; 1625]
     requires { ⌜ n ≤ 64 ⌝ }
     ensures { λ r. ⌜ ((p h : ℕ) → p < n → h < 25 → getD r (p * 25 + h) 0 ≡ ceilingAt units notices capacities p h) ⌝ }
 {

@@ -34,7 +34,12 @@ fn place_in(numbers: &[u32; 64], n: usize, number: u32) -> usize
 }
 
 // The places among the first n units of those that the first m lodgements are of, n where there is none.
-pub fn holders_of(units: [Unit; 64], n: usize, lodgements: [Lodgement; 128], m: usize) -> [usize; 128]
+pub fn holders_of(
+    units: [Unit; 64],
+    n: usize,
+    lodgements: [Lodgement; 128],
+    m: usize,
+) -> [usize; 128]
     requires { ⌜ (n ≤ 64) × (m ≤ 128) ⌝ }
     ensures { λ r. ⌜ ((j : ℕ) → j < m → getD r j 0 ≡ holderAt units n lodgements j) × ((j : ℕ) → getD r j 0 ≤ n) ⌝ }
 {

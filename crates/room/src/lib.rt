@@ -31,7 +31,13 @@ fn take(room: &mut [u32; 1625], p: usize, loads: &[u32; 3200], at: usize, hours:
 }
 
 // A lodgement that fits is admitted, and takes its energies of the room; else the room stays.
-pub fn admits(room: &mut [u32; 1625], p: usize, loads: &[u32; 3200], at: usize, hours: usize) -> bool
+pub fn admits(
+    room: &mut [u32; 1625],
+    p: usize,
+    loads: &[u32; 3200],
+    at: usize,
+    hours: usize,
+) -> bool
     requires { ⌜ (p < 65) × (at < 128) × (hours ≤ 25) × (length (now room) ≡ 1625) ⌝ }
     ensures { λ r. ⌜ (length (now (room .exit)) ≡ 1625) × Admitted p (now (loads .entry)) at hours (now (room .entry)) (now (room .exit)) r ⌝ }
 {
