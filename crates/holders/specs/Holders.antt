@@ -1,5 +1,5 @@
 -- The place of a lodgement's unit.
-use Prim.Native.Nat.{ℕ}
+use Prim.Native.Nat.{ℕ, _%_}
 use mathlib.Core.Bool.{Bool}
 use mathlib.Core.List.{List}
 use lib.Dec.{eqb}
@@ -14,6 +14,10 @@ numberOf u = u .number
 
 unfoldable pub isNumber : ℕ → ℕ → Bool
 isNumber n k = eqb k n
+
+-- a number that ends in a byte
+unfoldable pub endsIn : ℕ → ℕ → Bool
+endsIn byte k = eqb (k % 256) byte
 
 -- among the first n units
 unfoldable pub holderAt : List Unit → ℕ → List Lodgement → ℕ → ℕ
