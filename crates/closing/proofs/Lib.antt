@@ -1,3 +1,4 @@
+pub mod RoomLaws
 pub mod TakeLaws
 pub mod PassLaws
 pub mod CloseLaws

@@ -1,42 +1,71 @@
--- One turn's loop: the verdicts so far, from the last place down.
+-- One turn's loop: the verdicts so far and the room that they leave, from the last place down.
 use Prim.Native.Nat.{ℕ, _+_, _≤_, _<_}
-use mathlib.Core.Path.{_≡_, sym, _∙_}
+use mathlib.Core.Path.{_≡_, refl, sym, ap, _∙_}
 use mathlib.Core.Bool.{Bool, true, false}
 use mathlib.Core.List.{List}
 use native.Mathlib.Omega.{arith}
-use lib.ListN.{length, set}
+use lib.ListN.{length, set, take, length-map}
 use Rattle.rules.specs.Book.{Book}
-use Rattle.session.specs.Image.{image, Sound, verdictAs}
+use Rattle.session.specs.Image.{image, Sound, unitOf, noLodgement}
+use Rattle.session.specs.Parts.{Within}
+use Rattle.session.specs.declared.Judged.the-variants.{Clear}
 use Rattle.session.specs.declared.Session.{Session}
 use Rattle.session.specs.declared.Verdict.{Verdict}
-use Rattle.session.proofs.ImageLaws.{standing-as}
-use Rattle.validation.specs.Turns.{verdictAt, isTaken, Reached, JudgesAt}
-use Rattle.closing.specs.Passes.{TakesAt, PassesTurn}
+use Rattle.session.proofs.ImageLaws.{standing-as, enrolled-as, units-as}
+use Rattle.holders.specs.Holders.{holderAt}
+use Rattle.room.specs.Room.{Admitted}
+use Rattle.room.proofs.FitLaws.{held, admitted-taken, admitted-left}
+use Rattle.validation.specs.Turns.{isTaken, Loaded, JudgesAt, verdictBy}
 use Rattle.validation.proofs.TurnLaws.{reached-past, reached-taken}
+use Rattle.validation.proofs.JudgeLaws.{unit-placed}
+use Rattle.closing.specs.Passes.{TakesAt, Along, PassesTurn}
+use Rattle.closing.proofs.RoomLaws.{kept-refused, kept-accepted, not-yet, admitted, refused}
 
-module _ (s : Session) (turn : ℕ) (start : List Verdict) where
+module _ (s : Session) (turn : ℕ) (start : List Verdict) (all : List ℕ) where
   -- with some places left
-  abbrev pub Left : ℕ → List Verdict → Type 0
-  Left left given = (b : Book) → Sound b → s ≡ image b → Reached b turn (s .standing) start → Reached b turn left given
+  abbrev pub Left : ℕ → List Verdict → List ℕ → Type 0
+  Left left given room = (b : Book) → Sound b → s ≡ image b → Along s b turn (s .standing) start all → Along s b turn left given room
 
-  pub left-start : (left : ℕ) → left ≡ s .standing → Left left start
+  pub left-start : (left : ℕ) → left ≡ s .standing → Left left start all
   left-start left h b sound e r = rw h r
 
-  pub left-end : (left : ℕ) (given : List Verdict) → left ≤ 0 → Left left given → PassesTurn s turn start given
-  left-end left given h f b sound e r = let k : left ≡ 0 = omega arith in rw k at (f b sound e r)
+  pub left-end : (left : ℕ) (given : List Verdict) (room : List ℕ) → left ≤ 0 → Left left given room → PassesTurn s turn start all given room
+  left-end left given room h f b sound e r = let k : left ≡ 0 = omega arith in rw k at (f b sound e r)
 
   -- the last of them is next
-  module _ (left rest at : ℕ) (given : List Verdict) (next : rest + 1 ≡ left) (same : at ≡ rest) (in-list : left ≤ s .standing) (f : Left left given) where
-    here : (b : Book) → Sound b → s ≡ image b → Reached b turn (s .standing) start → Reached b turn (rest + 1) given
+  module _ (left at rest : ℕ) (given : List Verdict) (room : List ℕ) (next : at + 1 ≡ left) (same : at ≡ rest) (in-list : at < s .standing) (f : Left left given room) where
+    here : (b : Book) → Sound b → s ≡ image b → Along s b turn (s .standing) start all → Along s b turn (at + 1) given room
     here b sound e r = rw next (f b sound e r)
 
-    pub left-taken : (t : Bool) (v : Verdict) → at < length given → TakesAt s turn at t → t ≡ true → JudgesAt s given at v → Left rest (set given at v)
-    left-taken t v h k q j b sound e r =
-        let x : isTaken b turn rest ≡ true = rw same at (sym (k b e) ∙ q) in
-        let y : v ≡ verdictAs (verdictAt b rest) = rw same at (j b turn sound e (rw same (here b sound e r)) (rw same x)) in
-        rw same (reached-taken b turn rest given v (omega arith) x y (here b sound e r))
-
-    pub left-past : (t : Bool) → TakesAt s turn at t → t ≡ false → Left rest given
+    pub left-past : (t : Bool) → TakesAt s turn at t → t ≡ false → Left rest given room
     left-past t k q b sound e r =
-        let x : isTaken b turn rest ≡ false = rw same at (sym (k b e) ∙ q) in
-        reached-past b (sound .ranges .standing .rising) turn rest given (omega (arith, standing-as s b e)) x (here b sound e r)
+        let a = here b sound e r in
+        rw (← same) (record { reached = reached-past b (sound .ranges .standing .rising) turn at given (omega (arith, standing-as s b e)) (sym (k b e) ∙ q) (a .reached); kept = a .kept })
+
+    -- what its room holds of a lodgement that is taken
+    module _ (t : Bool) (k : TakesAt s turn at t) (q : t ≡ true) (long : at < length given) (w : Within s) (loads after : List ℕ) (lent : Loaded s loads) (p : ℕ) (holder : p ≡ holderAt (s .units) (s .enrolled) (s .lodgements) at) (v : Verdict) (a : Bool) (m : Admitted p loads at (s .hours) room after a) where
+      placed : Admitted (holderAt (s .units) (s .enrolled) (s .lodgements) at) loads at (s .hours) room after a
+      placed = rw (← holder) m
+
+      pub left-admitted : a ≡ true → v ≡ verdictBy Clear → Left rest (set given at v) after
+      unfolding holderAt verdictBy
+      left-admitted y ev b sound e r =
+          let x : isTaken b turn at ≡ true = sym (k b e) ∙ q in
+          let g = here b sound e r in
+          let d = admitted-taken _ _ _ _ _ _ placed y in
+          rw (← same) (record {
+            reached = reached-taken b turn at given v long x (admitted s given room loads at in-list w lent (g .kept) v ev (d .0) b turn sound e (g .reached) x) (g .reached);
+            kept = kept-accepted s given room after loads at v long (not-yet b turn at given (g .reached) x) w lent in-list (g .kept) (ap (λ (z : Verdict). z .accepted) ev) (held _ _ _ _ (d .0) refl) (d .1)
+                (ap length (units-as s b e) ∙ length-map (b .units) unitOf ∙ enrolled-as s b e) (unit-placed s given at in-list noLodgement b sound e);
+          })
+
+      pub left-refused : a ≡ false → JudgesAt s given at v → Left rest (set given at v) after
+      unfolding holderAt
+      left-refused y j b sound e r =
+          let x : isTaken b turn at ≡ true = sym (k b e) ∙ q in
+          let g = here b sound e r in
+          let d = admitted-left _ _ _ _ _ _ placed y in
+          rw (← same, d .1) (record {
+            reached = reached-taken b turn at given v long x (j b turn sound e (g .reached) x) (g .reached);
+            kept = kept-refused s given room at v long (not-yet b turn at given (g .reached) x) (refused s given room loads at in-list w lent (g .kept) v b turn j (d .0) sound e (g .reached) x) (g .kept);
+          })

@@ -1,14 +1,22 @@
 -- What the turns of a closing promise to each other.
-use Prim.Native.Nat.{ℕ}
+use Prim.Native.Nat.{ℕ, suc, _+_, _*_, _≤_, _<_}
 use mathlib.Core.Path.{_≡_}
-use mathlib.Core.Bool.{Bool, cond}
-use mathlib.Core.List.{List}
+use mathlib.Core.Bool.{Bool, true, cond}
+use mathlib.Core.List.{List, map}
+use lib.ListN.{getD, take}
+use Rattle.rules.specs.Lists.{from, sumOf}
 use Rattle.rules.specs.Book.{Book}
 use Rattle.session.specs.Image.{image, Sound}
+use Rattle.session.specs.Parts.{numberIs, placeOf}
 use Rattle.session.specs.declared.Key.{Key}
 use Rattle.session.specs.declared.Verdict.{Verdict}
 use Rattle.session.specs.declared.Session.{Session}
-use Rattle.validation.specs.Turns.{isTaken, Reached}
+use Rattle.session.specs.declared.Turn.{Turn}
+use Rattle.session.specs.declared.Answer.the-variants.{Done}
+use Rattle.loads.specs.Loads.{marked, energyIn}
+use Rattle.ceilings.specs.Ceilings.{ceilingAt}
+use Rattle.holders.specs.Holders.{holderAt}
+use Rattle.validation.specs.Turns.{isTaken, Reached, countsAt}
 
 -- "normal executions, default executions, offers"
 unfoldable pub turnIn : Key → ℕ
@@ -18,6 +26,50 @@ turnIn k = cond (k .execution) (cond (k .default) 1 0) 2
 abbrev pub TakesAt : Session → ℕ → ℕ → Bool → Type 0
 TakesAt s turn i r = (b : Book) → s ≡ image b → r ≡ isTaken b turn i
 
--- the verdicts after a turn
-abbrev pub PassesTurn : Session → ℕ → List Verdict → List Verdict → Type 0
-PassesTurn s turn vs r = (b : Book) → Sound b → s ≡ image b → Reached b turn (s .standing) vs → Reached b turn 0 r
+-- the array has the place of each standing one's unit
+pub record Held (s : Session) (holders : List ℕ) : Type 0 where
+  pub at : (j : ℕ) → j < s .standing → getD holders j 0 ≡ holderAt (s .units) (s .enrolled) (s .lodgements) j
+  pub most : (j : ℕ) → getD holders j 0 ≤ s .enrolled
+
+-- what is accepted on a unit in an hour
+unfoldable pub usedIn : Session → List Verdict → ℕ → ℕ → ℕ
+usedIn s vs unit h = sumOf (energyIn h) (marked (map (countsAt unit vs (s .lodgements)) (from 0 128)) (take (s .standing) (s .energies)))
+
+abbrev pub placeIn : Session → ℕ → ℕ
+placeIn s unit = placeOf (numberIs unit) (take (s .enrolled) (s .units))
+
+-- the room with what is accepted is the ceiling, of each unit in each hour
+pub record Kept (s : Session) (vs : List Verdict) (room : List ℕ) : Type 0 where
+  pub left : (unit h : ℕ) → placeIn s unit < s .enrolled → h < s .hours
+      → getD room (placeIn s unit * 25 + h) 0 + usedIn s vs unit (suc h) ≡ ceilingAt (s .units) (s .notices) (s .capacities) (placeIn s unit) h
+
+-- a closing that stands at place i of a turn: its verdicts and the room that they leave
+pub record Along (s : Session) (b : Book) (turn i : ℕ) (vs : List Verdict) (room : List ℕ) : Type 0 where
+  pub reached : Reached b turn i vs
+  pub kept : Kept s vs room
+
+-- the verdicts after a turn, and the room
+abbrev pub PassesTurn : Session → ℕ → List Verdict → List ℕ → List Verdict → List ℕ → Type 0
+PassesTurn s turn vs room r rest = (b : Book) → Sound b → s ≡ image b → Along s b turn (s .standing) vs room → Along s b turn 0 r rest
+
+-- the session once closed
+abbrev pub closedWith : Session → List Verdict → Session
+closedWith s vs = record {
+  date = s .date;
+  hours = s .hours;
+  enrolled = s .enrolled;
+  units = s .units;
+  notices = s .notices;
+  capacities = s .capacities;
+  standing = s .standing;
+  lodgements = s .lodgements;
+  energies = s .energies;
+  last = s .last;
+  closed = true;
+  cleared = s .cleared;
+  verdicts = vs;
+  figures = s .figures;
+}
+
+abbrev pub closedTurn : Session → List Verdict → Turn
+closedTurn s vs = record { session = closedWith s vs; answer = Done }

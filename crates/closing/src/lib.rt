@@ -3,11 +3,15 @@ ghost use mathlib.Core.Path.{_≡_};
 ghost use Rattle.rules.specs.DayBook.{close};
 ghost use Rattle.session.specs.Steps.{Met};
 ghost use Rattle.session.specs.Parts.{Within, Entered};
+ghost use Rattle.closing.specs.Passes.{closedTurn};
+use ceilings::ceilings_of;
+use holders::holders_of;
 use loads::loads_of;
 use session::Answer;
 use session::GATE;
 use session::Session;
 use session::Turn;
+use session::Verdict;
 use session::no_verdict;
 use turns::DEFAULT;
 use turns::NORMAL;
@@ -16,19 +20,33 @@ use turns::pass;
 
 mod turns;
 
-// "normal executions, default executions, offers"
-fn give_verdicts(s: Session) -> Turn
+// The verdicts of the standing lodgements: "normal executions, default executions, offers". It is all that closing changes
+// beside the mark.
+pub fn verdicts(s: Session) -> [Verdict; 128]
     requires { ⌜ Within s ⌝ }
-    ensures { λ r. ⌜ Entered s close r ⌝ }
+    ensures { λ r. ⌜ Entered s close (closedTurn s r) ⌝ }
 {
     let blank = no_verdict();
     let none = [blank; 128];
     let every = [true; 128];
     let energies = s.energies;
+    let units = s.units;
+    let notices = s.notices;
+    let capacities = s.capacities;
+    let lodgements = s.lodgements;
     let loads = loads_of(&every, s.standing, energies);
-    let normal = pass(s, &loads, NORMAL, none);
-    let executions = pass(s, &loads, DEFAULT, normal);
-    let all = pass(s, &loads, OFFERS, executions);
+    let holders = holders_of(units, s.enrolled, lodgements, s.standing);
+    let mut room = ceilings_of(units, notices, capacities, s.enrolled);
+    let normal = pass(s, &loads, &holders, &mut room, NORMAL, none);
+    let executions = pass(s, &loads, &holders, &mut room, DEFAULT, normal);
+    pass(s, &loads, &holders, &mut room, OFFERS, executions)
+}
+
+fn give_verdicts(s: Session) -> Turn
+    requires { ⌜ Within s ⌝ }
+    ensures { λ r. ⌜ Entered s close r ⌝ }
+{
+    let all = verdicts(s);
     let mut next = s;
     next.verdicts = all;
     next.closed = true;

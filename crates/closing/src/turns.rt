@@ -1,16 +1,18 @@
 // The order of closing: its three turns, and within each the latest number first.
 ghost use mathlib.Core.Path.{_≡_};
 ghost use Prim.Native.Nat.{ℕ, _<_};
-ghost use lib.ListN.{getD};
+ghost use lib.ListN.{getD, length};
 ghost use Rattle.session.specs.Image.{noLodgement};
 ghost use Rattle.session.specs.Parts.{Within};
 ghost use Rattle.validation.specs.Turns.{Loaded};
-ghost use Rattle.closing.specs.Passes.{turnIn, TakesAt, PassesTurn};
+ghost use Rattle.closing.specs.Passes.{turnIn, TakesAt, Held, PassesTurn};
 use keys::is_hidden;
+use room::admits;
 use session::Key;
 use session::Lodgement;
 use session::Session;
 use session::Verdict;
+use validation::accepted;
 use validation::judge_place;
 
 // The turns in which lodgements are taken.
@@ -49,24 +51,37 @@ fn takes(s: Session, turn: u32, l: Lodgement) -> bool
     !is_hidden(lodgements, s.standing, key)
 }
 
-// One turn: "latest number first", each judged with what was accepted before it.
-pub fn pass(s: Session, loads: &[u32; 3200], turn: u32, verdicts: [Verdict; 128]) -> [Verdict; 128]
-    requires { ⌜ Within s × Loaded s (now loads) ⌝ }
-    ensures { λ r. ⌜ PassesTurn s turn verdicts r ⌝ }
+// One turn: "latest number first", each judged with what was accepted before it. One that the room under its unit's ceiling
+// holds passes no limit; another's limit and hour are looked for.
+pub fn pass(
+    s: Session,
+    loads: &[u32; 3200],
+    holders: &[usize; 128],
+    room: &mut [u32; 1625],
+    turn: u32,
+    verdicts: [Verdict; 128],
+) -> [Verdict; 128]
+    requires { ⌜ Within s × Loaded s (now loads) × Held s (now holders) × (length (now room) ≡ 1625) ⌝ }
+    ensures { λ r. ⌜ (length (now (room .exit)) ≡ 1625) × PassesTurn s turn verdicts (now (room .entry)) r (now (room .exit)) ⌝ }
 {
     let mut given = verdicts;
     let lodgements = s.lodgements;
-    let energies = s.energies;
     let n = s.standing;
+    let hours = s.hours as usize;
     let mut passed = 0usize;
     while passed < n {
         passed += 1;
         let at = n - passed;
         let l = lodgements[at];
         if takes(s, turn, l) {
-            let e = energies[at];
-            let v = judge_place(s, loads, e, given, at);
-            given[at] = v;
+            let p = holders[at];
+            if admits(room, p, loads, at, hours) {
+                let v = accepted();
+                given[at] = v;
+            } else {
+                let v = judge_place(s, loads, given, at);
+                given[at] = v;
+            }
         }
     }
     given

@@ -38,6 +38,14 @@ rows-load H own f g e (l ∷ ls) =
     ap₂ (λ (h : ℕ) (rs : List Row). record { number = l .number; hour = h; applies = not (eqb h 0) } ∷ rs)
     (lowest-same (passedAt own f l) (passedAt own g l) H (λ h a b. rw (e h a b))) (rows-load H own f g e ls)
 
+-- and by energies that are
+pub rows-own : (H : ℕ) (own like : List ℕ) (load : ℕ → ℕ) → ((h : ℕ) → 1 ≤ h → h ≤ H → hourly own h ≡ hourly like h) → (ls : List Limit) → limitRows H own load ls ≡ limitRows H like load ls
+unfolding limitRows limitRow passedAt
+rows-own H own like load e [] = refl
+rows-own H own like load e (l ∷ ls) =
+    ap₂ (λ (h : ℕ) (rs : List Row). record { number = l .number; hour = h; applies = not (eqb h 0) } ∷ rs)
+    (lowest-same (passedAt own load l) (passedAt like load l) H (λ h a b. rw (e h a b))) (rows-own H own like load e ls)
+
 module _ (r : Registered) (cs : Capacities) where
   abbrev here : Registered
   here = registeredIn (unitAs (r .unit)) (noticeAs (r .available))

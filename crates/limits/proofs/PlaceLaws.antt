@@ -16,7 +16,7 @@ use Rattle.session.specs.declared.Notice.{Notice}
 use Rattle.session.specs.declared.Judged.{Judged}
 use Rattle.loads.specs.Loads.{marked, energyIn, loadIn, bareEnergies, LoadsOf, energyAtPlace, loadBy}
 use Rattle.limits.specs.Limits.{noticeIn, registeredIn, judgedIn}
-use Rattle.limits.proofs.NoticeLaws.{rows-load}
+use Rattle.limits.proofs.NoticeLaws.{rows-load, rows-own}
 
 -- an array of the energies of all has those of any that are counted
 pub loads-all : (n : ℕ) (bs : List Bool) (es : List Energies) (loads : List ℕ) → length es ≤ n → LoadsOf (replicate n true) es loads → LoadsOf bs es loads
@@ -43,6 +43,15 @@ module _ (loads : List ℕ) (h : ℕ) where
 pub places-asked : (count n hours : ℕ) (ps : List ℕ) → count ≤ n → n ≤ 128 → hours ≤ 25 → length ps ≡ 128 → ((l : ℕ) → l < count → getD ps l 0 < n)
     → (count ≤ 128) × (hours ≤ 25) × (length ps ≡ 128) × ((l : ℕ) → l < count → getD ps l 0 < 128)
 places-asked count n hours ps a b c d f = (omega arith, c, d, λ l i. omega (arith, f l i))
+
+-- energies and loads that are the same in every hour are judged as the same
+pub judged-same : (u : Unit) (notice : Notice) (cs : List Notice) (only : Bool) (H : ℕ) (own like : List ℕ) (f g : ℕ → ℕ)
+    → ((h : ℕ) → 1 ≤ h → h ≤ H → hourly own h ≡ hourly like h) → ((h : ℕ) → 1 ≤ h → h ≤ H → f h ≡ g h)
+    → judgedIn u notice cs only H own f ≡ judgedIn u notice cs only H like g
+unfolding judgedIn
+judged-same u notice cs only H own like f g e k =
+    let ls = judgedBy (map noticeIn cs) (registeredIn u notice) only in
+    ap (λ rows. told (firstRow rows)) (rows-own H own like f e ls ∙ rows-load H like f g k ls)
 
 -- the judgement by places is that by marks
 module _ (u : Unit) (notice : Notice) (cs : List Notice) (only : Bool) (H : ℕ) (own loads ps : List ℕ) (bs : List Bool) (n : ℕ) (es : List Energies) where

@@ -21,9 +21,9 @@ const AVAILABLE: u32 = 11;
 const BORDER: u32 = 12;
 
 // Limit 12 by hour, where it applies.
-struct BorderLimit {
-    applies: bool,
-    energies: [u64; 25],
+pub struct BorderLimit {
+    pub applies: bool,
+    pub energies: [u64; 25],
 }
 
 // Limit 10 by hour: the unit's maximum in each.
@@ -83,7 +83,7 @@ fn no_limit() -> BorderLimit
 }
 
 // Limit 12 by hour: "at a border with both directions published, the sum of the two capacities".
-fn border_limit(border: u32, capacities: [Notice; 8]) -> BorderLimit
+pub fn border_limit(border: u32, capacities: [Notice; 8]) -> BorderLimit
     ensures { λ r. ⌜ ((h : ℕ) → borderAt r h ≡ borderSum (map noticeIn capacities) border h) ⌝ }
 {
     if border == 0 {

@@ -1,5 +1,5 @@
 -- The verdict of the lodgement at a place is the book's.
-use Prim.Native.Nat.{ℕ, _+_, _≤_, _<_}
+use Prim.Native.Nat.{ℕ, _+_, _-_, _*_, _≤_, _<_}
 use mathlib.Core.Path.{_≡_, refl, sym, ap, fun-ext, _∙_}
 use mathlib.Core.Bool.{Bool, true, false, not, _&&_}
 use mathlib.Core.List.{List, map}
@@ -30,15 +30,15 @@ use Rattle.session.specs.declared.Verdict.{Verdict}
 use Rattle.session.specs.declared.Judged.{Judged}
 use Rattle.session.proofs.ImageLaws.{standing-as, hours-as, capacities-as, energies-as, registered-as, unit-as, notice-as}
 use Rattle.session.proofs.PlaceLaws.{placed, getD-map}
-use Rattle.loads.specs.Loads.{marked, loadIn, bareEnergies, LoadsOf, loadBy}
+use Rattle.loads.specs.Loads.{marked, energyIn, loadIn, bareEnergies, LoadsOf, loadBy}
 use Rattle.limits.specs.Limits.{judgedIn}
 use Rattle.limits.proofs.NoticeLaws.{judged-as}
 use Rattle.loads.proofs.MarkLaws.{load-keep}
-use Rattle.limits.proofs.PlaceLaws.{loads-all, judged-places}
+use Rattle.limits.proofs.PlaceLaws.{loads-all, judged-places, judged-same}
 use Rattle.validation.specs.Turns.{beyond, standingAt, verdictAt, isTaken, verdictSoFar, Reached, Loaded, JudgesAt, countsOn, countsAt, verdictBy}
 use Rattle.validation.proofs.CountLaws.{length-from, places-at, counted-as}
 use Rattle.validation.proofs.TurnLaws.{passed-before, verdict-at}
-use Rattle.validation.proofs.StandingLaws.{stands, lodgement-at, energies-at}
+use Rattle.validation.proofs.StandingLaws.{stands, lodgement-at, energies-at, loaded-at}
 
 -- a judgement by the limits, as a verdict
 told-verdict : (o : Option Row) → verdictBy (told o) ≡ verdictAs (C.verdictOfRow o)
@@ -117,12 +117,15 @@ module _ (s : Session) (vs : List Verdict) (i : ℕ) (h : i < s .standing) (dl :
   unit-here : (b : Book) → s ≡ image b → unitHere ≡ standingAt b i .key .unit
   unit-here b e = ap (λ (l : Lodgement). l .key .unit) (lodgement-at s b e i h dl)
 
+  -- no call leaves a lodgement without its unit
+  pub unit-placed : (b : Book) → Sound b → s ≡ image b → placeOf (numberIs unitHere) (take (s .enrolled) (s .units)) < s .enrolled
+  unit-placed b sound e =
+      let m : any (numberIs unitHere) (take (s .enrolled) (s .units)) ≡ true = sym (registered-as s b e unitHere) ∙ ap (U.isRegistered (b .units)) (unit-here b e) ∙ all-at i beyond (sound .ranges .standing .holders) (stands s b e i h) .registered in
+      omega (arith, placed (numberIs unitHere) (take (s .enrolled) (s .units)) m, length-take (s .enrolled) (s .units))
+
   module _ (p : ℕ) (at : p ≡ placeOf (numberIs unitHere) (take (s .enrolled) (s .units))) where
-    -- no call leaves a lodgement without its unit
     pub judge-absent : (v : Verdict) → s .enrolled ≤ p → JudgesAt s vs i v
-    judge-absent v k b turn sound e r t =
-        let m : any (numberIs unitHere) (take (s .enrolled) (s .units)) ≡ true = sym (registered-as s b e unitHere) ∙ ap (U.isRegistered (b .units)) (unit-here b e) ∙ all-at i beyond (sound .ranges .standing .holders) (stands s b e i h) .registered in
-        absurd (omega (arith, placed (numberIs unitHere) (take (s .enrolled) (s .units)) m, length-take (s .enrolled) (s .units)))
+    judge-absent v k b turn sound e r t = absurd (omega (arith, unit-placed b sound e))
 
     pub judge-given : (de : Energies) (du : Unit) (dn : Notice) (ms : List Bool) (j : Judged) (v : Verdict) → p < s .enrolled
         → ms ≡ map (countsAt unitHere vs (s .lodgements)) (from 0 128)
@@ -136,17 +139,27 @@ module _ (s : Session) (vs : List Verdict) (i : ℕ) (h : i < s .standing) (dl :
         (unit-as s b e (standingAt b i .key .unit) p here k du) (notice-as s b e (standingAt b i .key .unit) p here k dn) (ap (λ (x : Energies). x .energies) (energies-at s b e i h de)))
 
     -- and with the energies lent, by the places of those that are counted
-    pub judge-lent : (du : Unit) (dn : Notice) (own : Energies) (ms : List Bool) (loads ps : List ℕ) (j : Judged) (v : Verdict) → p < s .enrolled
-        → Within s → own ≡ getD (s .energies) i bareEnergies → Loaded s loads
+    pub judge-lent : (du : Unit) (dn : Notice) (own : List ℕ) (ms : List Bool) (loads ps : List ℕ) (j : Judged) (v : Verdict) → p < s .enrolled
+        → Within s → ((x : ℕ) → x < 25 → getD own x 0 ≡ getD loads (i * 25 + x) 0) → Loaded s loads
         → ms ≡ map (countsAt unitHere vs (s .lodgements)) (from 0 128) → ps ≡ marked ms (from 0 (s .standing))
-        → j ≡ judgedIn (getD (s .units) p du) (getD (s .notices) p dn) (s .capacities) false (s .hours) (own .energies) (loadBy (own .energies) loads ps)
+        → j ≡ judgedIn (getD (s .units) p du) (getD (s .notices) p dn) (s .capacities) false (s .hours) own (loadBy own loads ps)
         → v ≡ verdictBy j → JudgesAt s vs i v
+    unfolding hourly loadIn
     judge-lent du dn own ms loads ps j v k w eo lent em ep ej ev =
         judge-given bareEnergies du dn ms j v k em
         (ej
-        ∙ judged-places (getD (s .units) p du) (getD (s .notices) p dn) (s .capacities) false (s .hours) (own .energies) loads ps ms (s .standing) (s .energies) (w .hours) (lent .room) counted ep
-        ∙ ap (λ (x : Energies). judgedIn (getD (s .units) p du) (getD (s .notices) p dn) (s .capacities) false (s .hours) (x .energies) (loadIn (x .energies) ms (take (s .standing) (s .energies)))) eo)
+        ∙ judged-places (getD (s .units) p du) (getD (s .notices) p dn) (s .capacities) false (s .hours) own loads ps ms (s .standing) (s .energies) (w .hours) (lent .room) counted ep
+        ∙ judged-same (getD (s .units) p du) (getD (s .notices) p dn) (s .capacities) false (s .hours) own here (loadIn own ms (take (s .standing) (s .energies))) (loadIn here ms (take (s .standing) (s .energies))) same (λ x a b. load-same x (same x a b)))
         ev
       where
         counted : LoadsOf ms (take (s .standing) (s .energies)) loads
         counted = loads-all 128 ms (take (s .standing) (s .energies)) loads (omega (arith, length-take-le (s .standing) (s .energies) (lent .room), w .standing)) (lent .energies)
+
+        here : List ℕ
+        here = getD (s .energies) i bareEnergies .energies
+
+        same : (x : ℕ) → 1 ≤ x → x ≤ s .hours → hourly own x ≡ hourly here x
+        same x a b = eo (x - 1) (omega (arith, w .hours)) ∙ loaded-at s loads i (x - 1) h (w .standing) lent (omega (arith, w .hours))
+
+        load-same : (x : ℕ) → hourly own x ≡ hourly here x → loadIn own ms (take (s .standing) (s .energies)) x ≡ loadIn here ms (take (s .standing) (s .energies)) x
+        load-same x e = ap (λ n. n + sumOf (energyIn x) (marked ms (take (s .standing) (s .energies)))) e

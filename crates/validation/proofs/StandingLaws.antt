@@ -1,10 +1,11 @@
 -- What the session's arrays show of a standing lodgement and its unit.
-use Prim.Native.Nat.{ℕ, _<_}
+use Prim.Native.Nat.{ℕ, _+_, _*_, _≤_, _<_}
 use mathlib.Core.Path.{_≡_, sym, ap, _∙_}
+use mathlib.Core.Bool.{true, false}
 use mathlib.Core.List.{List}
 use native.Mathlib.Omega.{arith}
-use lib.ListN.{length, getD}
-use lib.Seq.{getD-take}
+use lib.ListN.{length, getD, getD-replicate}
+use lib.Seq.{getD-take, length-take-le}
 use Rattle.rules.specs.Book.{Book}
 use Rattle.session.specs.Image.{image, lodgementAs, energiesAs}
 use Rattle.session.specs.declared.Lodgement.{Lodgement}
@@ -12,7 +13,8 @@ use Rattle.session.specs.declared.Energies.{Energies}
 use Rattle.session.specs.declared.Session.{Session}
 use Rattle.session.proofs.ImageLaws.{standing-as, lodgements-as, energies-as}
 use Rattle.session.proofs.PlaceLaws.{getD-map}
-use Rattle.validation.specs.Turns.{beyond, standingAt}
+use Rattle.loads.specs.Loads.{bareEnergies, LoadsOf}
+use Rattle.validation.specs.Turns.{beyond, standingAt, Loaded}
 
 module _ (s : Session) (b : Book) (e : s ≡ image b) (i : ℕ) (h : i < s .standing) where
   pub stands : i < length (b .standing)
@@ -27,3 +29,10 @@ module _ (s : Session) (b : Book) (e : s ≡ image b) (i : ℕ) (h : i < s .stan
   energies-at d =
       sym (getD-take (s .standing) (s .energies) i d h)
       ∙ (ap (λ (l : List Energies). getD l i d) (energies-as s b e) ∙ getD-map energiesAs beyond d (b .standing) i stands)
+
+-- the energies that are lent
+pub loaded-at : (s : Session) (loads : List ℕ) (i x : ℕ) → i < s .standing → s .standing ≤ 128 → Loaded s loads → x < 25 → getD loads (i * 25 + x) 0 ≡ getD (getD (s .energies) i bareEnergies .energies) x 0
+unfolding LoadsOf
+loaded-at s loads i x h w lent k =
+    lent .energies i x (omega (arith, length-take-le (s .standing) (s .energies) (lent .room))) (getD-replicate 128 i true false (omega arith)) k
+    ∙ ap (λ (e : Energies). getD (e .energies) x 0) (getD-take (s .standing) (s .energies) i bareEnergies h)

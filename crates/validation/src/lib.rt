@@ -1,15 +1,14 @@
 // One lodgement's verdict at closing (document 01, "Closing").
 ghost use mathlib.Core.Path.{_≡_};
 ghost use mathlib.Core.List.{map};
-ghost use Prim.Native.Nat.{_<_};
+ghost use Prim.Native.Nat.{ℕ, _+_, _*_, _<_};
 ghost use Rattle.rules.specs.Lists.{from};
-ghost use lib.ListN.{getD};
+ghost use lib.ListN.{getD, length};
 ghost use Rattle.session.specs.Parts.{Within};
-ghost use Rattle.loads.specs.Loads.{bareEnergies};
+ghost use Rattle.session.specs.declared.Judged.the-variants.{Clear};
 ghost use Rattle.validation.specs.Turns.{Loaded, countsOn, countsAt, verdictBy, JudgesAt};
 use limits::judge_energy;
 use loads::counted_places;
-use session::Energies;
 use session::Judged;
 use session::Lodgement;
 use session::Session;
@@ -59,16 +58,29 @@ fn verdict_by(j: Judged) -> Verdict
     }
 }
 
+// The energies by hour at a place.
+fn energies_at(loads: &[u32; 3200], at: usize) -> [u32; 25]
+    requires { ⌜ at < 128 ⌝ }
+    ensures { λ r. ⌜ (length r ≡ 25) × ((h : ℕ) → h < 25 → getD r h 0 ≡ getD (now (loads .entry)) (at * 25 + h) 0) ⌝ }
+{
+    let mut energies = [0u32; 25];
+    for h in 0..25 {
+        energies[h] = loads[at * 25 + h];
+    }
+    energies
+}
+
+// The verdict of one that no limit refuses.
+pub fn accepted() -> Verdict
+    ensures { λ r. ⌜ r ≡ verdictBy Clear ⌝ }
+{
+    verdict_by(Judged::Clear)
+}
+
 // The verdict of the lodgement at a place: "its energy, plus that of those accepted before it on its unit", against the
-// unit's limits. Its energies are e, and those of all are lent.
-pub fn judge_place(
-    s: Session,
-    loads: &[u32; 3200],
-    e: Energies,
-    verdicts: [Verdict; 128],
-    at: usize,
-) -> Verdict
-    requires { ⌜ Within s × (at < s .standing) × (e ≡ getD (s .energies) at bareEnergies) × Loaded s (now loads) ⌝ }
+// unit's limits. The energies of all are lent.
+pub fn judge_place(s: Session, loads: &[u32; 3200], verdicts: [Verdict; 128], at: usize) -> Verdict
+    requires { ⌜ Within s × (at < s .standing) × Loaded s (now loads) ⌝ }
     ensures { λ r. ⌜ JudgesAt s verdicts at r ⌝ }
 {
     let lodgements = s.lodgements;
@@ -84,7 +96,7 @@ pub fn judge_place(
     let notices = s.notices;
     let notice = notices[p];
     let capacities = s.capacities;
-    let own = e.energies;
+    let own = energies_at(loads, at);
     let counted = accepted_on(unit, verdicts, lodgements);
     let found = counted_places(&counted, s.standing);
     let others = found.at;

@@ -7,43 +7,71 @@ use Rattle.validation.proofs.JudgeLaws.{judge-absent, judge-lent}
 use borrow.Author.Needs.{needs}
 use Rattle.validation.proofs.judge_place.Statement.{statement}
 use Rattle.validation.proofs.judge_place.Tie as tie
+use Rattle.validation.proofs.judge_place.Reads as reads
+use Rattle.validation.proofs.judge_place.Lts as lts
+use Rattle.limits.proofs.judge_energy.Reads as judge-energy-reads
+use Rattle.loads.proofs.counted_places.Reads as counted-places-reads
+use Rattle.session.proofs.no_verdict.Reads as no-verdict-reads
+use Rattle.session.proofs.units.place.Reads as place-reads
+use Rattle.validation.proofs.accepted_on.Reads as accepted-on-reads
+use Rattle.validation.proofs.energies_at.Reads as energies-at-reads
+use Rattle.validation.proofs.verdict_by.Reads as verdict-by-reads
 
+-- src/lib.rt:87:13
 mul-l : tie.Need-mul-l
 mul-l c = search needs
 
+-- src/lib.rt:87:13
 array-copy-out-l : tie.Need-array-copy-out-l
 array-copy-out-l c = search needs
 
+-- src/lib.rt:90:9
 place-requires : tie.Need-place-requires
 place-requires c κs = search needs
 
+-- src/lib.rt:93:9
 no-verdict-requires : tie.Need-no-verdict-requires
 no-verdict-requires c κs = search needs
 
+-- src/lib.rt:93:9
 returns : tie.Need-returns
-returns c = judge-absent (c .before .before .before .before .before .before .before .args .s) (c .before .before .before .before .before .before .before .args .verdicts) (c .before .before .before .before .before .before .before .args .at) (omega arith) noLodgement (c .before .before .before .place .result) (c .before .before .before .place .ensures .0) (c .no-verdict .result) (omega arith)
+returns c =
+    let a = c .before .before .before .before .before .before .before .args in
+    judge-absent (a .s) (a .verdicts) (a .at) (omega arith) noLodgement (c .before .before .before .place .result) (c .before .before .before .place .ensures .0) (c .no-verdict .result) (omega arith)
 
+-- src/lib.rt:95:13
 mul-u : tie.Need-mul-u
 mul-u c = search needs
 
+-- src/lib.rt:95:13
 array-copy-out-u : tie.Need-array-copy-out-u
 array-copy-out-u c = search needs
 
+-- src/lib.rt:97:18
 mul-notice : tie.Need-mul-notice
 mul-notice c = search needs
 
+-- src/lib.rt:97:18
 array-copy-out-notice : tie.Need-array-copy-out-notice
 array-copy-out-notice c = search needs
 
+-- src/lib.rt:99:9
+energies-at-requires : tie.Need-energies-at-requires
+energies-at-requires c κs = search needs
+
+-- src/lib.rt:100:19
 accepted-on-requires : tie.Need-accepted-on-requires
 accepted-on-requires c κs = search needs
 
+-- src/lib.rt:101:9
 counted-places-requires : tie.Need-counted-places-requires
 counted-places-requires c κs = search needs
 
+-- src/lib.rt:103:17
 cast-hours : tie.Need-cast-hours
 cast-hours c = search needs
 
+-- src/lib.rt:104:9
 judge-energy-requires : tie.Need-judge-energy-requires
 judge-energy-requires c κs =
     let s = c .before .before .before .before .before .before .before .before .before .before .before .before .before .before .before .before .before .args .s in
@@ -51,17 +79,20 @@ judge-energy-requires c κs =
     let r = c .before .before .before .counted-places in
     places-asked (r .result .count) (s .standing) (s .hours) (r .result .at) (r .ensures .0) (w .standing) (w .hours) (r .ensures .2) (r .ensures .3)
 
+-- src/lib.rt:115:5
 verdict-by-requires : tie.Need-verdict-by-requires
 verdict-by-requires c κs = search needs
 
+-- src/lib.rt:82:1
 returns-2 : tie.Need-returns-2
 returns-2 c =
     let a = c .before .before .before .before .before .before .before .before .before .before .before .before .before .before .before .before .before .before .before .args in
     let q = c .before .before .before .before .before .before .before .before .before .before .before .before .before .before .before .before .before .before .before .pre in
     let at = c .before .before .before .before .before .before .before .before .before .before .before .before .before .before .before .place in
     let marks = c .before .before .before .before .before .before .before .accepted-on in
-    judge-lent (a .s) (a .verdicts) (a .at) (q .1) noLodgement (at .result) (at .ensures .0) noUnit (record { given = false; energies = [] }) (a .e) (marks .result) (a .loads .now) _ (c .before .judge-energy .result) (c .verdict-by .result)
-    (c .before .before .before .before .before .before .before .before .before .before .before .before .before .if1 .left) (q .0) (q .2) (q .3) (marks .ensures) (c .before .before .before .before .before .counted-places .ensures .1) (c .before .judge-energy .ensures) (c .verdict-by .ensures)
+    let own = c .before .before .before .before .before .before .before .before .energies-at in
+    judge-lent (a .s) (a .verdicts) (a .at) (q .1) noLodgement (at .result) (at .ensures .0) noUnit (record { given = false; energies = [] }) (own .result) (marks .result) (a .loads .now) _ (c .before .judge-energy .result) (c .verdict-by .result)
+    (c .before .before .before .before .before .before .before .before .before .before .before .before .before .if1 .left) (q .0) (own .ensures .1) (q .2) (marks .ensures) (c .before .before .before .before .before .counted-places .ensures .1) (c .before .judge-energy .ensures) (c .verdict-by .ensures)
 
 pub judge-place-spec : {M : Type 1} → statement M
 judge-place-spec =
@@ -76,6 +107,7 @@ judge-place-spec =
     array-copy-out-u
     mul-notice
     array-copy-out-notice
+    energies-at-requires
     accepted-on-requires
     counted-places-requires
     cast-hours

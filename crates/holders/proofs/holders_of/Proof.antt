@@ -1,0 +1,90 @@
+use Prim.Native.Nat.{ℕ, _-_, _≤_, _<_}
+use mathlib.Core.Path.{_≡_, refl, _∙_}
+use native.Mathlib.Omega.{arith}
+use lib.ListN.{length, length-set, getD}
+use Rattle.loads.proofs.LoadLaws.{written-next}
+use Rattle.holders.proofs.HolderLaws.{foundAt, found-as, most-start, most-set}
+use borrow.Author.Needs.{needs}
+use Rattle.holders.proofs.holders_of.Statement.{statement}
+use Rattle.holders.proofs.holders_of.Tie as tie
+use Rattle.holders.proofs.holders_of.Reads as reads
+use Rattle.holders.proofs.holders_of.Lts as lts
+use Rattle.holders.proofs.firsts_of.Reads as firsts-of-reads
+use Rattle.holders.proofs.numbers_of.Reads as numbers-of-reads
+use Rattle.holders.proofs.place_by.Reads as place-by-reads
+
+abbrev Inv-loop : tie.InvT-loop
+Inv-loop n m lodgements numbers firsts holders₀ j₀ holders j = (j ≤ m) × (length holders ≡ 128) × ((k : ℕ) → k < j → getD holders k 0 ≡ foundAt numbers n lodgements k) × ((k : ℕ) → getD holders k 0 ≤ n)
+
+abbrev μ-loop : tie.MeasureT-loop
+μ-loop n m lodgements numbers firsts holders₀ j₀ holders j = m - j
+
+-- src/lib.rt:78:19
+numbers-of-requires : tie.Need-numbers-of-requires Inv-loop μ-loop
+numbers-of-requires c κs = search needs
+
+-- src/lib.rt:79:18
+firsts-of-requires : tie.Need-firsts-of-requires Inv-loop μ-loop
+firsts-of-requires c κs = search needs
+
+-- src/lib.rt:81:5
+loop-holds : tie.Need-loop-holds Inv-loop μ-loop
+loop-holds c = (omega arith, refl, λ k i. absurd (omega arith), most-start _ 128)
+
+-- src/lib.rt:82:17
+mul-l : tie.Need-mul-l Inv-loop μ-loop
+mul-l c = search needs
+
+-- src/lib.rt:82:17
+array-copy-out-l : tie.Need-array-copy-out-l Inv-loop μ-loop
+array-copy-out-l c = search needs
+
+-- src/lib.rt:83:22
+place-by-requires : tie.Need-place-by-requires Inv-loop μ-loop
+place-by-requires c κs = search needs
+
+-- src/lib.rt:83:9
+mul-holders : tie.Need-mul-holders Inv-loop μ-loop
+mul-holders c = search needs
+
+-- src/lib.rt:83:9
+array-write-holders : tie.Need-array-write-holders Inv-loop μ-loop
+array-write-holders c = search needs
+
+-- src/lib.rt:81:9
+add-j : tie.Need-add-j Inv-loop μ-loop
+add-j c = search needs
+
+-- src/lib.rt:81:5
+loop-less : tie.Need-loop-less Inv-loop μ-loop
+loop-less c = search needs
+
+-- src/lib.rt:81:5
+loop-again : tie.Need-loop-again Inv-loop μ-loop
+unfolding foundAt
+loop-again c =
+    let s = c .before .before .before .before .before .loop in
+    (omega arith, (simp length-set) ∙ s .inv .1, written-next (foundAt (c .before .before .before .before .before .before .before .before .numbers-of .result) (c .before .before .before .before .before .before .before .before .before .args .n) (c .before .before .before .before .before .before .before .before .before .args .t3)) (s .holders) (s .j) (c .place-by .result) (omega arith) (c .place-by .ensures .0) (s .inv .2), most-set _ (s .holders) (s .j) (c .place-by .result) (omega arith) (c .place-by .ensures .1) (s .inv .3))
+
+-- src/lib.rt:69:1
+returns : tie.Need-returns Inv-loop μ-loop
+returns c = (λ j i. c .before .loop .inv .2 j (omega arith) ∙ found-as (c .before .before .before .before .before .args .units) _ _ j _ (c .before .before .before .before .numbers-of .ensures), c .before .loop .inv .3)
+
+pub holders-of-spec : {M : Type 1} → statement M
+holders-of-spec =
+    tie.close
+    (tie.spec
+    Inv-loop
+    μ-loop
+    numbers-of-requires
+    firsts-of-requires
+    loop-holds
+    mul-l
+    array-copy-out-l
+    place-by-requires
+    mul-holders
+    array-write-holders
+    add-j
+    loop-less
+    loop-again
+    returns)

@@ -1,0 +1,74 @@
+use Prim.Native.Nat.{_-_, _≤_}
+use mathlib.Core.Path.{_≡_, refl, _∙_}
+use mathlib.Core.List.{map}
+use native.Mathlib.Omega.{arith}
+use lib.ListN.{length, length-set, take}
+use Rattle.session.specs.Image.{noUnit}
+use Rattle.session.proofs.LaidLaws.{fill-next, fill-end}
+use Rattle.holders.specs.Holders.{numberOf}
+use borrow.Author.Needs.{needs}
+use Rattle.holders.proofs.numbers_of.Statement.{statement}
+use Rattle.holders.proofs.numbers_of.Tie as tie
+use Rattle.holders.proofs.numbers_of.Reads as reads
+use Rattle.holders.proofs.numbers_of.Lts as lts
+
+abbrev Inv-loop : tie.InvT-loop
+Inv-loop units numbers₀ i₀ numbers i = (i ≤ 64) × (length numbers ≡ 64) × (take i numbers ≡ map numberOf (take i units))
+
+abbrev μ-loop : tie.MeasureT-loop
+μ-loop units numbers₀ i₀ numbers i = 64 - i
+
+-- src/lib.rt:16:5
+loop-holds : tie.Need-loop-holds Inv-loop μ-loop
+loop-holds c = (omega arith, refl, refl)
+
+-- src/lib.rt:17:17
+mul-u : tie.Need-mul-u Inv-loop μ-loop
+mul-u c = search needs
+
+-- src/lib.rt:17:17
+array-copy-out-u : tie.Need-array-copy-out-u Inv-loop μ-loop
+array-copy-out-u c = search needs
+
+-- src/lib.rt:18:9
+mul-numbers : tie.Need-mul-numbers Inv-loop μ-loop
+mul-numbers c = search needs
+
+-- src/lib.rt:18:9
+array-write-numbers : tie.Need-array-write-numbers Inv-loop μ-loop
+array-write-numbers c = search needs
+
+-- src/lib.rt:16:9
+add-i : tie.Need-add-i Inv-loop μ-loop
+add-i c = search needs
+
+-- src/lib.rt:16:5
+loop-less : tie.Need-loop-less Inv-loop μ-loop
+loop-less c = search needs
+
+-- src/lib.rt:16:5
+loop-again : tie.Need-loop-again Inv-loop μ-loop
+unfolding numberOf
+loop-again c =
+    let s = c .before .before .loop in
+    (omega arith, (simp length-set) ∙ s .inv .1, fill-next numberOf noUnit (c .before .before .before .args .t1) (s .numbers) (s .i) (omega arith) (omega arith) (s .inv .2))
+
+-- src/lib.rt:12:1
+returns : tie.Need-returns Inv-loop μ-loop
+returns c = fill-end numberOf _ _ (c .before .loop .i) (omega arith) (omega arith) (c .before .loop .inv .2)
+
+pub numbers-of-spec : {M : Type 1} → statement M
+numbers-of-spec =
+    tie.close
+    (tie.spec
+    Inv-loop
+    μ-loop
+    loop-holds
+    mul-u
+    array-copy-out-u
+    mul-numbers
+    array-write-numbers
+    add-i
+    loop-less
+    loop-again
+    returns)

@@ -1,0 +1,68 @@
+use Prim.Native.Nat.{_-_, _≤_}
+use mathlib.Core.Path.{_≡_, sym, _∙_}
+use native.Mathlib.Omega.{arith}
+use lib.ListN.{take}
+use borrow.Author.Tests.{eq-eqb, ne-eqb}
+use Rattle.session.specs.Parts.{placeOf}
+use Rattle.session.proofs.PlaceLaws.{reach, reach-start, reach-here, reach-next, reach-end}
+use Rattle.holders.specs.Holders.{isNumber}
+use borrow.Author.Needs.{needs}
+use Rattle.holders.proofs.place_in.Statement.{statement}
+use Rattle.holders.proofs.place_in.Tie as tie
+use Rattle.holders.proofs.place_in.Reads as reads
+use Rattle.holders.proofs.place_in.Lts as lts
+
+abbrev Inv-loop : tie.InvT-loop
+Inv-loop numbers n number i₀ i = (i ≤ n) × (reach (isNumber number) numbers n i ≡ placeOf (isNumber number) (take n numbers))
+
+abbrev μ-loop : tie.MeasureT-loop
+μ-loop numbers n number i₀ i = n - i
+
+-- src/lib.rt:28:5
+loop-holds : tie.Need-loop-holds Inv-loop μ-loop
+loop-holds c = (omega arith, reach-start _ _ _)
+
+-- src/lib.rt:29:12
+mul-if1 : tie.Need-mul-if1 Inv-loop μ-loop
+mul-if1 c = search needs
+
+-- src/lib.rt:29:12
+element-copy-out-if1 : tie.Need-element-copy-out-if1 Inv-loop μ-loop
+element-copy-out-if1 c = search needs
+
+-- src/lib.rt:30:13
+returns : tie.Need-returns Inv-loop μ-loop
+unfolding isNumber
+returns c = (sym (reach-here _ 0 _ _ _ (omega arith) (omega arith) (eq-eqb _ _ (c .if1 .taken))) ∙ c .before .before .before .loop .inv .1, omega arith)
+
+-- src/lib.rt:28:9
+add-i : tie.Need-add-i Inv-loop μ-loop
+add-i c = search needs
+
+-- src/lib.rt:28:5
+loop-less : tie.Need-loop-less Inv-loop μ-loop
+loop-less c = search needs
+
+-- src/lib.rt:28:5
+loop-again : tie.Need-loop-again Inv-loop μ-loop
+unfolding isNumber
+loop-again c = (omega arith, sym (reach-next _ 0 _ _ _ (omega arith) (omega arith) (ne-eqb _ _ (c .if1 .left))) ∙ c .before .before .before .loop .inv .1)
+
+-- src/lib.rt:24:1
+returns-2 : tie.Need-returns-2 Inv-loop μ-loop
+returns-2 c = (sym (reach-end _ _ _ _ (omega arith) (omega arith)) ∙ c .before .loop .inv .1, omega arith)
+
+pub place-in-spec : {M : Type 1} → statement M
+place-in-spec =
+    tie.close
+    (tie.spec
+    Inv-loop
+    μ-loop
+    loop-holds
+    mul-if1
+    element-copy-out-if1
+    returns
+    add-i
+    loop-less
+    loop-again
+    returns-2)
