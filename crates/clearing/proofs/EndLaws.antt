@@ -37,6 +37,7 @@ use Rattle.session.specs.declared.Answer.the-variants.{Steps}
 use Rattle.session.specs.Laid.{pad}
 use Rattle.session.specs.Image as I
 use Rattle.session.specs.Steps.{said, isRefusal}
+use Rattle.session.specs.Changes.{withFigures}
 use Rattle.session.specs.Parts.{Judges, Entered}
 use Rattle.session.proofs.LaidLaws.{map-last, set-pad}
 use Rattle.session.proofs.ImageLaws.{closed-as, cleared-as, hours-as, units-as}
@@ -136,25 +137,6 @@ module _ (s : Session) where
   unfolding D.rowsOf row firstRow
   clear-0 h k b e = rw (closed-as s b e, h, cleared-as s b e, k)
 
--- a session with its figures
-abbrev pub withFigures : Session → List Cleared → Session
-withFigures s figures = record {
-  date = s .date;
-  hours = s .hours;
-  enrolled = s .enrolled;
-  units = s .units;
-  notices = s .notices;
-  capacities = s .capacities;
-  standing = s .standing;
-  lodgements = s .lodgements;
-  energies = s .energies;
-  last = s .last;
-  closed = s .closed;
-  cleared = true;
-  verdicts = s .verdicts;
-  figures = figures;
-}
-
 module _ (b : B.Book) (o : firstRow (D.rowsOf b D.clear) ≡ nothing) where
   closed-now : b .closed ≡ true
   unfolding D.rowsOf row
@@ -182,7 +164,7 @@ module _ (b : B.Book) (o : firstRow (D.rowsOf b D.clear) ≡ nothing) where
   all-figures [] = refl
   all-figures (h ∷ hs) = ap₂ (λ x xs. x ∷ xs) (sym (same-figures h)) (all-figures hs)
 
-  cleared-image : (figures : List Cleared) → figures ≡ pad 25 I.noFigures (map (I.figuresAs b) (from 1 (B.hours b))) → withFigures (I.image b) figures ≡ I.image (D.applied b D.clear)
+  cleared-image : (figures : List Cleared) → figures ≡ pad 25 I.noFigures (map (I.figuresAs b) (from 1 (B.hours b))) → withFigures (I.image b) true figures ≡ I.image (D.applied b D.clear)
   unfolding I.image I.hoursIn D.applied D.withStage B.hours
   cleared-image figures e =
       ap₂ (λ vs fs. record {
@@ -206,7 +188,7 @@ day-steps : (b : B.Book) (n : ℕ) → n ≡ sumOf (λ h. R.figuresAt b h .steps
 unfolding D.reply R.daySteps R.figuresAt
 day-steps b n e = ap D.steps e
 
-pub clear-entered : (s : Session) (figures : List Cleared) (steps : ℕ) → HoursAs s (s .hours) figures steps → Entered s D.clear (record { session = withFigures s figures; answer = Steps steps })
+pub clear-entered : (s : Session) (figures : List Cleared) (steps : ℕ) → HoursAs s (s .hours) figures steps → Entered s D.clear (record { session = withFigures s true figures; answer = Steps steps })
 unfolding said isRefusal
 clear-entered s figures steps d = record {
   book = λ b sound o e.
@@ -214,7 +196,7 @@ clear-entered s figures steps d = record {
       let n = hours-as s b e in
       record {
         answer = day-steps b steps (g .1 ∙ ap (λ k. sumOf (λ h. R.figuresAt b h .steps) (from 1 k)) (sym n));
-        session = ap (λ (x : Session). withFigures x figures) e ∙ cleared-image b o figures (g .0 ∙ ap (λ k. pad 25 I.noFigures (map (I.figuresAs b) (from 1 k))) (sym n));
+        session = ap (λ (x : Session). withFigures x true figures) e ∙ cleared-image b o figures (g .0 ∙ ap (λ k. pad 25 I.noFigures (map (I.figuresAs b) (from 1 k))) (sym n));
       };
   fine = refl;
 }

@@ -3,15 +3,19 @@ ghost use Prim.Native.Nat.{_<_};
 ghost use Rattle.rules.specs.DayBook.{clear};
 ghost use Rattle.session.specs.Steps.{Met};
 ghost use Rattle.session.specs.Parts.{Within, Judges, Entered};
+ghost use Rattle.session.specs.Changes.{clearingTurn};
 ghost use Rattle.gathering.specs.Built.{Holders};
 ghost use Rattle.clearing.specs.Hours.{HourAs, HoursAs};
 use session::Answer;
 use session::Cleared;
+use session::ClearingTurn;
 use session::GATE;
 use session::Judged;
 use session::Session;
 use session::Turn;
 use session::Unit;
+use session::changes::clearing_refused;
+use session::changes::with_clearing;
 
 // An hour's withdrawal steps and figures.
 pub struct HourEnd {
@@ -75,18 +79,30 @@ fn judge_clear(s: Session) -> Judged
 }
 
 // "clearing gives the figures of Queries by the rules above and answers the step count"
-fn enter_clear(s: Session) -> Turn
+fn enter_clear(s: Session) -> ClearingTurn
     requires { ⌜ Within s ⌝ }
-    ensures { λ r. ⌜ Entered s clear r ⌝ }
+    ensures { λ r. ⌜ Entered s clear (clearingTurn s r) ⌝ }
 {
     let d = clear_hours(s);
     let figures = d.figures;
-    let mut next = s;
-    next.figures = figures;
-    next.cleared = true;
-    Turn {
-        session: next,
+    ClearingTurn {
+        figures: figures,
+        cleared: true,
         answer: Answer::Steps(d.steps),
+    }
+}
+
+// What clearing changes: 2.
+pub fn clear_change(s: Session) -> ClearingTurn
+    ensures { λ r. ⌜ Met s clear (clearingTurn s r) ⌝ }
+{
+    if !s.sound() {
+        return clearing_refused(s, GATE, 0);
+    }
+    let j = judge_clear(s);
+    match j {
+        Judged::No(number, hour) => clearing_refused(s, number, hour),
+        Judged::Clear => enter_clear(s),
     }
 }
 
@@ -94,12 +110,6 @@ fn enter_clear(s: Session) -> Turn
 pub fn clear(s: Session) -> Turn
     ensures { λ r. ⌜ Met s clear r ⌝ }
 {
-    if !s.sound() {
-        return s.refused(GATE, 0);
-    }
-    let j = judge_clear(s);
-    match j {
-        Judged::No(number, hour) => s.refused(number, hour),
-        Judged::Clear => enter_clear(s),
-    }
+    let t = clear_change(s);
+    with_clearing(s, t)
 }

@@ -12,6 +12,7 @@ use Rattle.rules.proofs.BookLaws.{stage-judgements}
 use Rattle.session.specs.Laid.{pad}
 use Rattle.session.specs.Image.{image, verdictAs, noVerdict, verdictsIn, hoursIn}
 use Rattle.session.specs.Steps.{said, isRefusal}
+use Rattle.session.specs.Changes.{withVerdicts}
 use Rattle.session.specs.Parts.{Within, Judges, Entered}
 use Rattle.session.specs.declared.Session.{Session}
 use Rattle.session.specs.declared.Verdict.{Verdict}
@@ -20,7 +21,7 @@ use Rattle.session.proofs.ImageLaws.{closed-as, standing-as}
 use Rattle.session.proofs.SoundLaws.{open-stage}
 use Rattle.session.proofs.StepLaws.{open-row}
 use Rattle.ceilings.specs.Ceilings.{ceilingAt}
-use Rattle.closing.specs.Passes.{PassesTurn, closedWith, closedTurn}
+use Rattle.closing.specs.Passes.{PassesTurn, closedTurn}
 use Rattle.validation.proofs.TurnLaws.{reached-first, reached-next, reached-end}
 use Rattle.closing.proofs.RoomLaws.{kept-start}
 
@@ -39,13 +40,13 @@ stage-verdicts : (b : Book) → C.verdicts (D.withStage b true (b .cleared)) ≡
 unfolding C.verdicts D.withStage
 stage-verdicts b = ap (λ js. map (λ l. C.verdictAmong js (l .number)) (b .standing)) (stage-judgements b true (b .cleared))
 
-stage-image : (b : Book) → b .cleared ≡ false → closedWith (image b) (pad 128 noVerdict (map verdictAs (C.verdicts (D.withStage b true (b .cleared))))) ≡ image (D.withStage b true (b .cleared))
+stage-image : (b : Book) → b .cleared ≡ false → withVerdicts (image b) true (pad 128 noVerdict (map verdictAs (C.verdicts (D.withStage b true (b .cleared))))) ≡ image (D.withStage b true (b .cleared))
 unfolding image verdictsIn hoursIn D.withStage hours
 stage-image b c = rw c
 
-close-image : (b : Book) → b .cleared ≡ false → closedWith (image b) (pad 128 noVerdict (map verdictAs (C.verdicts b))) ≡ image (D.applied b D.close)
+close-image : (b : Book) → b .cleared ≡ false → withVerdicts (image b) true (pad 128 noVerdict (map verdictAs (C.verdicts b))) ≡ image (D.applied b D.close)
 unfolding D.applied
-close-image b c = ap (λ vs. closedWith (image b) (pad 128 noVerdict (map verdictAs vs))) (sym (stage-verdicts b)) ∙ stage-image b c
+close-image b c = ap (λ vs. withVerdicts (image b) true (pad 128 noVerdict (map verdictAs vs))) (sym (stage-verdicts b)) ∙ stage-image b c
 
 pub close-entered : (s : Session) (none : Verdict) (xs ys zs : List Verdict) (room rest last end : List ℕ) → Within s → none ≡ noVerdict
     → ((p h : ℕ) → p < s .enrolled → h < 25 → getD room (p * 25 + h) 0 ≡ ceilingAt (s .units) (s .notices) (s .capacities) p h)

@@ -8,6 +8,7 @@ use Rattle.rules.specs.Lists.{from, sumOf}
 use Rattle.rules.specs.Book.{Book}
 use Rattle.session.specs.Image.{image, Sound}
 use Rattle.session.specs.Parts.{numberIs, placeOf}
+use Rattle.session.specs.Changes.{withVerdicts}
 use Rattle.session.specs.declared.Key.{Key}
 use Rattle.session.specs.declared.Verdict.{Verdict}
 use Rattle.session.specs.declared.Session.{Session}
@@ -53,23 +54,5 @@ abbrev pub PassesTurn : Session → ℕ → List Verdict → List ℕ → List V
 PassesTurn s turn vs room r rest = (b : Book) → Sound b → s ≡ image b → Along s b turn (s .standing) vs room → Along s b turn 0 r rest
 
 -- the session once closed
-abbrev pub closedWith : Session → List Verdict → Session
-closedWith s vs = record {
-  date = s .date;
-  hours = s .hours;
-  enrolled = s .enrolled;
-  units = s .units;
-  notices = s .notices;
-  capacities = s .capacities;
-  standing = s .standing;
-  lodgements = s .lodgements;
-  energies = s .energies;
-  last = s .last;
-  closed = true;
-  cleared = s .cleared;
-  verdicts = vs;
-  figures = s .figures;
-}
-
 abbrev pub closedTurn : Session → List Verdict → Turn
-closedTurn s vs = record { session = closedWith s vs; answer = Done }
+closedTurn s vs = record { session = withVerdicts s true vs; answer = Done }

@@ -3,15 +3,19 @@ ghost use mathlib.Core.Path.{_≡_};
 ghost use Rattle.rules.specs.DayBook.{close};
 ghost use Rattle.session.specs.Steps.{Met};
 ghost use Rattle.session.specs.Parts.{Within, Entered};
+ghost use Rattle.session.specs.Changes.{closingTurn};
 ghost use Rattle.closing.specs.Passes.{closedTurn};
 use ceilings::ceilings_of;
 use holders::holders_of;
 use loads::loads_of;
 use session::Answer;
+use session::ClosingTurn;
 use session::GATE;
 use session::Session;
 use session::Turn;
 use session::Verdict;
+use session::changes::closing_refused;
+use session::changes::with_closing;
 use session::no_verdict;
 use turns::DEFAULT;
 use turns::NORMAL;
@@ -42,16 +46,20 @@ pub fn verdicts(s: Session) -> [Verdict; 128]
     pass(s, &loads, &holders, &mut room, OFFERS, executions)
 }
 
-fn give_verdicts(s: Session) -> Turn
-    requires { ⌜ Within s ⌝ }
-    ensures { λ r. ⌜ Entered s close r ⌝ }
+// What closing changes: 2.
+pub fn close_change(s: Session) -> ClosingTurn
+    ensures { λ r. ⌜ Met s close (closingTurn s r) ⌝ }
 {
+    if !s.sound() {
+        return closing_refused(s, GATE, 0);
+    }
+    if s.closed {
+        return closing_refused(s, GATE, 0);
+    }
     let all = verdicts(s);
-    let mut next = s;
-    next.verdicts = all;
-    next.closed = true;
-    Turn {
-        session: next,
+    ClosingTurn {
+        verdicts: all,
+        closed: true,
         answer: Answer::Done,
     }
 }
@@ -60,11 +68,6 @@ fn give_verdicts(s: Session) -> Turn
 pub fn close(s: Session) -> Turn
     ensures { λ r. ⌜ Met s close r ⌝ }
 {
-    if !s.sound() {
-        return s.refused(GATE, 0);
-    }
-    if s.closed {
-        return s.refused(GATE, 0);
-    }
-    give_verdicts(s)
+    let t = close_change(s);
+    with_closing(s, t)
 }

@@ -1,52 +1,15 @@
-use mathlib.Core.Path.{sym, _∙_}
-use borrow.Author.Tests.{not-true, not-false}
-use Rattle.session.proofs.ImageLaws.{guarded}
-use Rattle.session.proofs.StepLaws.{out-unsound, out-refused, out-entered}
 use borrow.Author.Needs.{needs}
 use Rattle.clearing.proofs.clear.Statement.{statement}
 use Rattle.clearing.proofs.clear.Tie as tie
 
-sound-requires : tie.Need-sound-requires
-sound-requires c κs = search needs
+clear-change-requires : tie.Need-clear-change-requires
+clear-change-requires c κs = search needs
 
-refused-requires : tie.Need-refused-requires
-refused-requires c κs = search needs
+with-clearing-requires : tie.Need-with-clearing-requires
+with-clearing-requires c κs = search needs
 
 returns : tie.Need-returns
-returns c = out-unsound _ _ _ _ _ (c .refused .ensures) (sym (c .before .before .sound .ensures) ∙ not-true _ (c .before .if1 .taken))
-
-judge-clear-requires : tie.Need-judge-clear-requires
-judge-clear-requires c κs = search needs
-
-enum-known-j : tie.Need-enum-known-j
-enum-known-j c = search needs
-
-refused-requires-2 : tie.Need-refused-requires-2
-refused-requires-2 c κs = search needs
-
-enum-told : tie.Need-enum-told
-enum-told c = search needs
-
-enter-clear-requires : tie.Need-enter-clear-requires
-enter-clear-requires c κs = guarded _ (sym (c .before .before .before .before .sound .ensures) ∙ not-false _ (c .before .before .before .if1 .left))
-
-returns-2 : tie.Need-returns-2
-returns-2 c = out-refused _ _ _ _ _ (c .refused2 .ensures) (λ b e. sym (c .before .before .j .given .1) ∙ c .before .before .before .before .judge-clear .ensures b e)
-
-returns-3 : tie.Need-returns-3
-returns-3 c = out-entered _ _ _ (λ b e. sym (c .before .enum-told .given .1) ∙ c .before .before .before .judge-clear .ensures b e) (c .enter-clear .ensures)
+returns c = rw (c .with-clearing .ensures) (c .before .clear-change .ensures)
 
 pub clear-spec : {M : Type 1} → statement M
-clear-spec =
-    tie.close
-    (tie.spec
-    sound-requires
-    refused-requires
-    returns
-    judge-clear-requires
-    enum-known-j
-    refused-requires-2
-    enum-told
-    enter-clear-requires
-    returns-2
-    returns-3)
+clear-spec = tie.close (tie.spec clear-change-requires with-clearing-requires returns)
