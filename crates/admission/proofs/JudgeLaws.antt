@@ -15,7 +15,6 @@ use Rattle.rules.specs.Lodging as L
 use Rattle.rules.specs.Book.{Book}
 use Rattle.rules.specs.DayBook as D
 use Rattle.rules.proofs.BoolLaws.{by-bool, neither}
-use Rattle.rules.proofs.ListLaws.{length-keep, length-drop-one}
 use Rattle.message.specs.View.{fieldsIn}
 use Rattle.message.specs.declared.Fields.{Fields}
 use Rattle.session.specs.Image.{image, keyIn}
@@ -27,12 +26,14 @@ use Rattle.session.specs.declared.Key.{Key}
 use Rattle.session.specs.declared.Lodgement.{Lodgement}
 use Rattle.session.specs.declared.Judged.{Judged}
 use Rattle.session.specs.declared.Judged.the-variants.{No}
+use Rattle.session.proofs.PlaceLaws.{placed}
 use Rattle.session.proofs.ImageLaws.{hours-as, last-as, standing-as, capacities-as, unit-as, notice-as}
 use Rattle.loads.specs.Loads.{loadIn}
 use Rattle.limits.specs.Limits.{judgedIn}
 use Rattle.limits.proofs.NoticeLaws.{judged-by}
-use Rattle.keys.specs.Keys.{keyFor, ofKey, ofOther, Enrolled}
+use Rattle.keys.specs.Keys.{keyFor, ofKey, keyPlace, Enrolled}
 use Rattle.keys.proofs.KeyLaws.{stands-as}
+use Rattle.keys.proofs.TakenLaws.{left-in, left-most}
 use Rattle.beside.specs.Beside.{besideMarks}
 use Rattle.beside.proofs.BesideLaws.{load-as}
 use Rattle.admission.specs.Judging.{Room, fullIn, lastRows, fieldRows, JudgesFields, JudgesLimits}
@@ -66,11 +67,13 @@ module _ (s : Session) (k : Key) where
 
   -- a place is free
   room-free : Within s → s .standing < 128 → s .last < 65535 → Room s k
-  room-free w f l = record { within = w; place = omega (arith, length-keep (ofOther k) left, length-take (s .standing) (s .lodgements)); number = l }
+  room-free w f l = record { within = w; place = omega (arith, left-most (s .standing) (keyPlace s k)); number = l }
 
   -- or the key's lodgement leaves one
   room-key : Within s → any (ofKey k) left ≡ true → s .last < 65535 → Room s k
-  room-key w f l = record { within = w; place = omega (arith, length-drop-one (ofKey k) left f, length-take (s .standing) (s .lodgements)); number = l }
+  room-key w f l =
+      let h : keyPlace s k < s .standing = omega (arith, placed (ofKey k) left f, length-take (s .standing) (s .lodgements)) in
+      record { within = w; place = omega (arith, left-in (s .standing) (keyPlace s k) h); number = l }
 
   abbrev pub isFull : Bool
   isFull = fullIn left (s .standing) (s .last) k

@@ -4,8 +4,7 @@ use mathlib.Core.Path.{_≡_}
 use mathlib.Core.Bool.{Bool, not, _&&_, _||_}
 use mathlib.Core.List.{List, _∷_}
 use lib.Dec.{leb}
-use lib.ListN.{length, take}
-use Rattle.rules.specs.Lists.{any, keep}
+use Rattle.rules.specs.Lists.{any}
 use Rattle.rules.specs.Refusals.{Row, row, firstRow}
 use Rattle.rules.specs.Units as U
 use Rattle.rules.specs.Message.{Fields, badMap, badFields}
@@ -18,12 +17,12 @@ use Rattle.session.specs.declared.Key.{Key}
 use Rattle.session.specs.declared.Lodgement.{Lodgement}
 use Rattle.session.specs.declared.Session.{Session}
 use Rattle.session.specs.declared.Judged.{Judged}
-use Rattle.keys.specs.Keys.{ofKey, ofOther}
+use Rattle.keys.specs.Keys.{ofKey, keyPlace, leftOf}
 
 -- a place and a number are free once the key's lodgement is dropped
 pub record Room (s : Session) (k : Key) : Type 0 where
   pub within : Within s
-  pub place : length (keep (ofOther k) (take (s .standing) (s .lodgements))) < 128
+  pub place : leftOf (s .standing) (keyPlace s k) < 128
   pub number : s .last < 65535
 
 -- "128 lodgements and none of this key; 65,535 accepted"

@@ -4,10 +4,10 @@ use mathlib.Core.Path.{_≡_, refl, sym, ap, _∙_}
 use mathlib.Core.Bool.{Bool, true, false, not, _&&_, Bool·beq, false≢true}
 use mathlib.Core.List.{List, [], _∷_, _++_, map}
 use native.Mathlib.Omega.{arith}
-use lib.Dec.{eqb}
+use lib.Dec.{eqb, ltb}
 use lib.ListN.{length, take, set, replicate, length-map}
 use lib.Seq.{set-set}
-use borrow.Author.Tests.{eqb-true, lt-ltb, le-ltb}
+use borrow.Author.Tests.{eqb-true, lt-ltb, le-ltb, ltb-true, ltb-false}
 use Rattle.rules.specs.Lists.{All, none, more, Pairwise, empty, ahead, keep, any}
 use Rattle.rules.specs.Lodging as L
 use Rattle.rules.specs.Book as B
@@ -37,6 +37,14 @@ left-in n p h = rw (lt-ltb p n h)
 pub left-all : (n p : ℕ) → n ≤ p → leftOf n p ≡ n
 unfolding leftOf
 left-all n p h = rw (le-ltb p n h)
+
+pub left-most : (n p : ℕ) → leftOf n p ≤ n
+left-most n p =
+    by-bool (ltb p n) (λ e. omega (arith, left-in n p (ltb-true p n e))) (λ e. omega (arith, left-all n p (ltb-false p n e)))
+
+pub left-behind : (n p : ℕ) → p ≤ n → p ≤ leftOf n p
+left-behind n p h =
+    by-bool (ltb p n) (λ e. let k = ltb-true p n e in omega (arith, left-in n p k)) (λ e. omega (arith, left-all n p (ltb-false p n e)))
 
 -- Lists in which at most one passes
 

@@ -1,6 +1,6 @@
 -- A message's key, and what is looked for among the session's lodgements and units by a key.
 use Prim.Native.Nat.{ℕ, _-_, _<_}
-use mathlib.Core.Bool.{Bool, cond, not}
+use mathlib.Core.Bool.{Bool, cond}
 use lib.Dec.{ltb}
 use lib.ListN.{take}
 use Rattle.rules.specs.Lodging.{sameKey, hides}
@@ -18,10 +18,6 @@ keyFor m = record { execution = m .execution; default = m .default; unit = m .un
 -- a lodgement of a key
 abbrev pub ofKey : Key → Lodgement → Bool
 ofKey k l = sameKey (keyIn (l .key)) (keyIn k)
-
--- one of another key
-abbrev pub ofOther : Key → Lodgement → Bool
-ofOther k l = not (ofKey k l)
 
 -- one that hides those of a key
 abbrev pub hiding : Key → Lodgement → Bool

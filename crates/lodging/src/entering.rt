@@ -1,39 +1,53 @@
 // Entering a message that no row refuses.
+ghost use Rattle.session.specs.Changes.{Placed, standingTurn};
 ghost use Rattle.keys.specs.Keys.{keyFor};
 ghost use Rattle.admission.specs.Judging.{Room};
 ghost use Rattle.lodging.specs.Entries.{EnteredFields};
 use keys::key_of;
+use keys::key_place;
+use keys::left_of;
 use message::Fields;
 use session::Answer;
 use session::Energies;
 use session::Lodgement;
 use session::Session;
-use session::Turn;
-use standing::drop_key;
+use session::StandingChange;
+use session::StandingTurn;
 
-// "A lodgement replaces the one with its key, and takes and answers the next lodging number"
-pub fn enter(s: Session, m: Fields) -> Turn
+// "A lodgement replaces the one with its key, and takes and answers the next lodging number": those behind the replaced one's
+// place go forward, and the new one stands behind them.
+pub fn enter(s: Session, m: Fields) -> StandingTurn
     requires { ⌜ Room s (keyFor m) ⌝ }
-    ensures { λ r. ⌜ EnteredFields s m r ⌝ }
+    ensures { λ r. ⌜ EnteredFields s m (standingTurn s r) × Placed (r .change) ⌝ }
 {
     let key = key_of(m);
     let number = s.last + 1;
     let energies = m.energies;
     let prices = m.prices;
-    let mut next = drop_key(s, key);
-    let at = next.standing;
-    next.lodgements[at] = Lodgement {
+    let lodgements = s.lodgements;
+    let n = s.standing;
+    let from = key_place(lodgements, n, key);
+    let to = left_of(n, from);
+    let standing = to + 1;
+    let lodgement = Lodgement {
         key: key,
         number: number,
     };
-    next.energies[at] = Energies {
+    let named = Energies {
         energies: energies,
         prices: prices,
     };
-    next.standing = at + 1;
-    next.last = number;
-    Turn {
-        session: next,
+    let change = StandingChange {
+        from: from,
+        to: to,
+        at: to,
+        lodgement: lodgement,
+        energies: named,
+        standing: standing,
+        last: number,
+    };
+    StandingTurn {
+        change: change,
         answer: Answer::Numbered(number),
     }
 }

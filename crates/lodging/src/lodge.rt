@@ -1,6 +1,7 @@
 // Lodging: "takes a message's bytes".
 ghost use mathlib.Core.Path.{_≡_};
 ghost use Rattle.rules.specs.DayBook.{lodge};
+ghost use Rattle.session.specs.Changes.{Placed, standingTurn};
 ghost use Rattle.session.specs.Steps.{Met};
 use crate::entering::enter;
 use admission::judge_fields;
@@ -9,28 +10,39 @@ use reader::fields_of;
 use session::GATE;
 use session::Judged;
 use session::Session;
+use session::StandingTurn;
 use session::Turn;
+use session::changes::standing_refused;
+use session::changes::with_standing;
 
 // The refusal table's number for a wrong form.
 pub const FORM: u32 = 3;
 
-// Lodges a message: 2, 3, 4, 5, 6, 9, 10, 11, 12; "after a 3 nothing further is read".
-pub fn lodge(s: Session, message: &[u8]) -> Turn
-    ensures { λ r. ⌜ Met s (lodge (now (message .entry))) r ⌝ }
+// What lodging a message changes; "after a 3 nothing further is read".
+pub fn lodge_change(s: Session, message: &[u8]) -> StandingTurn
+    ensures { λ r. ⌜ Met s (lodge (now (message .entry))) (standingTurn s r) × Placed (r .change) ⌝ }
 {
     if !s.sound() {
-        return s.refused(GATE, 0);
+        return standing_refused(s, GATE, 0);
     }
     if s.closed {
-        return s.refused(GATE, 0);
+        return standing_refused(s, GATE, 0);
     }
     if bad_form(message) {
-        return s.refused(FORM, 0);
+        return standing_refused(s, FORM, 0);
     }
     let m = fields_of(message);
     let j = judge_fields(s, m);
     match j {
-        Judged::No(row, hour) => s.refused(row, hour),
+        Judged::No(row, hour) => standing_refused(s, row, hour),
         Judged::Clear => enter(s, m),
     }
+}
+
+// Lodges a message: 2, 3, 4, 5, 6, 9, 10, 11, 12.
+pub fn lodge(s: Session, message: &[u8]) -> Turn
+    ensures { λ r. ⌜ Met s (lodge (now (message .entry))) r ⌝ }
+{
+    let t = lodge_change(s, message);
+    with_standing(s, t)
 }

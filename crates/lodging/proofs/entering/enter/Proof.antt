@@ -1,5 +1,5 @@
 use native.Mathlib.Omega.{arith}
-use Rattle.lodging.proofs.EntryLaws.{room-left, entered}
+use Rattle.lodging.proofs.EntryLaws.{room-left, entering-placed, entered}
 use borrow.Author.Needs.{needs}
 use Rattle.lodging.proofs.entering.enter.Statement.{statement}
 use Rattle.lodging.proofs.entering.enter.Tie as tie
@@ -10,37 +10,19 @@ key-of-requires c κs = search needs
 add-number : tie.Need-add-number
 add-number c = search needs
 
-drop-key-requires : tie.Need-drop-key-requires
-drop-key-requires c κs = search needs
+key-place-requires : tie.Need-key-place-requires
+key-place-requires c κs = search needs
 
-mul-t11 : tie.Need-mul-t11
-mul-t11 c = omega (arith, room-left _ _ _ _ (c .before .before .before .before .key-of .ensures) (c .drop-key .ensures) (c .before .before .before .before .before .pre))
+left-of-requires : tie.Need-left-of-requires
+left-of-requires c κs = search needs
 
-element-set-from-next : tie.Need-element-set-from-next
-element-set-from-next c = omega (arith, room-left _ _ _ _ (c .before .before .before .before .key-of .ensures) (c .drop-key .ensures) (c .before .before .before .before .before .pre))
-
-mul-t11-2 : tie.Need-mul-t11-2
-mul-t11-2 c = omega (arith, room-left _ _ _ _ (c .before .before .before .before .key-of .ensures) (c .drop-key .ensures) (c .before .before .before .before .before .pre))
-
-element-set-from-next-2 : tie.Need-element-set-from-next-2
-element-set-from-next-2 c = omega (arith, room-left _ _ _ _ (c .before .before .before .before .key-of .ensures) (c .drop-key .ensures) (c .before .before .before .before .before .pre))
-
-add-next : tie.Need-add-next
-add-next c = omega (arith, room-left _ _ _ _ (c .before .before .before .before .key-of .ensures) (c .drop-key .ensures) (c .before .before .before .before .before .pre))
+add-standing : tie.Need-add-standing
+add-standing c = omega (arith, room-left (c .before .before .before .before .before .before .before .args .s) (c .before .before .before .before .before .before .before .args .m) _ _ _ (c .before .before .before .before .before .before .key-of .ensures) (c .before .key-place .ensures .0) (c .left-of .ensures) (c .before .before .before .before .before .before .before .pre))
 
 returns : tie.Need-returns
-returns c = entered _ _ _ _ (c .before .before .before .before .key-of .ensures) (c .drop-key .ensures) (c .before .before .before .before .before .pre)
+returns c = (entered _ _ _ _ _ (c .before .before .before .before .before .before .key-of .ensures) (c .before .key-place .ensures .0) (c .left-of .ensures) (c .before .before .before .before .before .before .before .pre), entering-placed _ (c .before .before .before .before .before .before .before .args .m) _ _ _ (c .before .before .before .before .before .before .key-of .ensures) (c .before .key-place .ensures .0) (c .left-of .ensures) (c .before .before .before .before .before .before .before .pre) (c .before .key-place .ensures .1) _)
 
 pub enter-spec : {M : Type 1} → statement M
 enter-spec =
     tie.close
-    (tie.spec
-    key-of-requires
-    add-number
-    drop-key-requires
-    mul-t11
-    element-set-from-next
-    mul-t11-2
-    element-set-from-next-2
-    add-next
-    returns)
+    (tie.spec key-of-requires add-number key-place-requires left-of-requires add-standing returns)
