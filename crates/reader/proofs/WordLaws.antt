@@ -1,6 +1,6 @@
 -- Bytes as one number, and the fields in them.
 use Prim.Native.Nat.{ℕ, zero, suc, _+_, _*_, _-_, _/_, _%_, _^_, _≤_, _<_, min}
-use mathlib.Core.Path.{_≡_, refl, ap, sym}
+use mathlib.Core.Path.{_≡_, refl, ap, sym, _∙_}
 use mathlib.Core.Bool.{Bool, true, false}
 use mathlib.Core.List.{List, [], _∷_}
 use native.Mathlib.Omega.{arith}
@@ -11,7 +11,7 @@ use lib.Pow.{pow-lt}
 use lib.ListN.{length, take, drop, getD, length-drop, List·getD-eq-default}
 use Rattle.rules.specs.Message.{value, field, bitsOf}
 use Rattle.rules.proofs.ListLaws.{Under}
-use Rattle.rules.proofs.BitLaws.{length-bitsOf, word, field-word, word-four}
+use Rattle.rules.proofs.BitLaws.{length-bitsOf, bitsOf-under, field-inner, word, field-word, word-four}
 use Rattle.reader.specs.Bits.{wordAt}
 
 pub word-past : (bytes : List ℕ) (i : ℕ) → length bytes ≤ i → 0 ≡ wordAt bytes i
@@ -38,6 +38,24 @@ word-five i bytes = rw (← word-four i bytes) (one-more i bytes)
 pub field-read : (at w : ℕ) {bytes : List ℕ} → Under 256 bytes → w ≤ 32 → at + w ≤ 8 * length bytes
     → (wordAt bytes (at / 8) * 256 + getD bytes (at / 8 + 4) 0) / 2 ^ (40 - at % 8 - w) % 2 ^ w ≡ field at w (bitsOf bytes)
 field-read at w {bytes} u h l = sym (rw word-five at (field-word 5 at w u (omega arith) l))
+
+-- four bytes that are there are a field
+four-read : (i : ℕ) {bytes : List ℕ} → Under 256 bytes → i + 4 ≤ length bytes → wordAt bytes i < 2 ^ 32 → wordAt bytes i ≡ field (8 * i) 32 (bitsOf bytes)
+unfolding wordAt
+four-read i {bytes} u l h =
+    let e : 8 * i / 8 ≡ i = omega arith in
+    let f : 32 - 8 * i % 8 - 32 ≡ 0 = omega arith in
+    sym ((rw (e, f, word-four i bytes) at (field-word 4 (8 * i) 32 u (omega arith) (omega arith))) ∙ omega arith)
+
+-- a field in the four bytes from byte i on, with c bits after it in them
+pub slot-read : (i c at w : ℕ) {bytes : List ℕ} → Under 256 bytes → i + 4 ≤ length bytes → wordAt bytes i < 2 ^ 32 → 8 * i ≤ at → at + w + c ≡ 8 * i + 32
+    → wordAt bytes i / 2 ^ c % 2 ^ w ≡ field at w (bitsOf bytes)
+slot-read i c at w {bytes} u l h s e =
+    let b = at - 8 * i in
+    let f : 8 * i + b ≡ at = omega arith in
+    let g : b + w + c ≡ 32 = omega arith in
+    let k : 8 * i + (b + w + c) ≤ length (bitsOf bytes) = rw length-bitsOf (omega arith) in
+    rw (four-read i u l h) (sym (rw (f, g) at (field-inner (8 * i) b w c (bitsOf-under bytes) k)))
 
 -- one bit shifted, in a word of w bits
 pub shifted-one : (w k : ℕ) → k < w → 1 * 2 ^ k % 2 ^ w ≡ 2 ^ k
