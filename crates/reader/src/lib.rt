@@ -3,6 +3,7 @@ pub mod bits;
 
 use bits::field_at;
 use bits::power;
+use bits::slot_at;
 use message::Fields;
 use message::Reading;
 use message::blank;
@@ -95,7 +96,7 @@ fn fill(
     let mut bad = false;
     while rest != 0 {
         let h = next_hour(rest);
-        let slot = field_at(s, at, 17 + price);
+        let slot = slot_at(s, at, 17 + price);
         let e = slot >> price;
         let p = slot & mask;
         energies[h] = e;
