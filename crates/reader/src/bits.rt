@@ -1,6 +1,6 @@
 // Bytes and bits of a message as numbers.
 ghost use mathlib.Core.Path.{_≡_};
-ghost use Prim.Native.Nat.{_+_, _*_, _-_, _/_, _^_, _<_, _≤_, min};
+ghost use Prim.Native.Nat.{_+_, _*_, _-_, _/_, _%_, _^_, _<_, _≤_, min};
 ghost use lib.Dec.{leb};
 ghost use lib.ListN.{length, getD};
 ghost use Rattle.rules.specs.Message.{bitsOf, field};
@@ -57,6 +57,14 @@ pub fn power(k: usize) -> u64
     1u64 << k
 }
 
+// The number in `width` bits of a word, with `below` bits after them.
+pub fn part(word: u64, below: usize, width: usize) -> u32
+    requires { ⌜ (below < 64) × (width ≤ 32) ⌝ }
+    ensures { λ r. ⌜ (r ≡ word / 2 ^ below % 2 ^ width) × (r < 2 ^ width) ⌝ }
+{
+    ((word >> below) & (power(width) - 1)) as u32
+}
+
 // The number in `width` bits from bit `at` on.
 pub fn field_at(s: &[u8], at: usize, width: usize) -> u32
     requires { ⌜ (width ≤ 32) × (at + width ≤ 8 * length (now s)) ⌝ }
@@ -65,7 +73,7 @@ pub fn field_at(s: &[u8], at: usize, width: usize) -> u32
     let below = 40 - at % 8 - width;
     let last = byte_at(s, at / 8 + 4) as u64;
     let word = word_at(s, at / 8) * 256 + last;
-    ((word >> below) & (power(width) - 1)) as u32
+    part(word, below, width)
 }
 
 // The same, with no test of the length: the field lies in the four bytes that end where it ends, and they are there.
@@ -75,8 +83,7 @@ pub fn slot_at(s: &[u8], at: usize, width: usize) -> u32
 {
     let end = (at + width + 7) / 8;
     let word = four_at(s, end - 4);
-    let below = end * 8 - (at + width);
-    ((word >> below) & (power(width) - 1)) as u32
+    part(word, end * 8 - (at + width), width)
 }
 
 // Every position and width

@@ -1,7 +1,8 @@
 // Reading a lodging message.
 pub mod bits;
 
-use bits::field_at;
+use bits::four_at;
+use bits::part;
 use bits::power;
 use bits::slot_at;
 use message::Fields;
@@ -35,6 +36,14 @@ ghost use Rattle.rules.specs.Message.{
 ghost use Rattle.reader.specs.Slots.{badSlots, headIn};
 ghost use Rattle.message.specs.View.{fieldsIn, readingAs, noFields};
 
+// The first eight bytes as one number: it holds every field before the slots.
+fn head_word(s: &[u8]) -> u64
+    requires { ⌜ 8 ≤ length (now s) ⌝ }
+    ensures { λ r. ⌜ r ≡ field 0 headWidth (bitsOf (now (s .entry))) ⌝ }
+{
+    four_at(s, 0) * 4294967296 + four_at(s, 4)
+}
+
 // 3: wrong length, form, kind or filling.
 pub fn bad_form(s: &[u8]) -> bool
     ensures { λ r. ⌜ r ≡ badForm energyWidth (now (s .entry)) ⌝ }
@@ -42,19 +51,20 @@ pub fn bad_form(s: &[u8]) -> bool
     if s.len() < 8 {
         return true;
     }
-    let kind = field_at(s, 4, 2);
-    let map = field_at(s, 39, 25);
+    let word = head_word(s);
+    let kind = part(word, 58, 2);
+    let map = part(word, 0, 25);
     if s.len() != length_for(kind == 1, map) {
         return true;
     }
-    if field_at(s, 0, 4) != 1 {
+    if part(word, 60, 4) != 1 {
         return true;
     }
     if 1 < kind {
         return true;
     }
     let end = slots_end(kind == 1, map);
-    field_at(s, end, s.len() * 8 - end) != 0
+    slot_at(s, end, s.len() * 8 - end) != 0
 }
 
 // The hours before the first that the map names.
@@ -121,12 +131,13 @@ fn head_of(s: &[u8]) -> Head
     requires { ⌜ 8 ≤ length (now s) ⌝ }
     ensures { λ r. ⌜ (r ≡ headIn (bitsOf (now (s .entry)))) × (r .map < 2 ^ 25) ⌝ }
 {
+    let word = head_word(s);
     Head {
-        execution: field_at(s, 4, 2) == 1,
-        default: field_at(s, 6, 1) == 1,
-        unit: field_at(s, 7, 16),
-        contract: field_at(s, 23, 16),
-        map: field_at(s, 39, 25),
+        execution: part(word, 58, 2) == 1,
+        default: part(word, 57, 1) == 1,
+        unit: part(word, 41, 16),
+        contract: part(word, 25, 16),
+        map: part(word, 0, 25),
     }
 }
 
