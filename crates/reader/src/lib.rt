@@ -7,7 +7,6 @@ use bits::power;
 use bits::slot_at;
 use message::Fields;
 use message::Reading;
-use message::blank;
 use message::form::length_for;
 use message::form::price_width;
 use message::form::slots_end;
@@ -33,8 +32,8 @@ ghost use Rattle.rules.specs.Message.{
   badForm,
   read as reading,
 };
-ghost use Rattle.reader.specs.Slots.{badSlots, headIn};
-ghost use Rattle.message.specs.View.{fieldsIn, readingAs, noFields};
+ghost use Rattle.reader.specs.Slots.{badSlots, headIn, noHead, readingOf};
+ghost use Rattle.message.specs.View.{fieldsIn, readingAs};
 
 // The first eight bytes as one number: it holds every field before the slots.
 fn head_word(s: &[u8]) -> u64
@@ -161,18 +160,38 @@ pub fn fields_of(s: &[u8]) -> Fields
     }
 }
 
-fn refused(n: u32) -> Reading
-    ensures { λ r. ⌜ r ≡ record { refusal = n; fields = noFields } ⌝ }
+// What is read of a message beside its energies and prices: refusal 0 and the head, or the table's number and a head that is all 0.
+struct Told {
+    refusal: u32,
+    head: Head,
+}
+
+fn refused(n: u32) -> Told
+    ensures { λ r. ⌜ r ≡ record { refusal = n; head = noHead } ⌝ }
 {
-    Reading {
+    Told {
         refusal: n,
-        fields: blank(),
+        head: Head {
+            execution: false,
+            default: false,
+            unit: 0,
+            contract: 0,
+            map: 0,
+        },
     }
 }
 
-// A message's fields, or the refusal: 3, 4, 5 in the table's order.
-pub fn read(s: &[u8]) -> Reading
-    ensures { λ r. ⌜ r ≡ readingAs (reading (now (s .entry))) ⌝ }
+fn clear(energies: &mut [u32; 25], prices: &mut [u32; 25])
+    ensures { λ _. ⌜ (now (energies .exit) ≡ replicate 25 0) × (now (prices .exit) ≡ replicate 25 0) ⌝ }
+{
+    *energies = [0; 25];
+    *prices = [0; 25];
+}
+
+// Fills in a message's energies and prices, or finds the refusal: 3, 4, 5 in the table's order.
+fn judged(s: &[u8], energies: &mut [u32; 25], prices: &mut [u32; 25]) -> Told
+    requires { ⌜ (now energies ≡ replicate 25 0) × (now prices ≡ replicate 25 0) ⌝ }
+    ensures { λ r. ⌜ readingOf r (now (energies .exit)) (now (prices .exit)) ≡ readingAs (reading (now (s .entry))) ⌝ }
 {
     if bad_form(s) {
         return refused(3);
@@ -181,23 +200,31 @@ pub fn read(s: &[u8]) -> Reading
     if bad_map(head.map) {
         return refused(4);
     }
-    let mut energies = [0u32; 25];
-    let mut prices = [0u32; 25];
-    let bad = fill(s, head.execution, head.map, &mut energies, &mut prices);
     if bad_key(head.execution, head.unit, head.contract) {
         return refused(5);
     }
-    if bad {
+    if fill(s, head.execution, head.map, energies, prices) {
+        clear(energies, prices);
         return refused(5);
     }
+    Told { refusal: 0, head }
+}
+
+// A message's fields, or the refusal. The result is made in one place, so that the arrays are copied once.
+pub fn read(s: &[u8]) -> Reading
+    ensures { λ r. ⌜ r ≡ readingAs (reading (now (s .entry))) ⌝ }
+{
+    let mut energies = [0u32; 25];
+    let mut prices = [0u32; 25];
+    let told = judged(s, &mut energies, &mut prices);
     Reading {
-        refusal: 0,
+        refusal: told.refusal,
         fields: Fields {
-            execution: head.execution,
-            default: head.default,
-            unit: head.unit,
-            contract: head.contract,
-            map: head.map,
+            execution: told.head.execution,
+            default: told.head.default,
+            unit: told.head.unit,
+            contract: told.head.contract,
+            map: told.head.map,
             energies,
             prices,
         },
