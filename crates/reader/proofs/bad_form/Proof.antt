@@ -1,7 +1,8 @@
 -- `bad_form` meets its contract: each way out is the next test of the definition.
 use Prim.Native.Nat.{_*_, _+_, _<_, _≤_}
-use mathlib.Core.Path.{_≡_, sym, _∙_}
+use mathlib.Core.Path.{_≡_, refl, sym, _∙_}
 use native.Mathlib.Omega.{arith}
+use lib.Dec.{lit<, lit≤}
 use lib.ListN.{length}
 use Rattle.rules.specs.Message.{bitsOf, field}
 use Rattle.message.proofs.FormLaws.{Long, ends-in, form-short, form-length, form-form, form-kind, form-filling, length-read, filling-read}
@@ -11,13 +12,13 @@ use Rattle.reader.proofs.bad_form.Tie as tie
 
 -- the kind, the map and the form
 kind : (c : tie.After-part) → c .part .result ≡ field 4 2 (bitsOf (c .before .before .before .before .args .s .now))
-kind c = head-part 4 2 58 _ (c .before .before .if1 .left) (omega arith) (c .before .head-word .ensures) (c .part .ensures .0)
+kind c = head-part 4 2 58 _ (c .before .before .if1 .left) refl (c .before .head-word .ensures) (c .part .ensures .0)
 
 map : (c : tie.After-part2) → c .part2 .result ≡ field 39 25 (bitsOf (c .before .before .before .before .before .args .s .now))
-map c = head-part 39 25 0 _ (c .before .before .before .if1 .left) (omega arith) (c .before .before .head-word .ensures) (c .part2 .ensures .0)
+map c = head-part 39 25 0 _ (c .before .before .before .if1 .left) refl (c .before .before .head-word .ensures) (c .part2 .ensures .0)
 
 form : (c : tie.After-part3) → c .part3 .result ≡ field 0 4 (bitsOf (c .before .before .before .before .before .before .before .before .args .s .now))
-form c = head-part 0 4 60 _ (c .before .before .before .before .before .before .if1 .left) (omega arith) (c .before .before .before .before .before .head-word .ensures) (c .part3 .ensures .0)
+form c = head-part 0 4 60 _ (c .before .before .before .before .before .before .if1 .left) refl (c .before .before .before .before .before .head-word .ensures) (c .part3 .ensures .0)
 
 -- what is known where the length was found right, and where the slots end
 long : (c : tie.Else2) → Long (c .before .before .before .before .before .before .before .args .s .now)
@@ -31,13 +32,13 @@ returns : tie.Need-returns
 returns c = form-short _ (c .if1 .taken)
 
 head-word-requires : tie.Need-head-word-requires
-head-word-requires c κs = omega arith
+head-word-requires c κs = c .if1 .left
 
 part-requires : tie.Need-part-requires
-part-requires c κs = omega arith
+part-requires c κs = (lit< tt, lit≤ tt)
 
 part-requires-2 : tie.Need-part-requires-2
-part-requires-2 c κs = omega arith
+part-requires-2 c κs = (lit< tt, lit≤ tt)
 
 length-for-requires : tie.Need-length-for-requires
 length-for-requires c κs = tt
@@ -48,7 +49,7 @@ returns-2 c =
     form-length _ (c .before .before .before .before .before .if1 .left) (λ q. c .if2 .taken (q ∙ sym l))
 
 part-requires-3 : tie.Need-part-requires-3
-part-requires-3 c κs = omega arith
+part-requires-3 c κs = (lit< tt, lit≤ tt)
 
 returns-3 : tie.Need-returns-3
 returns-3 c = form-form _ (c .before .before .before .before .before .before .before .if1 .left) (long (c .before .before)) (λ q. c .if3 .taken (form (c .before) ∙ q))
