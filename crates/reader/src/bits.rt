@@ -76,7 +76,8 @@ pub fn field_at(s: &[u8], at: usize, width: usize) -> u32
     part(word, below, width)
 }
 
-// The same, with no test of the length: the field lies in the four bytes that end where it ends, and they are there.
+// The same with no test of the length, for a field after the head that lies in the four bytes up to its end. A message has at most
+// 864 bits.
 pub fn slot_at(s: &[u8], at: usize, width: usize) -> u32
     requires { ⌜ (32 ≤ at) × (at ≤ 864) × ((at + width + 7) / 8 * 8 ≤ at + 32) × (at + width ≤ 8 * length (now s)) ⌝ }
     ensures { λ r. ⌜ (r ≡ field at width (bitsOf (now (s .entry)))) × (r < 2 ^ width) ⌝ }

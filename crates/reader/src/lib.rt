@@ -181,6 +181,7 @@ fn refused(n: u32) -> Told
     }
 }
 
+// A refusal's energies and prices are 0.
 fn clear(energies: &mut [u32; 25], prices: &mut [u32; 25])
     ensures { λ _. ⌜ (now (energies .exit) ≡ replicate 25 0) × (now (prices .exit) ≡ replicate 25 0) ⌝ }
 {
