@@ -140,6 +140,19 @@ pub struct Fields {
     pub prices: [u32; MOST_HOURS],
 }
 
+impl Fields {
+    /// Fields that are all 0, as they stand beside a refusal.
+    pub const NONE: Fields = Fields {
+        execution: Flag(0),
+        default: Flag(0),
+        unit: 0,
+        contract: 0,
+        map: 0,
+        energies: [0; MOST_HOURS],
+        prices: [0; MOST_HOURS],
+    };
+}
+
 /// What a reader gives.
 #[repr(C)]
 #[derive(Clone, Copy, PartialEq, Eq)]

@@ -207,15 +207,13 @@ impl Gate {
 
     /// The fields of a message by itself, whatever the day. Refused as 3, 4 or 5.
     pub fn read(message: &[u8]) -> Result<Fields, Refusal> {
-        let ffi::Reading { refusal: row, fields } = ffi::read(message);
-        let ffi::Fields { execution, default, unit, contract, map, energies, prices } = fields;
-        let key = Key { execution: execution.into(), default: default.into(), unit, contract };
-        let fields = Fields { key, map, energies, prices };
+        let ffi::Reading { refusal: row, ref fields } = ffi::read(message);
         if row == 0 {
-            return Ok(fields);
+            let ffi::Fields { execution, default, unit, contract, map, energies, prices } = *fields;
+            let key = Key { execution: execution.into(), default: default.into(), unit, contract };
+            return Ok(Fields { key, map, energies, prices });
         }
-        let nothing = Fields::of(Key { execution: false, default: false, unit: 0, contract: 0 });
-        assert_eq!(fields, nothing, "fields beside refusal {row}");
+        assert!(*fields == ffi::Fields::NONE, "fields beside refusal {row}");
         Err(refusal(row, 0))
     }
 

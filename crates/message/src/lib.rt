@@ -2,9 +2,6 @@
 pub mod form;
 pub mod judge;
 
-ghost use mathlib.Core.Path.{_≡_};
-ghost use Rattle.message.specs.View.{noFields};
-
 // What a message says, and what a writer is given. Energies and prices are by hour, hour 1 first.
 #[repr(C)]
 pub struct Fields {
@@ -30,19 +27,4 @@ pub struct Reading {
 pub struct Written {
     pub refusal: u32,
     pub count: usize,
-}
-
-// Fields that are all 0.
-pub fn blank() -> Fields
-    ensures { λ r. ⌜ r ≡ noFields ⌝ }
-{
-    Fields {
-        execution: false,
-        default: false,
-        unit: 0,
-        contract: 0,
-        map: 0,
-        energies: [0; 25],
-        prices: [0; 25],
-    }
 }

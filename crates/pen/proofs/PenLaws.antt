@@ -29,6 +29,25 @@ stored-next buf at v (suc n) h =
     let q : suc n - 1 ≡ n = omega arith in
     rw (q, add-one at, bytesOf-more n v)
 
+pub stored-four : (buf : List ℕ) (at v : ℕ)
+    → set (set (set (set buf at (v / 2 ^ 24 % 256)) (at + 1) (v / 2 ^ 16 % 256)) (at + 2) (v / 2 ^ 8 % 256)) (at + 3) (v % 256) ≡ stored buf at v 4
+stored-four buf at v =
+    let a = set buf at (v / 2 ^ 24 % 256) in
+    let b = set a (at + 1) (v / 2 ^ 16 % 256) in
+    let c = set b (at + 2) (v / 2 ^ 8 % 256) in
+    let d = set c (at + 3) (v / 2 ^ 0 % 256) in
+    let one : v ≡ v / 2 ^ 0 = omega arith in
+    let two : at + 2 ≡ at + 1 + 1 = omega arith in
+    let three : at + 3 ≡ at + 2 + 1 = omega arith in
+    ap (λ x. set c (at + 3) (x % 256)) one
+    ∙ sym (stored-none d (at + 3 + 1) v 0 (omega arith))
+    ∙ stored-next c (at + 3) v 1 (omega arith)
+    ∙ ap (λ i. stored c i v 1) three
+    ∙ stored-next b (at + 2) v 2 (omega arith)
+    ∙ ap (λ i. stored b i v 2) two
+    ∙ stored-next a (at + 1) v 3 (omega arith)
+    ∙ stored-next buf at v 4 (omega arith)
+
 -- Bits, appended
 
 -- w bits more fit a u64

@@ -14,11 +14,27 @@ pub struct Pen {
     pub acc: u64,
 }
 
+// The last four bytes of v, highest first, from byte `from` on. Compiled it is one store, where the loop below is slow:
+// a slot of an offer has four bytes.
+fn put_four(buf: &mut [u8], from: usize, v: u64)
+    requires { ⌜ from + 4 ≤ length (now buf) ⌝ }
+    ensures { λ _. ⌜ now (buf .exit) ≡ stored (now (buf .entry)) from v 4 ⌝ }
+{
+    buf[from] = ((v >> 24) % 256) as u8;
+    buf[from + 1] = ((v >> 16) % 256) as u8;
+    buf[from + 2] = ((v >> 8) % 256) as u8;
+    buf[from + 3] = (v % 256) as u8;
+}
+
 // The last n bytes of v, highest first, from byte `from` on.
 fn put_bytes(buf: &mut [u8], from: usize, v: u64, n: usize)
     requires { ⌜ (n ≤ 8) × (from + n ≤ length (now buf)) ⌝ }
     ensures { λ _. ⌜ now (buf .exit) ≡ stored (now (buf .entry)) from v n ⌝ }
 {
+    if n == 4 {
+        put_four(buf, from, v);
+        return;
+    }
     let mut at = from;
     let mut left = n;
     while 0 < left {

@@ -177,6 +177,23 @@ module _ (at p : ℕ) (bytes : List ℕ) (h : at + energyWidth + p ≤ 8 * lengt
   pub slot-price : field at (energyWidth + p) (bitsOf bytes) % 2 ^ p ≡ field (at + energyWidth) p (bitsOf bytes)
   slot-price = rw joined (low (field at energyWidth (bitsOf bytes)) p under)
 
+-- A slot with a price begins with a byte and fills four; one without has 17 bits. So it lies in the four bytes up to its end
+
+slot-whole : (x : Bool) (at : ℕ) → at % 8 * priceWidth x ≡ 0 → (at + energyWidth + priceWidth x) % 8 * priceWidth x ≡ 0
+unfolding priceWidth
+slot-whole true at h = omega arith
+slot-whole false at h =
+    let e : at + energyWidth + 15 ≡ 4 * 8 + at = omega arith in
+    rw (e, mul-add-mod-self-right 4 8 at) h
+
+slot-in-four : (x : Bool) (at : ℕ) → at % 8 * priceWidth x ≡ 0 → (at + (energyWidth + priceWidth x) + 7) / 8 * 8 ≤ at + 32
+unfolding priceWidth
+slot-in-four true at h = omega arith
+slot-in-four false at h =
+    let k : at ≡ 8 * (at / 8) = omega arith in
+    let l : (at + (energyWidth + 15) + 7) / 8 < at / 8 + 5 = omega arith in
+    omega arith
+
 -- A loop over the named hours of a message
 
 module _ (bytes : List ℕ) (x : Bool) (map : ℕ) where
@@ -198,6 +215,8 @@ module _ (bytes : List ℕ) (x : Bool) (map : ℕ) where
     pub prices-long : length prices ≡ 25
     pub room : at + setBits rest * slotWidth energyWidth x ≤ 8 * length bytes
     pub near : at + setBits rest * slotWidth energyWidth x ≤ 864
+    pub begun : headWidth ≤ at
+    pub whole : at % 8 * priceWidth x ≡ 0
     pub energies-so : Filled (field 0 energyWidth) energies at rest
     pub prices-so : Filled (field energyWidth (priceWidth x)) prices at rest
     pub bad-so : (bad || badSlots x (hourBits rest) (drop at (bitsOf bytes))) ≡ Bad
@@ -214,6 +233,8 @@ module _ (bytes : List ℕ) (x : Bool) (map : ℕ) where
     prices-long = refl;
     room = r;
     near = end-le x map;
+    begun = omega arith;
+    whole = omega arith;
     energies-so = blank (field 0 energyWidth);
     prices-so = blank (field energyWidth (priceWidth x));
     bad-so = refl;
@@ -233,11 +254,14 @@ module _ (bytes : List ℕ) (x : Bool) (map : ℕ) where
 
     module _ (h : ℕ) (t : Next rest h) where
       -- the bits of the next slot are there
-      pub room-next : (at + energyWidth + priceWidth x ≤ 8 * length bytes) × (at + energyWidth + priceWidth x ≤ 864)
+      pub room-next : (at + energyWidth + priceWidth x ≤ 8 * length bytes) × (at + energyWidth + priceWidth x ≤ 864) × (headWidth ≤ at)
+          × ((at + (energyWidth + priceWidth x) + 7) / 8 * 8 ≤ at + 32)
       unfolding slotWidth
       room-next = (
         omega (arith, rw (count-next t, suc-mul) at (i .room)),
         omega (arith, rw (count-next t, suc-mul) at (i .near)),
+        i .begun,
+        slot-in-four x at (i .whole),
       )
 
       pub filling-next : Filling (set energies h (field at energyWidth (bitsOf bytes)))
@@ -258,6 +282,8 @@ module _ (bytes : List ℕ) (x : Bool) (map : ℕ) where
             prices-long = length-set prices h _ ∙ i .prices-long;
             room = omega (arith, rw (count-next t, suc-mul) at (i .room));
             near = omega (arith, rw (count-next t, suc-mul) at (i .near));
+            begun = omega (arith, i .begun);
+            whole = slot-whole x at (i .whole);
             energies-so = rw (← e) (sym (fill-next t (field 0 energyWidth) n bs energies (omega (arith, t .inside, i .energies-long))) ∙ i .energies-so);
             prices-so = rw (← e, ← p) (sym (fill-next t (field energyWidth (priceWidth x)) n bs prices (omega (arith, t .inside, i .prices-long))) ∙ i .prices-so);
             bad-so = rw (← e, ← p) (or-assoc bad (badSlot x true (field 0 energyWidth bs) (field energyWidth (priceWidth x) bs)) (badSlots x (hourBits (rest - 2 ^ (24 - h))) (drop n bs)) ∙ ap (λ b. bad || b) (sym (bad-next t x bs)) ∙ i .bad-so);

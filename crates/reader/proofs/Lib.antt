@@ -2,3 +2,4 @@ pub mod WordLaws
 pub mod FillLaws
 pub mod ReadLaws
 pub mod SlotLaws
+pub mod TakeLaws

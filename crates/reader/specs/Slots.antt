@@ -6,11 +6,32 @@ use lib.Dec.{eqb}
 use lib.ListN.{drop}
 use Rattle.rules.specs.Message.{field, energyWidth, priceWidth, slotWidth, isExecution, mapOf}
 use Rattle.message.specs.Slots.{badSlot}
+use Rattle.message.specs.declared.Reading.{Reading}
 use Rattle.reader.specs.declared.Head.{Head}
+use Rattle.reader.specs.declared.Told.{Told}
 
 -- the fields before the slots
 abbrev pub headIn : List ℕ → Head
 headIn bs = record { execution = isExecution bs; default = eqb (field 6 1 bs) 1; unit = field 7 16 bs; contract = field 23 16 bs; map = mapOf bs }
+
+-- "Other fields of a refusal are 0"
+abbrev pub noHead : Head
+noHead = record { execution = false; default = false; unit = 0; contract = 0; map = 0 }
+
+-- the reading of a head or a refusal, with these energies and prices
+abbrev pub readingOf : Told → List ℕ → List ℕ → Reading
+readingOf j energies prices = record {
+  refusal = j .refusal;
+  fields = record {
+    execution = j .head .execution;
+    default = j .head .default;
+    unit = j .head .unit;
+    contract = j .head .contract;
+    map = j .head .map;
+    energies = energies;
+    prices = prices;
+  };
+}
 
 -- a set hour's energy or price is outside its range, the slots of a map's hours standing one after the other
 unfoldable pub badSlots : Bool → List ℕ → List ℕ → Bool

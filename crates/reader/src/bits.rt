@@ -1,6 +1,6 @@
 // Bytes and bits of a message as numbers.
 ghost use mathlib.Core.Path.{_≡_};
-ghost use Prim.Native.Nat.{_+_, _*_, _-_, _^_, _<_, _≤_, min};
+ghost use Prim.Native.Nat.{_+_, _*_, _-_, _/_, _%_, _^_, _<_, _≤_, min};
 ghost use lib.Dec.{leb};
 ghost use lib.ListN.{length, getD};
 ghost use Rattle.rules.specs.Message.{bitsOf, field};
@@ -11,6 +11,14 @@ fn joined(a: u8, b: u8, c: u8, d: u8) -> u64
     ensures { λ r. ⌜ (r ≡ a * 16777216 + b * 65536 + c * 256 + d) × (r < 2 ^ 32) ⌝ }
 {
     a as u64 * 16777216 + b as u64 * 65536 + c as u64 * 256 + d as u64
+}
+
+// The four bytes from place i on as one number, all of them there.
+pub fn four_at(s: &[u8], i: usize) -> u64
+    requires { ⌜ i + 4 ≤ length (now s) ⌝ }
+    ensures { λ r. ⌜ (r ≡ wordAt (now (s .entry)) i) × (r < 2 ^ 32) ⌝ }
+{
+    joined(s[i], s[i + 1], s[i + 2], s[i + 3])
 }
 
 // The byte at place i, 0 past the end.
@@ -31,7 +39,7 @@ pub fn word_at(s: &[u8], i: usize) -> u64
         return 0;
     }
     if 4 <= s.len() - i {
-        return joined(s[i], s[i + 1], s[i + 2], s[i + 3]);
+        return four_at(s, i);
     }
     joined(
         byte_at(s, i),
@@ -49,6 +57,14 @@ pub fn power(k: usize) -> u64
     1u64 << k
 }
 
+// The number in `width` bits of a word, with `below` bits after them.
+pub fn part(word: u64, below: usize, width: usize) -> u32
+    requires { ⌜ (below < 64) × (width ≤ 32) ⌝ }
+    ensures { λ r. ⌜ (r ≡ word / 2 ^ below % 2 ^ width) × (r < 2 ^ width) ⌝ }
+{
+    ((word >> below) & (power(width) - 1)) as u32
+}
+
 // The number in `width` bits from bit `at` on.
 pub fn field_at(s: &[u8], at: usize, width: usize) -> u32
     requires { ⌜ (width ≤ 32) × (at + width ≤ 8 * length (now s)) ⌝ }
@@ -57,7 +73,18 @@ pub fn field_at(s: &[u8], at: usize, width: usize) -> u32
     let below = 40 - at % 8 - width;
     let last = byte_at(s, at / 8 + 4) as u64;
     let word = word_at(s, at / 8) * 256 + last;
-    ((word >> below) & (power(width) - 1)) as u32
+    part(word, below, width)
+}
+
+// The same with no test of the length, for a field after the head that lies in the four bytes up to its end. A message has at most
+// 864 bits.
+pub fn slot_at(s: &[u8], at: usize, width: usize) -> u32
+    requires { ⌜ (32 ≤ at) × (at ≤ 864) × ((at + width + 7) / 8 * 8 ≤ at + 32) × (at + width ≤ 8 * length (now s)) ⌝ }
+    ensures { λ r. ⌜ (r ≡ field at width (bitsOf (now (s .entry)))) × (r < 2 ^ width) ⌝ }
+{
+    let end = (at + width + 7) / 8;
+    let word = four_at(s, end - 4);
+    part(word, end * 8 - (at + width), width)
 }
 
 // Every position and width

@@ -1,11 +1,12 @@
 // Reading a lodging message.
 pub mod bits;
 
-use bits::field_at;
+use bits::four_at;
+use bits::part;
 use bits::power;
+use bits::slot_at;
 use message::Fields;
 use message::Reading;
-use message::blank;
 use message::form::length_for;
 use message::form::price_width;
 use message::form::slots_end;
@@ -31,8 +32,16 @@ ghost use Rattle.rules.specs.Message.{
   badForm,
   read as reading,
 };
-ghost use Rattle.reader.specs.Slots.{badSlots, headIn};
-ghost use Rattle.message.specs.View.{fieldsIn, readingAs, noFields};
+ghost use Rattle.reader.specs.Slots.{badSlots, headIn, noHead, readingOf};
+ghost use Rattle.message.specs.View.{fieldsIn, readingAs};
+
+// The first eight bytes as one number: it holds every field before the slots.
+fn head_word(s: &[u8]) -> u64
+    requires { ⌜ 8 ≤ length (now s) ⌝ }
+    ensures { λ r. ⌜ r ≡ field 0 headWidth (bitsOf (now (s .entry))) ⌝ }
+{
+    four_at(s, 0) * 4294967296 + four_at(s, 4)
+}
 
 // 3: wrong length, form, kind or filling.
 pub fn bad_form(s: &[u8]) -> bool
@@ -41,19 +50,20 @@ pub fn bad_form(s: &[u8]) -> bool
     if s.len() < 8 {
         return true;
     }
-    let kind = field_at(s, 4, 2);
-    let map = field_at(s, 39, 25);
+    let word = head_word(s);
+    let kind = part(word, 58, 2);
+    let map = part(word, 0, 25);
     if s.len() != length_for(kind == 1, map) {
         return true;
     }
-    if field_at(s, 0, 4) != 1 {
+    if part(word, 60, 4) != 1 {
         return true;
     }
     if 1 < kind {
         return true;
     }
     let end = slots_end(kind == 1, map);
-    field_at(s, end, s.len() * 8 - end) != 0
+    slot_at(s, end, s.len() * 8 - end) != 0
 }
 
 // The hours before the first that the map names.
@@ -95,7 +105,7 @@ fn fill(
     let mut bad = false;
     while rest != 0 {
         let h = next_hour(rest);
-        let slot = field_at(s, at, 17 + price);
+        let slot = slot_at(s, at, 17 + price);
         let e = slot >> price;
         let p = slot & mask;
         energies[h] = e;
@@ -120,12 +130,13 @@ fn head_of(s: &[u8]) -> Head
     requires { ⌜ 8 ≤ length (now s) ⌝ }
     ensures { λ r. ⌜ (r ≡ headIn (bitsOf (now (s .entry)))) × (r .map < 2 ^ 25) ⌝ }
 {
+    let word = head_word(s);
     Head {
-        execution: field_at(s, 4, 2) == 1,
-        default: field_at(s, 6, 1) == 1,
-        unit: field_at(s, 7, 16),
-        contract: field_at(s, 23, 16),
-        map: field_at(s, 39, 25),
+        execution: part(word, 58, 2) == 1,
+        default: part(word, 57, 1) == 1,
+        unit: part(word, 41, 16),
+        contract: part(word, 25, 16),
+        map: part(word, 0, 25),
     }
 }
 
@@ -149,18 +160,39 @@ pub fn fields_of(s: &[u8]) -> Fields
     }
 }
 
-fn refused(n: u32) -> Reading
-    ensures { λ r. ⌜ r ≡ record { refusal = n; fields = noFields } ⌝ }
+// What is read of a message beside its energies and prices: refusal 0 and the head, or the table's number and a head that is all 0.
+struct Told {
+    refusal: u32,
+    head: Head,
+}
+
+fn refused(n: u32) -> Told
+    ensures { λ r. ⌜ r ≡ record { refusal = n; head = noHead } ⌝ }
 {
-    Reading {
+    Told {
         refusal: n,
-        fields: blank(),
+        head: Head {
+            execution: false,
+            default: false,
+            unit: 0,
+            contract: 0,
+            map: 0,
+        },
     }
 }
 
-// A message's fields, or the refusal: 3, 4, 5 in the table's order.
-pub fn read(s: &[u8]) -> Reading
-    ensures { λ r. ⌜ r ≡ readingAs (reading (now (s .entry))) ⌝ }
+// A refusal's energies and prices are 0.
+fn clear(energies: &mut [u32; 25], prices: &mut [u32; 25])
+    ensures { λ _. ⌜ (now (energies .exit) ≡ replicate 25 0) × (now (prices .exit) ≡ replicate 25 0) ⌝ }
+{
+    *energies = [0; 25];
+    *prices = [0; 25];
+}
+
+// Fills in a message's energies and prices, or finds the refusal: 3, 4, 5 in the table's order.
+fn judged(s: &[u8], energies: &mut [u32; 25], prices: &mut [u32; 25]) -> Told
+    requires { ⌜ (now energies ≡ replicate 25 0) × (now prices ≡ replicate 25 0) ⌝ }
+    ensures { λ r. ⌜ readingOf r (now (energies .exit)) (now (prices .exit)) ≡ readingAs (reading (now (s .entry))) ⌝ }
 {
     if bad_form(s) {
         return refused(3);
@@ -169,23 +201,31 @@ pub fn read(s: &[u8]) -> Reading
     if bad_map(head.map) {
         return refused(4);
     }
-    let mut energies = [0u32; 25];
-    let mut prices = [0u32; 25];
-    let bad = fill(s, head.execution, head.map, &mut energies, &mut prices);
     if bad_key(head.execution, head.unit, head.contract) {
         return refused(5);
     }
-    if bad {
+    if fill(s, head.execution, head.map, energies, prices) {
+        clear(energies, prices);
         return refused(5);
     }
+    Told { refusal: 0, head }
+}
+
+// A message's fields, or the refusal. The result is made in one place, so that the arrays are copied once.
+pub fn read(s: &[u8]) -> Reading
+    ensures { λ r. ⌜ r ≡ readingAs (reading (now (s .entry))) ⌝ }
+{
+    let mut energies = [0u32; 25];
+    let mut prices = [0u32; 25];
+    let told = judged(s, &mut energies, &mut prices);
     Reading {
-        refusal: 0,
+        refusal: told.refusal,
         fields: Fields {
-            execution: head.execution,
-            default: head.default,
-            unit: head.unit,
-            contract: head.contract,
-            map: head.map,
+            execution: told.head.execution,
+            default: told.head.default,
+            unit: told.head.unit,
+            contract: told.head.contract,
+            map: told.head.map,
             energies,
             prices,
         },

@@ -14,6 +14,15 @@ Inv-loop buf₀ from v n at₀ left₀ buf at left = (left ≤ n) × (at + left 
 abbrev μ-loop : tie.MeasureT-loop
 μ-loop buf₀ from v n at₀ left₀ buf at left = left
 
+put-four-requires : tie.Need-put-four-requires Inv-loop μ-loop
+put-four-requires c κs = search needs
+
+same-length : tie.Need-same-length Inv-loop μ-loop
+same-length c = search needs
+
+returns : tie.Need-returns Inv-loop μ-loop
+returns c = rw (c .before .before .before .before .if1 .taken) (c .before .before .put-four .ensures)
+
 loop-holds : tie.Need-loop-holds Inv-loop μ-loop
 loop-holds c = (search needs, search needs, refl, refl)
 
@@ -46,11 +55,11 @@ loop-again c = (
   stored-next _ _ _ _ (c .loop-test .taken) ∙ c .before .loop .inv .3,
 )
 
-same-length : tie.Need-same-length Inv-loop μ-loop
-same-length c = search needs
+same-length-2 : tie.Need-same-length-2 Inv-loop μ-loop
+same-length-2 c = search needs
 
-returns : tie.Need-returns Inv-loop μ-loop
-returns c = sym (stored-none _ _ _ _ (c .loop-test .left)) ∙ c .before .loop .inv .3
+returns-2 : tie.Need-returns-2 Inv-loop μ-loop
+returns-2 c = sym (stored-none _ _ _ _ (c .loop-test .left)) ∙ c .before .loop .inv .3
 
 pub put-bytes-spec : {M : Type 1} → statement M
 put-bytes-spec =
@@ -58,6 +67,9 @@ put-bytes-spec =
     (tie.spec
     Inv-loop
     μ-loop
+    put-four-requires
+    same-length
+    returns
     loop-holds
     sub-left
     mul-buf
@@ -67,5 +79,5 @@ put-bytes-spec =
     add-at
     loop-less
     loop-again
-    same-length
-    returns)
+    same-length-2
+    returns-2)

@@ -1,83 +1,96 @@
 -- `bad_form` meets its contract: each way out is the next test of the definition.
 use Prim.Native.Nat.{_*_, _+_, _<_, _≤_}
-use mathlib.Core.Path.{_≡_, sym, _∙_}
+use mathlib.Core.Path.{_≡_, refl, sym, _∙_}
 use native.Mathlib.Omega.{arith}
+use lib.Dec.{lit<, lit≤}
 use lib.ListN.{length}
 use Rattle.rules.specs.Message.{bitsOf, field}
 use Rattle.message.proofs.FormLaws.{Long, ends-in, form-short, form-length, form-form, form-kind, form-filling, length-read, filling-read}
+use Rattle.reader.proofs.WordLaws.{head-part}
 use Rattle.reader.proofs.bad_form.Statement.{statement}
 use Rattle.reader.proofs.bad_form.Tie as tie
 
--- what is known where the length was found right, then the form, and where the slots end
-long : (c : tie.Else2) → Long (c .before .before .before .before .before .before .args .s .now)
-long c = c .if2 .left ∙ length-read _ (c .before .before .before .field-at .ensures .0) (c .before .before .field-at2 .ensures .0) (c .before .length-for .ensures)
+-- the kind, the map and the form
+kind : (c : tie.After-part) → c .part .result ≡ field 4 2 (bitsOf (c .before .before .before .before .args .s .now))
+kind c = head-part 4 2 58 _ (c .before .before .if1 .left) refl (c .before .head-word .ensures) (c .part .ensures .0)
 
-form : (c : tie.Else3) → field 0 4 (bitsOf (c .before .before .before .before .before .before .before .before .args .s .now)) ≡ 1
-form c = sym (c .before .field-at3 .ensures .0) ∙ c .if3 .left
+map : (c : tie.After-part2) → c .part2 .result ≡ field 39 25 (bitsOf (c .before .before .before .before .before .args .s .now))
+map c = head-part 39 25 0 _ (c .before .before .before .if1 .left) refl (c .before .before .head-word .ensures) (c .part2 .ensures .0)
+
+form : (c : tie.After-part3) → c .part3 .result ≡ field 0 4 (bitsOf (c .before .before .before .before .before .before .before .before .args .s .now))
+form c = head-part 0 4 60 _ (c .before .before .before .before .before .before .if1 .left) refl (c .before .before .before .before .before .head-word .ensures) (c .part3 .ensures .0)
+
+-- what is known where the length was found right, and where the slots end
+long : (c : tie.Else2) → Long (c .before .before .before .before .before .before .before .args .s .now)
+long c = c .if2 .left ∙ length-read _ (kind (c .before .before .before)) (map (c .before .before)) (c .before .length-for .ensures)
 
 room : (c : tie.After-slots-end)
-    → (c .slots-end .result ≤ length (c .before .before .before .before .before .before .before .before .before .before .args .s .now) * 8) × (length (c .before .before .before .before .before .before .before .before .before .before .args .s .now) * 8 < c .slots-end .result + 8)
+    → (c .slots-end .result ≤ length (c .before .before .before .before .before .before .before .before .before .before .before .args .s .now) * 8) × (length (c .before .before .before .before .before .before .before .before .before .before .before .args .s .now) * 8 < c .slots-end .result + 8)
 room c = ends-in _ _ (c .before .before .before .before .if2 .left ∙ c .before .before .before .before .before .length-for .ensures) (c .slots-end .ensures .0)
 
 returns : tie.Need-returns
 returns c = form-short _ (c .if1 .taken)
 
-field-at-requires : tie.Need-field-at-requires
-field-at-requires c κs = omega arith
+head-word-requires : tie.Need-head-word-requires
+head-word-requires c κs = c .if1 .left
 
-field-at-requires-2 : tie.Need-field-at-requires-2
-field-at-requires-2 c κs = omega arith
+part-requires : tie.Need-part-requires
+part-requires c κs = (lit< tt, lit≤ tt)
+
+part-requires-2 : tie.Need-part-requires-2
+part-requires-2 c κs = (lit< tt, lit≤ tt)
 
 length-for-requires : tie.Need-length-for-requires
 length-for-requires c κs = tt
 
 returns-2 : tie.Need-returns-2
 returns-2 c =
-    let l = length-read _ (c .before .before .before .field-at .ensures .0) (c .before .before .field-at2 .ensures .0) (c .before .length-for .ensures) in
-    form-length _ (c .before .before .before .before .if1 .left) (λ q. c .if2 .taken (q ∙ sym l))
+    let l = length-read _ (kind (c .before .before .before)) (map (c .before .before)) (c .before .length-for .ensures) in
+    form-length _ (c .before .before .before .before .before .if1 .left) (λ q. c .if2 .taken (q ∙ sym l))
 
-field-at-requires-3 : tie.Need-field-at-requires-3
-field-at-requires-3 c κs = omega arith
+part-requires-3 : tie.Need-part-requires-3
+part-requires-3 c κs = (lit< tt, lit≤ tt)
 
 returns-3 : tie.Need-returns-3
-returns-3 c = form-form _ (c .before .before .before .before .before .before .if1 .left) (long (c .before .before)) (λ q. c .if3 .taken (c .before .field-at3 .ensures .0 ∙ q))
+returns-3 c = form-form _ (c .before .before .before .before .before .before .before .if1 .left) (long (c .before .before)) (λ q. c .if3 .taken (form (c .before) ∙ q))
 
 returns-4 : tie.Need-returns-4
-returns-4 c = form-kind _ (c .before .before .before .before .before .before .before .if1 .left) (long (c .before .before .before)) (form (c .before)) (omega (arith, c .if4 .taken, c .before .before .before .before .before .before .field-at .ensures .0))
+returns-4 c = form-kind _ (c .before .before .before .before .before .before .before .before .if1 .left) (long (c .before .before .before)) (sym (form (c .before .before)) ∙ c .before .if3 .left) (omega (arith, c .if4 .taken, kind (c .before .before .before .before .before .before)))
 
 slots-end-requires : tie.Need-slots-end-requires
 slots-end-requires c κs = tt
 
-mul-field-at : tie.Need-mul-field-at
-mul-field-at c = omega (arith, room c)
+mul-slot-at : tie.Need-mul-slot-at
+mul-slot-at c = omega (arith, room c)
 
-sub-field-at : tie.Need-sub-field-at
-sub-field-at c = room c .0
+sub-slot-at : tie.Need-sub-slot-at
+sub-slot-at c = room c .0
 
-field-at-requires-4 : tie.Need-field-at-requires-4
-field-at-requires-4 c κs = omega (arith, room c)
+slot-at-requires : tie.Need-slot-at-requires
+slot-at-requires c κs = omega (arith, room c)
 
 returns-5 : tie.Need-returns-5
 returns-5 c =
     let l = long (c .before .before .before .before .before) in
-    rw (c .field-at4 .ensures .0)
-    (filling-read _ (c .before .before .before .before .before .before .before .before .field-at .ensures .0) (c .before .before .before .before .before .before .before .field-at2 .ensures .0) l (c .before .slots-end .ensures .0)
-    ∙ form-filling _ (c .before .before .before .before .before .before .before .before .before .if1 .left) l (form (c .before .before .before)) (omega (arith, c .before .before .if4 .left, c .before .before .before .before .before .before .before .before .field-at .ensures .0)))
+    rw (c .slot-at .ensures .0)
+    (filling-read _ (kind (c .before .before .before .before .before .before .before .before)) (map (c .before .before .before .before .before .before .before)) l (c .before .slots-end .ensures .0)
+    ∙ form-filling _ (c .before .before .before .before .before .before .before .before .before .before .if1 .left) l (sym (form (c .before .before .before .before)) ∙ c .before .before .before .if3 .left) (omega (arith, c .before .before .if4 .left, kind (c .before .before .before .before .before .before .before .before))))
 
 pub bad-form-spec : {M : Type 1} → statement M
 bad-form-spec =
     tie.close
     (tie.spec
     returns
-    field-at-requires
-    field-at-requires-2
+    head-word-requires
+    part-requires
+    part-requires-2
     length-for-requires
     returns-2
-    field-at-requires-3
+    part-requires-3
     returns-3
     returns-4
     slots-end-requires
-    mul-field-at
-    sub-field-at
-    field-at-requires-4
+    mul-slot-at
+    sub-slot-at
+    slot-at-requires
     returns-5)

@@ -24,6 +24,8 @@ hour c = next _ _ (c .before .before .loop .inv .small) (c .before .loop-test .t
 slot : (c : tie.After-next-hour Inv-loop μ-loop)
     → (c .before .before .loop .at + 17 + c .before .before .before .before .price-width .result ≤ 8 * length (c .before .before .before .before .before .before .args .s .now))
     × (c .before .before .loop .at + 17 + c .before .before .before .before .price-width .result ≤ 864)
+    × (64 ≤ c .before .before .loop .at)
+    × ((c .before .before .loop .at + (17 + c .before .before .before .before .price-width .result) + 7) / 8 * 8 ≤ c .before .before .loop .at + 32)
 slot c = rw (c .before .before .before .before .price-width .ensures .0) (room-next _ _ _ (c .before .before .loop .inv) _ (hour c))
 
 price-width-requires : tie.Need-price-width-requires Inv-loop μ-loop
@@ -44,11 +46,11 @@ loop-holds c = rw (c .before .before .before .pre .2, c .before .before .before 
 next-hour-requires : tie.Need-next-hour-requires Inv-loop μ-loop
 next-hour-requires c κs = c .before .loop .inv .small
 
-add-field-at : tie.Need-add-field-at Inv-loop μ-loop
-add-field-at c = omega (arith, slot c)
+add-slot-at : tie.Need-add-slot-at Inv-loop μ-loop
+add-slot-at c = omega (arith, slot c)
 
-field-at-requires : tie.Need-field-at-requires Inv-loop μ-loop
-field-at-requires c κs = omega (arith, slot c, c .before .before .before .before .price-width .ensures .1)
+slot-at-requires : tie.Need-slot-at-requires Inv-loop μ-loop
+slot-at-requires c κs = omega (arith, slot c, c .before .before .before .before .price-width .ensures .1)
 
 cast-e : tie.Need-cast-e Inv-loop μ-loop
 cast-e c = omega (arith, c .before .before .before .before .before .price-width .ensures .1)
@@ -98,20 +100,20 @@ loop-less : tie.Need-loop-less Inv-loop μ-loop
 loop-less c = rw (c .power2 .ensures) (less (hour (c .before .before .before .before)))
 
 -- the two numbers of a slot
-energy : (c : tie.After-field-at Inv-loop μ-loop)
-    → c .field-at .result / 2 ^ c .before .before .before .before .before .price-width .result
+energy : (c : tie.After-slot-at Inv-loop μ-loop)
+    → c .slot-at .result / 2 ^ c .before .before .before .before .before .price-width .result
     ≡ field (c .before .before .before .loop .at) 17 (bitsOf (c .before .before .before .before .before .before .before .args .s .now))
 energy c =
-    ap (λ x. x / 2 ^ c .before .before .before .before .before .price-width .result) (c .field-at .ensures .0)
+    ap (λ x. x / 2 ^ c .before .before .before .before .before .price-width .result) (c .slot-at .ensures .0)
     ∙ slot-energy (c .before .before .before .loop .at) (c .before .before .before .before .before .price-width .result) (c .before .before .before .before .before .before .before .args .s .now) (slot (c .before) .0)
 
-price : (c : tie.After-field-at Inv-loop μ-loop)
-    → bitAnd (c .field-at .result) (c .before .before .before .before .power .result - 1)
+price : (c : tie.After-slot-at Inv-loop μ-loop)
+    → bitAnd (c .slot-at .result) (c .before .before .before .before .power .result - 1)
     ≡ field (c .before .before .before .loop .at + 17) (c .before .before .before .before .before .price-width .result) (bitsOf (c .before .before .before .before .before .before .before .args .s .now))
 price c =
-    ap (λ x. bitAnd (c .field-at .result) (x - 1)) (c .before .before .before .before .power .ensures)
-    ∙ and-mask (c .field-at .result) (c .before .before .before .before .before .price-width .result)
-    ∙ ap (λ x. x % 2 ^ c .before .before .before .before .before .price-width .result) (c .field-at .ensures .0)
+    ap (λ x. bitAnd (c .slot-at .result) (x - 1)) (c .before .before .before .before .power .ensures)
+    ∙ and-mask (c .slot-at .result) (c .before .before .before .before .before .price-width .result)
+    ∙ ap (λ x. x % 2 ^ c .before .before .before .before .before .price-width .result) (c .slot-at .ensures .0)
     ∙ slot-price (c .before .before .before .loop .at) (c .before .before .before .before .before .price-width .result) (c .before .before .before .before .before .before .before .args .s .now) (slot (c .before) .0)
 
 loop-again : tie.Need-loop-again Inv-loop μ-loop
@@ -134,8 +136,8 @@ fill-spec =
     sub-mask
     loop-holds
     next-hour-requires
-    add-field-at
-    field-at-requires
+    add-slot-at
+    slot-at-requires
     cast-e
     shr-e
     mul-energies

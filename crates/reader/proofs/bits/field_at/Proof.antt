@@ -1,9 +1,6 @@
 -- `bits::field_at` meets its contract: the five bytes from the first bit's byte on hold the field.
-use Prim.Native.Nat.{_+_, _*_, _-_, _/_, _%_, _^_}
+use mathlib.Core.Path.{_∙_}
 use native.Mathlib.Omega.{arith}
-use native.Mathlib.Nat.{mod-lt}
-use lib.Bits.{and-mask, mask-lt}
-use lib.Pow.{pow-pos, pow-mono}
 use Rattle.rules.proofs.ListLaws.{Under, all-of}
 use Rattle.reader.proofs.WordLaws.{field-read}
 use Rattle.reader.proofs.bits.field_at.Statement.{statement}
@@ -33,22 +30,15 @@ mul-word c = omega arith
 add-word : tie.Need-add-word
 add-word c = omega arith
 
-shr-result : tie.Need-shr-result
-shr-result c = omega arith
-
-power-requires : tie.Need-power-requires
-power-requires c κs = omega arith
-
-sub-result : tie.Need-sub-result
-sub-result c = rw (c .power .ensures) (pow-pos _)
-
-cast-result : tie.Need-cast-result
-cast-result c = record { fits = rw (c .power .ensures) (omega (arith, mask-lt ((c .before .word-at .result * 256 + c .before .before .byte-at .result) / 2 ^ (40 - c .before .before .before .before .args .at % 8 - c .before .before .before .before .args .width)) (c .before .before .before .before .args .width), pow-mono {i = c .before .before .before .before .args .width} {j = 32} (c .before .before .before .before .pre .0))) }
+part-requires : tie.Need-part-requires
+part-requires c κs = omega arith
 
 returns : tie.Need-returns
 returns c =
-    let u : Under 256 (c .before .before .before .before .args .s .now) = all-of 0 _ (λ i l. c .before .before .before .shared-slice-known .given i .fits) in
-    rw (c .power .ensures, and-mask, c .before .word-at .ensures .0, c .before .before .byte-at .ensures) (field-read _ _ u (c .before .before .before .before .pre .0) (c .before .before .before .before .pre .1), mod-lt _ (pow-pos _))
+    let u : Under 256 (c .before .before .before .before .args .s .now) = all-of 0 _ (λ i l. c .before .before .before .shared-slice-known .given i .fits) in (
+      c .part .ensures .0 ∙ (rw (c .before .word-at .ensures .0, c .before .before .byte-at .ensures) (field-read _ _ u (c .before .before .before .before .pre .0) (c .before .before .before .before .pre .1))),
+      c .part .ensures .1,
+    )
 
 pub field-at-spec : {M : Type 1} → statement M
 field-at-spec =
@@ -62,8 +52,5 @@ field-at-spec =
     word-at-requires
     mul-word
     add-word
-    shr-result
-    power-requires
-    sub-result
-    cast-result
+    part-requires
     returns)

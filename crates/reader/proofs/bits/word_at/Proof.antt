@@ -10,33 +10,11 @@ returns c = (word-past _ _ (omega arith), omega arith)
 sub-if2 : tie.Need-sub-if2
 sub-if2 c = omega arith
 
-shared-slice-read-joined : tie.Need-shared-slice-read-joined
-shared-slice-read-joined c = omega arith
-
-add-joined : tie.Need-add-joined
-add-joined c = omega arith
-
-shared-slice-read-joined-2 : tie.Need-shared-slice-read-joined-2
-shared-slice-read-joined-2 c = omega arith
-
-add-joined-2 : tie.Need-add-joined-2
-add-joined-2 c = omega arith
-
-shared-slice-read-joined-3 : tie.Need-shared-slice-read-joined-3
-shared-slice-read-joined-3 c = omega arith
-
-add-joined-3 : tie.Need-add-joined-3
-add-joined-3 c = omega arith
-
-shared-slice-read-joined-4 : tie.Need-shared-slice-read-joined-4
-shared-slice-read-joined-4 c = omega arith
-
-joined-requires : tie.Need-joined-requires
-joined-requires c κs = tt
+four-at-requires : tie.Need-four-at-requires
+four-at-requires c κs = omega arith
 
 returns-2 : tie.Need-returns-2
-unfolding wordAt
-returns-2 c = c .joined .ensures
+returns-2 c = c .four-at .ensures
 
 byte-at-requires : tie.Need-byte-at-requires
 byte-at-requires c κs = tt
@@ -59,12 +37,12 @@ add-byte-at-3 c = omega arith
 byte-at-requires-4 : tie.Need-byte-at-requires-4
 byte-at-requires-4 c κs = tt
 
-joined-requires-2 : tie.Need-joined-requires-2
-joined-requires-2 c κs = tt
+joined-requires : tie.Need-joined-requires
+joined-requires c κs = tt
 
 returns-3 : tie.Need-returns-3
 unfolding wordAt
-returns-3 c = rw (← (c .before .before .before .before .byte-at .ensures), ← (c .before .before .before .byte-at2 .ensures), ← (c .before .before .byte-at3 .ensures), ← (c .before .byte-at4 .ensures)) (c .joined2 .ensures)
+returns-3 c = rw (← (c .before .before .before .before .byte-at .ensures), ← (c .before .before .before .byte-at2 .ensures), ← (c .before .before .byte-at3 .ensures), ← (c .before .byte-at4 .ensures)) (c .joined .ensures)
 
 pub word-at-spec : {M : Type 1} → statement M
 word-at-spec =
@@ -72,14 +50,7 @@ word-at-spec =
     (tie.spec
     returns
     sub-if2
-    shared-slice-read-joined
-    add-joined
-    shared-slice-read-joined-2
-    add-joined-2
-    shared-slice-read-joined-3
-    add-joined-3
-    shared-slice-read-joined-4
-    joined-requires
+    four-at-requires
     returns-2
     byte-at-requires
     add-byte-at
@@ -88,5 +59,5 @@ word-at-spec =
     byte-at-requires-3
     add-byte-at-3
     byte-at-requires-4
-    joined-requires-2
+    joined-requires
     returns-3)
