@@ -4,7 +4,7 @@ use mathlib.Core.Path.{_≡_, refl, sym, ap, _∙_}
 use mathlib.Core.Bool.{Bool, true, false}
 use mathlib.Core.List.{List}
 use native.Mathlib.Omega.{arith}
-use lib.ListN.{length, set, take, length-map}
+use lib.ListN.{length, getD, set, take, length-map}
 use Rattle.rules.specs.Book.{Book}
 use Rattle.session.specs.Image.{image, Sound, unitOf, noLodgement}
 use Rattle.session.specs.Parts.{Within}
@@ -18,8 +18,12 @@ use Rattle.room.proofs.FitLaws.{held, admitted-taken, admitted-left}
 use Rattle.validation.specs.Turns.{isTaken, Loaded, JudgesAt, verdictBy}
 use Rattle.validation.proofs.TurnLaws.{reached-past, reached-taken}
 use Rattle.validation.proofs.JudgeLaws.{unit-placed}
-use Rattle.closing.specs.Passes.{TakesAt, Along, PassesTurn}
+use Rattle.closing.specs.Passes.{TakesAt, Held, Along, PassesTurn}
 use Rattle.closing.proofs.RoomLaws.{kept-refused, kept-accepted, not-yet, admitted, refused}
+
+-- each one's unit has a row of the room
+pub holder-in : (s : Session) (holders : List ℕ) → Within s → Held s holders → (j : ℕ) → getD holders j 0 < 65
+holder-in s holders w held j = omega (arith, held .most j, w .enrolled)
 
 module _ (s : Session) (turn : ℕ) (start : List Verdict) (all : List ℕ) where
   -- with some places left

@@ -1,8 +1,8 @@
-use Prim.Native.Nat.{_+_, _≤_, _-_}
+use Prim.Native.Nat.{_≤_, _-_}
 use mathlib.Core.Path.{_≡_, refl, _∙_}
 use native.Mathlib.Omega.{arith}
 use lib.ListN.{length, length-set}
-use Rattle.closing.proofs.PassLaws.{Left, left-start, left-end, left-admitted, left-refused, left-past}
+use Rattle.closing.proofs.PassLaws.{holder-in, Left, left-start, left-end, left-admitted, left-refused, left-past}
 use borrow.Author.Needs.{needs}
 use Rattle.closing.proofs.turns.pass.Statement.{statement}
 use Rattle.closing.proofs.turns.pass.Tie as tie
@@ -57,7 +57,7 @@ element-copy-out-p c = search needs
 
 -- src/turns.rt:78:16
 admits-requires : tie.Need-admits-requires Inv-loop μ-loop
-admits-requires c κs = (omega (arith, c .before .before .before .before .before .before .before .before .before .pre .2 .most (c .before .before .before .before .before .before .before .before .before .args .s .standing - (c .before .before .before .before .before .before .loop .passed + 1)), c .before .before .before .before .before .before .before .before .before .pre .0 .enrolled), omega arith, c .before .before .before .before .before .before .before .before .before .pre .0 .hours, c .before .before .before .before .before .before .loop .inv .2)
+admits-requires c κs = (holder-in (c .before .before .before .before .before .before .before .before .before .args .s) _ (c .before .before .before .before .before .before .before .before .before .pre .0) (c .before .before .before .before .before .before .before .before .before .pre .2) _, omega arith, c .before .before .before .before .before .before .before .before .before .pre .0 .hours, c .before .before .before .before .before .before .loop .inv .2)
 
 -- src/turns.rt:79:21
 accepted-requires : tie.Need-accepted-requires Inv-loop μ-loop
