@@ -9,16 +9,17 @@ use response::Registered;
 use response::Response;
 use session::Session;
 
-// Units and notices: one unit and its notice, the count, all capacities.
+// Units and notices: all capacities, the count, one unit and its notice. The capacities come first: a copy of what stands there
+// is then seen to change nothing, and the compiler leaves it out.
 pub fn settle_registry(s: &mut Session, t: Registered) -> Response
     requires { ⌜ t .change .at < 64 ⌝ }
     ensures { λ r. ⌜ (now (s .exit) ≡ registryWith (now (s .entry)) (t .change)) × (r ≡ t .response) ⌝ }
 {
+    s.capacities = t.change.capacities;
+    s.enrolled = t.change.enrolled;
     let at = t.change.at;
     s.units[at] = t.change.unit;
     s.notices[at] = t.change.notice;
-    s.enrolled = t.change.enrolled;
-    s.capacities = t.change.capacities;
     t.response
 }
 

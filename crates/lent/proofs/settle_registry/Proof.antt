@@ -53,7 +53,7 @@ use Rattle.response.proofs.Response as N
 use Rattle.response.proofs.Response.Laws as N′
 use Rattle.lent.proofs.ArrayLaws.{vals, All, One}
 use Rattle.lent.proofs.Cell.{sv, field-read, nested-read}
-use Rattle.lent.proofs.SessionCell.{Good, put-unit, put-notice, put-enrolled, with-unit, with-notice, with-enrolled, with-capacities, at-units, at-notices, at-enrolled, at-capacities, store-unit, store-notice, store-enrolled, store-capacities}
+use Rattle.lent.proofs.SessionCell.{Good, put-unit, put-enrolled, put-capacities, with-unit, with-notice, with-enrolled, with-capacities, at-units, at-notices, at-enrolled, at-capacities, store-unit, store-notice, store-enrolled, store-capacities}
 use Rattle.lent.proofs.settle_registry.Key.{name as #entry}
 use Rattle.lent.proofs.settle_registry as f
 use Rattle.lent.proofs.settle_registry.Statement as stated
@@ -116,13 +116,13 @@ module _ {M : Type 1} (𝓤 : URA M) (H : Heap 𝓤) (A : Atoms 𝓤) (W : Given
 
   -- the session after each store
   abbrev h₁ : Session
-  h₁ = put-unit h (t .change .at) (t .change .unit)
+  h₁ = put-capacities h (t .change .capacities)
 
   abbrev h₂ : Session
-  h₂ = put-notice h₁ (t .change .at) (t .change .notice)
+  h₂ = put-enrolled h₁ (t .change .enrolled)
 
   abbrev h₃ : Session
-  h₃ = put-enrolled h₂ (t .change .enrolled)
+  h₃ = put-unit h₂ (t .change .at) (t .change .unit)
 
   abbrev h′ : Session
   h′ = registryWith h (t .change)
@@ -158,17 +158,17 @@ module _ {M : Type 1} (𝓤 : URA M) (H : Heap 𝓤) (A : Atoms 𝓤) (W : Given
 
     module _ (was : Good h) where
       good₁ : Good h₁
-      good₁ = with-unit h was (t .change .at) (t .change .unit) one-unit
+      good₁ = with-capacities h was (t .change .capacities) all-capacities
 
       good₂ : Good h₂
-      good₂ = with-notice h₁ good₁ (t .change .at) (t .change .notice) one-notice
+      good₂ = with-enrolled h₁ good₁ (t .change .enrolled) count-fits
 
       good₃ : Good h₃
-      good₃ = with-enrolled h₂ good₂ (t .change .enrolled) count-fits
+      good₃ = with-unit h₂ good₂ (t .change .at) (t .change .unit) one-unit
 
       -- what closing the borrow asks
       made : Good h′
-      made = with-capacities h₃ good₃ (t .change .capacities) all-capacities
+      made = with-notice h₃ good₃ (t .change .at) (t .change .notice) one-notice
 
     exits : ent 𝓤 (sep 𝓤 (A .obs γ (T.the-row .coded .code h′)) (sep 𝓤 (A .bor κ (Body (mem T.the-row) b o γ)) (A .lft κ q))) (Post (LL.val N.the-type N′.the-laws (t .response)))
     exits =
@@ -189,20 +189,20 @@ module _ {M : Type 1} (𝓤 : URA M) (H : Heap 𝓤) (A : Atoms 𝓤) (W : Given
           move ! (1 ∷ []) $ peeks ! T.the-row (Is T.the-row) (shows 𝓤 H A T.the-row) h (LL.vals T.the-type T′.the-laws h) (λ was. move ! (1 ∷ 0 ∷ []) $
           use1 W (‵ (fat fullShare T′.mir b o (sv h))) (W .laws .raw-at fullShare T′.mir b o (sv h)) $
           -- [the session's cell; what it owns; the open borrow; obs; auth; _8; …; _7; …; .. _1; …; room for _0; …]
+          -- the capacities and the count
+          assigns ! (of-opd ! (load ! (from ! (of-capacities !)) (get-capacities ! t 17 refl))) (from ! (hop ! (look ! 19 refl) (at-capacities !))) (store-capacities ! h (t .change .capacities) typed-capacities) $
+          assigns ! (of-opd ! (load ! (from ! (of-enrolled !)) (get-enrolled ! t 17 refl))) (from ! (hop ! (look ! 19 refl) (at-enrolled !))) (store-enrolled ! h₁ (t .change .enrolled) count-fits) $
           assigns ! (of-opd ! (load ! (from ! (of-at !)) (get-at ! t 17 refl))) (from ! (stop !)) (init ! 15 refl (tt, record { fits = omega (arith, small) })) $
           -- the unit
           assigns ! (bin ! (load ! (from ! (stop !)) (look ! 15 refl)) (lit ! tt) (record { fits = omega (arith, small) })) (from ! (stop !)) (init ! 13 refl (tt, record { fits = omega (arith, small) })) $
           assigns ! (addr ! (from ! (hop ! (look ! 19 refl) (at-units !)))) (from ! (stop !)) (init ! 11 refl (tt, tt)) $
           assigns ! (bin ! (load ! (from ! (stop !)) (look ! 11 refl)) (load ! (from ! (stop !)) (look ! 13 refl)) tt) (from ! (stop !)) (init ! 9 refl (tt, tt)) $
-          assigns ! (of-opd ! (load ! (from ! (of-unit !)) (get-unit ! t 17 refl))) (from ! (hop ! (look ! 9 refl) (stop !))) (store-unit ! h (t .change .at) (t .change .unit) was small (LL.lawful U.the-type U′.the-laws 𝓤 H A W .typed (t .change .unit) _ one-unit .0)) $
+          assigns ! (of-opd ! (load ! (from ! (of-unit !)) (get-unit ! t 17 refl))) (from ! (hop ! (look ! 9 refl) (stop !))) (store-unit ! h₂ (t .change .at) (t .change .unit) (good₂ was) small (LL.lawful U.the-type U′.the-laws 𝓤 H A W .typed (t .change .unit) _ one-unit .0)) $
           -- its notice
           assigns ! (bin ! (load ! (from ! (stop !)) (look ! 15 refl)) (lit ! tt) (record { fits = omega (arith, small) })) (from ! (stop !)) (store ! 13 refl (tt, record { fits = omega (arith, small) })) $
           assigns ! (addr ! (from ! (hop ! (look ! 19 refl) (at-notices !)))) (from ! (stop !)) (init ! 7 refl (tt, tt)) $
           assigns ! (bin ! (load ! (from ! (stop !)) (look ! 7 refl)) (load ! (from ! (stop !)) (look ! 13 refl)) tt) (from ! (stop !)) (init ! 5 refl (tt, tt)) $
-          assigns ! (of-opd ! (load ! (from ! (of-notice !)) (get-notice ! t 17 refl))) (from ! (hop ! (look ! 5 refl) (stop !))) (store-notice ! h₁ (t .change .at) (t .change .notice) (good₁ was) small (LL.lawful X.the-type X′.the-laws 𝓤 H A W .typed (t .change .notice) _ one-notice .0)) $
-          -- the count and the capacities
-          assigns ! (of-opd ! (load ! (from ! (of-enrolled !)) (get-enrolled ! t 17 refl))) (from ! (hop ! (look ! 19 refl) (at-enrolled !))) (store-enrolled ! h₂ (t .change .enrolled) count-fits) $
-          assigns ! (of-opd ! (load ! (from ! (of-capacities !)) (get-capacities ! t 17 refl))) (from ! (hop ! (look ! 19 refl) (at-capacities !))) (store-capacities ! h₃ (t .change .capacities) typed-capacities) $
+          assigns ! (of-opd ! (load ! (from ! (of-notice !)) (get-notice ! t 17 refl))) (from ! (hop ! (look ! 5 refl) (stop !))) (store-notice ! h₃ (t .change .at) (t .change .notice) (good₃ was) small (LL.lawful X.the-type X′.the-laws 𝓤 H A W .typed (t .change .notice) _ one-notice .0)) $
           assigns ! (of-opd ! (load ! (from ! (of-response !)) (get-response ! t 17 refl))) (from ! (stop !)) (init ! 21 refl (LL.lawful N.the-type N′.the-laws 𝓤 H A W .typed (t .response) _ told .0)) $
           use1 W (‵ (fat fullShare (rawTy T′.mir) b o (sv h′))) (W .laws .at-raw fullShare T′.mir b o (sv h′)) $
           move ! (1 ∷ []) $ drop ! $ owned ! T.the-row (Is T.the-row) (LL.makes T.the-type T′.the-plain 𝓤 H A) h′ _ (made was) $ move ! (1 ∷ 0 ∷ []) $ closes ! tt T.the-row h′ (LL.vals T.the-type T′.the-laws h′) b o $
