@@ -3,7 +3,9 @@ ghost use Prim.Native.Nat.{_<_};
 ghost use Rattle.rules.specs.DayBook.{clear};
 ghost use Rattle.session.specs.Steps.{Met};
 ghost use Rattle.session.specs.Parts.{Within, Judges, Entered};
-ghost use Rattle.gathering.specs.Built.{Holders};
+ghost use mathlib.Core.List.{List};
+ghost use Rattle.session.specs.declared.Unit.{Unit};
+ghost use Rattle.gathering.specs.Built.{Holders, DayOf, dayIn};
 ghost use Rattle.clearing.specs.Hours.{HourAs, HoursAs};
 use session::Answer;
 use session::Cleared;
@@ -11,7 +13,6 @@ use session::GATE;
 use session::Judged;
 use session::Session;
 use session::Turn;
-use session::Unit;
 
 // An hour's withdrawal steps and figures.
 pub struct HourEnd {
@@ -25,13 +26,41 @@ pub struct DayEnd {
     pub figures: [Cleared; 25],
 }
 
-// The hour at place k, `holders` being the units of the lodgements. An hour that no session of calls has, one that is not
-// ready, gets figures of 0.
-fn clear_hour(s: Session, holders: [Unit; 128], k: usize) -> HourEnd
-    requires { ⌜ Within s × Holders s holders × (k < 25) ⌝ }
-    ensures { λ r. ⌜ HourAs s k r ⌝ }
+// The hour at place k. What is lent is what the day's hours read of the lodgements. An hour that no session of calls has, one
+// that is not ready, gets figures of 0.
+fn clear_hour<'a>(
+    s: Session,
+    k: usize,
+    number: &'a [u32; 128],
+    unit: &'a [u32; 128],
+    border: &'a [u32; 128],
+    purchase: &'a [bool; 128],
+    legacy: &'a [bool; 128],
+    offer: &'a [bool; 128],
+    execution: &'a [bool; 128],
+    energy: &'a [u32; 3200],
+    price: &'a [u32; 3200],
+) -> HourEnd
+    requires { ⌜ Within s × (k < 25) ⌝ }
+    ensures { λ r. ⌜ ((hs : List Unit) → Holders s hs
+        → DayOf s hs (dayIn (now (number .entry)) (now (unit .entry)) (now (border .entry)) (now (purchase .entry)) (now (legacy .entry)) (now (offer .entry)) (now (execution .entry)) (now (energy .entry)) (now (price .entry)))
+        → HourAs s k r) ⌝ }
 {
-    let h = gathering::hour_at(s, holders, k);
+    let capacities = s.capacities;
+    let h = gathering::hour_at(
+        s.standing,
+        k,
+        number,
+        unit,
+        border,
+        purchase,
+        legacy,
+        offer,
+        execution,
+        energy,
+        price,
+        capacities,
+    );
     let c = hour::clear(h);
     let f = c.figures;
     let units = s.units;
@@ -48,12 +77,25 @@ fn clear_hours(s: Session) -> DayEnd
     ensures { λ r. ⌜ HoursAs s (s .hours) (r .figures) (r .steps) ⌝ }
 {
     let holders = gathering::holders(s);
+    let d = gathering::day_of(s, holders);
     let none = session::no_figures();
     let n = s.hours as usize;
     let mut figures = [none; 25];
     let mut steps: u64 = 0;
     for k in 0..n {
-        let e = clear_hour(s, holders, k);
+        let e = clear_hour(
+            s,
+            k,
+            &d.number,
+            &d.unit,
+            &d.border,
+            &d.purchase,
+            &d.legacy,
+            &d.offer,
+            &d.execution,
+            &d.energy,
+            &d.price,
+        );
         let f = e.figures;
         figures[k] = f;
         steps += arrays::wide(e.steps);

@@ -17,7 +17,7 @@ blanks d zero i = refl
 blanks d (suc n) zero = refl
 blanks d (suc n) (suc i) = blanks d n i
 
-below : (i j : ℕ) → j < i + 1 → (i ≡ j → ⊥) → j < i
+pub below : (i j : ℕ) → j < i + 1 → (i ≡ j → ⊥) → j < i
 below i j h f = ⊎-elim (λ z. absurd (f (omega arith))) (λ z. omega arith) (eq-or-lt-of-le (let m : suc j ≤ i + 1 = omega arith in m))
 
 module _ {A : Type 0} (f : ℕ → A) (d : A) (size : ℕ) where
@@ -35,3 +35,7 @@ module _ {A : Type 0} (f : ℕ → A) (d : A) (size : ℕ) where
 
   pub column-end : (r : List A) (i n : ℕ) → Column f d i size r → i ≡ n → Column f d n size r
   column-end r i n c e = rw (← e) c
+
+-- a column by another name
+pub column-as : {A : Type 0} {f g : ℕ → A} {d : A} {n size : ℕ} {r : List A} → Column f d n size r → ((i : ℕ) → i < n → f i ≡ g i) → Column g d n size r
+column-as c e = record { at = λ i h. c .at i h ∙ e i h; behind = c .behind; long = c .long }
