@@ -5,7 +5,7 @@ ghost use Rattle.session.specs.Steps.{Met};
 ghost use Rattle.session.specs.Parts.{Within, Judges, Entered};
 ghost use mathlib.Core.List.{List};
 ghost use Rattle.session.specs.declared.Unit.{Unit};
-ghost use Rattle.gathering.specs.Built.{Holders, DayOf, dayIn};
+ghost use Rattle.gathering.specs.Built.{Spots, Holders, DayOf, dayIn};
 ghost use Rattle.clearing.specs.Hours.{HourAs, HoursAs};
 use session::Answer;
 use session::Cleared;
@@ -31,6 +31,7 @@ pub struct DayEnd {
 fn clear_hour<'a>(
     s: Session,
     k: usize,
+    spot: &'a [u32; 128],
     number: &'a [u32; 128],
     unit: &'a [u32; 128],
     border: &'a [u32; 128],
@@ -42,14 +43,15 @@ fn clear_hour<'a>(
     price: &'a [u32; 3200],
 ) -> HourEnd
     requires { ⌜ Within s × (k < 25) ⌝ }
-    ensures { λ r. ⌜ ((hs : List Unit) → Holders s hs
+    ensures { λ r. ⌜ ((hs : List Unit) → Spots s (now (spot .entry)) → Holders s hs
         → DayOf s hs (dayIn (now (number .entry)) (now (unit .entry)) (now (border .entry)) (now (purchase .entry)) (now (legacy .entry)) (now (offer .entry)) (now (execution .entry)) (now (energy .entry)) (now (price .entry)))
         → HourAs s k r) ⌝ }
 {
     let capacities = s.capacities;
-    let h = gathering::hour_at(
+    let g = gathering::hour_at(
         s.standing,
         k,
+        spot,
         number,
         unit,
         border,
@@ -61,10 +63,10 @@ fn clear_hour<'a>(
         price,
         capacities,
     );
+    let h = g.hour;
     let c = hour::clear(h);
     let f = c.figures;
-    let units = s.units;
-    let figures = results::kept(units, s.enrolled, h, f);
+    let figures = results::kept(s.enrolled, h, f, &g.offering, &g.executing);
     HourEnd {
         steps: f.steps,
         figures,
@@ -76,7 +78,8 @@ fn clear_hours(s: Session) -> DayEnd
     requires { ⌜ Within s ⌝ }
     ensures { λ r. ⌜ HoursAs s (s .hours) (r .figures) (r .steps) ⌝ }
 {
-    let holders = gathering::holders(s);
+    let spot = gathering::spots(s);
+    let holders = gathering::holders(s, &spot);
     let d = gathering::day_of(s, holders);
     let none = session::no_figures();
     let n = s.hours as usize;
@@ -86,6 +89,7 @@ fn clear_hours(s: Session) -> DayEnd
         let e = clear_hour(
             s,
             k,
+            &spot,
             &d.number,
             &d.unit,
             &d.border,

@@ -33,6 +33,16 @@ module _ {A : Type 0} (f : ℕ → A) (d : A) (size : ℕ) where
     long = length-set r i x ∙ c .long;
   }
 
+  -- a place that is left as it is
+  pub column-skip : (r : List A) (i : ℕ) → Column f d i size r → d ≡ f i → Column f d (i + 1) size r
+  column-skip r i c e = record {
+    at = λ j k. by-bool (eqb i j)
+        (λ t. let q = eqb-true i j t in rw (← q) (c .behind i (omega arith) ∙ e))
+        (λ t. c .at j (below i j k (eqb-false i j t)));
+    behind = λ j k. c .behind j (omega arith);
+    long = c .long;
+  }
+
   pub column-end : (r : List A) (i n : ℕ) → Column f d i size r → i ≡ n → Column f d n size r
   column-end r i n c e = rw (← e) c
 

@@ -1,18 +1,18 @@
 -- The unit of a number, the lodgements that count in an hour and their places, the notice at a way.
 use Prim.Native.Nat.{ℕ, _+_, _*_, _-_, _≤_, _<_}
 use mathlib.Core.Path.{_≡_, refl, sym, ap, _∙_}
-use mathlib.Core.Bool.{Bool, true, false, _&&_, Bool·beq}
-use mathlib.Core.List.{List, [], _∷_, _++_, append-assoc, append-nil}
+use mathlib.Core.Bool.{Bool, true, false, cond, _&&_, Bool·beq}
+use mathlib.Core.List.{List, [], _∷_, _++_, map, map-map, append-assoc, append-nil}
 use native.Mathlib.Omega.{arith}
 use native.Mathlib.Numerals.{add-one}
 use lib.Dec.{eqb, ltb}
 use lib.ListN.{getD, set, take, length, length-take, List·getD-eq-default}
 use lib.Seq.{getD-take, take-suc-set, getD-set-same, getD-set-other}
-use borrow.Author.Tests.{lt-ltb, le-ltb, eqb-true, eqb-false}
+use borrow.Author.Tests.{lt-ltb, le-ltb, eqb-true, eqb-false, ltb-true, ltb-false}
 use Rattle.rules.proofs.BoolLaws.{by-bool}
 use Rattle.rules.specs.Lists.{All, keep, from}
 use Rattle.rules.proofs.ListLaws.{all-keep, all-at, keep-same}
-use Rattle.arrays.proofs.PlaceLaws.{from-next, from-end, from-all, none-off}
+use Rattle.arrays.proofs.PlaceLaws.{from-next, from-end, from-all, none-off, map-all}
 use Rattle.session.specs.declared.Session.{Session}
 use Rattle.session.specs.declared.Unit.{Unit}
 use Rattle.session.specs.declared.Notice.{Notice}
@@ -20,27 +20,57 @@ use Rattle.session.specs.declared.Lodgement.{Lodgement}
 use Rattle.session.specs.declared.Verdict.{Verdict}
 use Rattle.session.specs.Image.{noUnit, noNotice, noLodgement, noVerdict}
 use Rattle.session.specs.Parts.{numberIs, placeOf}
-use Rattle.session.proofs.PlaceLaws.{place-first}
+use Rattle.session.proofs.PlaceLaws.{place-first, place-map}
 use Rattle.gathering.specs.declared.Places.{Places}
 use Rattle.gathering.specs.declared.Day.{Day}
+use Rattle.gathering.specs.declared.Gathered.{Gathered}
 use Rattle.borders.specs.declared.Executions.{Executions}
 use Rattle.hour.specs.declared.Hour.{Hour}
 use Rattle.gathering.specs.Columns.{Column}
-use Rattle.gathering.specs.Built.{unitAmong, energyOn, PutAt, Rows, isAccepted, acceptedAt, counts, countsIn, countsAt, Selected, Chosen, Inside, pickedAt, markedAt, slotAt, energyAt, priceAt, numberAt, unitAt, borderAt, sideAt, legacyAt, numberOn, unitOn, borderOn, sideOn, legacyOn, Held, Picked, DayOf, noticeAt, bareNotice, Given, holdersIn, Built}
+use Rattle.gathering.specs.Built.{isNumber, spotIn, unitAmong, holderIn, energyOn, PutAt, Rows, isAccepted, acceptedAt, counts, countsIn, countsAt, Selected, Chosen, Inside, pickedAt, markedAt, slotAt, energyAt, priceAt, numberAt, unitAt, borderAt, sideAt, legacyAt, numberOn, unitOn, borderOn, sideOn, legacyOn, Held, Picked, DayOf, noticeAt, bareNotice, Given, holdersIn, Gather}
 use Rattle.gathering.proofs.ColumnLaws.{below, column-as}
+use Rattle.gathering.proofs.ListLaws.{front-places}
 
 -- The unit of a number
 
-module _ (us : List Unit) (n m p : ℕ) (at : p ≡ placeOf (numberIs m) (take n us)) where
-  found : unitAmong (take n us) m ≡ getD (take n us) p noUnit
-  unfolding unitAmong
-  found = place-first (numberIs m) noUnit (take n us) ∙ ap (λ k. getD (take n us) k noUnit) (sym at)
+-- a search among the numbers of units is one among the units
+pub numbers-place : (us : List Unit) (n m : ℕ) (numbers : List ℕ) → Column (unitOn us) 0 n 64 numbers → n ≤ 64 → n ≤ length us → placeOf (isNumber m) (take n numbers) ≡ placeOf (numberIs m) (take n us)
+unfolding unitOn
+numbers-place us n m numbers c h l =
+    ap (placeOf (isNumber m)) (sym (front-places 0 numbers n (omega (arith, c .long)))
+    ∙ (map-all _ (λ p. getD us p noUnit .number) (from-all _ 0 n (λ p a b. c .at p (omega arith)))
+    ∙ (sym (map-map (λ (u : Unit). u .number) (λ p. getD us p noUnit) (from 0 n)) ∙ ap (map (λ (u : Unit). u .number)) (front-places noUnit us n l))))
+    ∙ place-map (λ (u : Unit). u .number) (isNumber m) (take n us)
 
-  pub among-here : p < n → getD us p noUnit ≡ unitAmong (take n us) m
-  among-here h = sym (found ∙ getD-take n us p noUnit h)
+unfoldable pub spotAmong : List ℕ → ℕ → List Lodgement → ℕ → ℕ
+spotAmong numbers n ls i = placeOf (isNumber (getD ls i noLodgement .key .unit)) (take n numbers)
 
-  pub among-none : n ≤ p → noUnit ≡ unitAmong (take n us) m
-  among-none h = sym (found ∙ List·getD-eq-default (take n us) noUnit (omega (arith, length-take n us)))
+pub spots-as : (us : List Unit) (n : ℕ) (ls : List Lodgement) (m : ℕ) (numbers r : List ℕ) → Column (unitOn us) 0 n 64 numbers → n ≤ 64 → n ≤ length us
+    → Column (spotAmong numbers n ls) 0 m 128 r → Column (spotIn us n ls) 0 m 128 r
+unfolding spotAmong spotIn
+spots-as us n ls m numbers r c h l d = column-as d (λ i k. numbers-place us n (getD ls i noLodgement .key .unit) numbers c h l)
+
+-- the unit at a place of its own
+unfoldable pub unitBy : List Unit → ℕ → List ℕ → ℕ → Unit
+unitBy us n spot i = cond (ltb (getD spot i 0) n) (getD us (getD spot i 0) noUnit) noUnit
+
+module _ (us : List Unit) (n : ℕ) (spot : List ℕ) (i : ℕ) where
+  pub unit-here : {p : ℕ} → p ≡ getD spot i 0 → p < n → getD us p noUnit ≡ unitBy us n spot i
+  unfolding unitBy
+  unit-here e h = rw (e, lt-ltb (getD spot i 0) n (omega arith))
+
+  pub unit-none : {p : ℕ} → p ≡ getD spot i 0 → n ≤ p → noUnit ≡ unitBy us n spot i
+  unfolding unitBy
+  unit-none e h = rw (le-ltb (getD spot i 0) n (omega arith))
+
+  pub unit-found : (ls : List Lodgement) → getD spot i 0 ≡ spotIn us n ls i → unitBy us n spot i ≡ holderIn us n ls i
+  unfolding holderIn spotIn unitAmong
+  unit-found ls e =
+      let p = getD spot i 0 in
+      let g : holderIn us n ls i ≡ getD (take n us) p noUnit = place-first _ noUnit (take n us) ∙ ap (λ k. getD (take n us) k noUnit) (sym e) in
+      by-bool (ltb p n)
+      (λ t. let h = ltb-true p n t in sym (unit-here refl h) ∙ sym (g ∙ getD-take n us p noUnit h))
+      (λ t. let h = ltb-false p n t in sym (unit-none refl h) ∙ sym (g ∙ List·getD-eq-default (take n us) noUnit (omega (arith, length-take n us))))
 
 -- A lodgement that is accepted, or counts
 
@@ -182,7 +212,10 @@ module _ (s : Session) (hs : List Unit) (d : Day) (t : DayOf s hs d) (k : ℕ) (
         }
 
 -- what is read so is the hour
-module _ (s : Session) (hs : List Unit) (d : Day) (t : DayOf s hs d) (n k : ℕ) (all : s .standing ≡ n) (hour : k < 25) (h : Hour) where
+module _ (s : Session) (hs : List Unit) (d : Day) (t : DayOf s hs d) (n k : ℕ) (all : s .standing ≡ n) (hour : k < 25) (spot : List ℕ) (r : Gathered) where
+  abbrev h : Hour
+  h = r .hour
+
   pub hour-built : (p q : Places) → Selected (countsIn (d .offer) (d .energy) k) n p → Selected (countsIn (d .execution) (d .energy) k) n q
       → Picked (d .number) (d .unit) (d .border) (d .purchase) (d .legacy) p (holdersIn (h .offers))
       → Picked (d .number) (d .unit) (d .border) (d .purchase) (d .legacy) q (h .executions)
@@ -190,21 +223,27 @@ module _ (s : Session) (hs : List Unit) (d : Day) (t : DayOf s hs d) (n k : ℕ)
       → Column (slotAt (d .energy) k (p .at)) 0 (p .count) 128 (h .offered)
       → Column (slotAt (d .energy) k (q .at)) 0 (q .count) 128 (h .energy)
       → Given (s .capacities) k (record { flags = h .published; energies = h .capacity })
-      → Built s hs k h
-  hour-built p q c f o x price offered energy given =
+      → Column (pickedAt spot (p .at)) 0 (p .count) 128 (r .offering)
+      → Column (pickedAt spot (q .at)) 0 (q .count) 128 (r .executing)
+      → Gather s hs spot k r
+  hour-built p q c f o x price offered energy given offering executing =
       let c′ : Selected (countsIn (d .offer) (d .energy) k) (s .standing) p = rw all c in
       let f′ : Selected (countsIn (d .execution) (d .energy) k) (s .standing) q = rw all f in
       record {
-        places = p;
-        chosen = chosen-as s hs d t k hour false (d .offer) p (t .offers) c′;
-        holders = holders-as s hs d t k hour p (c′ .inside) (holdersIn (h .offers)) o;
-        prices = prices-as s hs d t k hour p (c′ .inside) (h .offers .price) price;
-        offered = energies-as s hs d t k hour p (c′ .inside) (h .offered) offered;
-        places′ = q;
-        chosen′ = chosen-as s hs d t k hour true (d .execution) q (t .executions) f′;
-        holders′ = holders-as s hs d t k hour q (f′ .inside) (h .executions) x;
-        energies = energies-as s hs d t k hour q (f′ .inside) (h .energy) energy;
-        capacities = given;
+        offering = offering;
+        executing = executing;
+        built = record {
+          places = p;
+          chosen = chosen-as s hs d t k hour false (d .offer) p (t .offers) c′;
+          holders = holders-as s hs d t k hour p (c′ .inside) (holdersIn (h .offers)) o;
+          prices = prices-as s hs d t k hour p (c′ .inside) (h .offers .price) price;
+          offered = energies-as s hs d t k hour p (c′ .inside) (h .offered) offered;
+          places′ = q;
+          chosen′ = chosen-as s hs d t k hour true (d .execution) q (t .executions) f′;
+          holders′ = holders-as s hs d t k hour q (f′ .inside) (h .executions) x;
+          energies = energies-as s hs d t k hour q (f′ .inside) (h .energy) energy;
+          capacities = given;
+        };
       }
 
 -- The notice at a way

@@ -3,7 +3,7 @@ use Prim.Native.Nat.{ℕ, _+_, _*_, _≤_, _<_, _-_}
 use mathlib.Core.Path.{_≡_}
 use mathlib.Core.Bool.{Bool, true, false, cond, _&&_, Bool·beq}
 use mathlib.Core.List.{List, []}
-use lib.Dec.{ltb}
+use lib.Dec.{eqb, ltb}
 use lib.ListN.{getD, take, length}
 use Rattle.rules.specs.Lists.{keep, first, from}
 use Rattle.session.specs.declared.Unit.{Unit}
@@ -13,13 +13,14 @@ use Rattle.session.specs.declared.Energies.{Energies}
 use Rattle.session.specs.declared.Verdict.{Verdict}
 use Rattle.session.specs.declared.Session.{Session}
 use Rattle.session.specs.Image.{noUnit, noNotice, noLodgement, noVerdict}
-use Rattle.session.specs.Parts.{numberIs}
+use Rattle.session.specs.Parts.{numberIs, placeOf}
 use Rattle.matching.specs.declared.Offers.{Offers}
 use Rattle.borders.specs.declared.Executions.{Executions}
 use Rattle.hour.specs.declared.Hour.{Hour}
 use Rattle.gathering.specs.declared.Places.{Places}
 use Rattle.gathering.specs.declared.Slots.{Slots}
 use Rattle.gathering.specs.declared.Day.{Day}
+use Rattle.gathering.specs.declared.Gathered.{Gathered}
 use Rattle.gathering.specs.declared.Published.{Published}
 use Rattle.gathering.specs.Columns.{Column}
 
@@ -35,6 +36,17 @@ bareNotice = record { given = false; energies = [] }
 -- the unit with a number among some units; of a number that none has, a unit with nothing
 unfoldable pub unitAmong : List Unit → ℕ → Unit
 unitAmong us n = first (numberIs n) noUnit us
+
+-- the place of a number among some, or behind the last
+abbrev pub isNumber : ℕ → ℕ → Bool
+isNumber n m = eqb m n
+
+-- the place of the unit of the lodgement at a place
+unfoldable pub spotIn : List Unit → ℕ → List Lodgement → ℕ → ℕ
+spotIn us n ls i = placeOf (numberIs (getD ls i noLodgement .key .unit)) (take n us)
+
+abbrev pub Spots : Session → List ℕ → Type 0
+Spots s r = Column (spotIn (s .units) (s .enrolled) (s .lodgements)) 0 (s .standing) 128 r
 
 -- the unit of the lodgement at a place
 unfoldable pub holderIn : List Unit → ℕ → List Lodgement → ℕ → Unit
@@ -243,3 +255,9 @@ pub record Built (s : Session) (hs : List Unit) (k : ℕ) (h : Hour) : Type 0 wh
   pub holders′ : Held (s .lodgements) hs places′ (h .executions)
   pub energies : Column (energyAt (s .energies) k (places′ .at)) 0 (places′ .count) 128 (h .energy)
   pub capacities : Given (s .capacities) k (record { flags = h .published; energies = h .capacity })
+
+-- with the places of the units
+pub record Gather (s : Session) (hs : List Unit) (spot : List ℕ) (k : ℕ) (r : Gathered) : Type 0 where
+  pub built : Built s hs k (r .hour)
+  pub offering : Column (pickedAt spot (built .places .at)) 0 (built .places .count) 128 (r .offering)
+  pub executing : Column (pickedAt spot (built .places′ .at)) 0 (built .places′ .count) 128 (r .executing)

@@ -7,9 +7,10 @@ ghost use lib.Dec.{ltb};
 ghost use lib.ListN.{take, length};
 ghost use Rattle.session.specs.declared.Session.{Session};
 ghost use Rattle.session.specs.declared.Unit.{Unit};
-ghost use Rattle.session.specs.Parts.{Within};
+ghost use Rattle.session.specs.Parts.{Within, placeOf};
 ghost use Rattle.gathering.specs.Columns.{Column};
-ghost use Rattle.gathering.specs.Built.{unitAmong, Holders, PutAt, Slotted, isAccepted, acceptedAt, HeldBy, DayOf, dayIn, countsIn, Selected, Inside, pickedAt, markedAt, slotAt, Picked, noticeAt, Given, offersAt, Built};
+ghost use Rattle.gathering.specs.Built.{isNumber};
+ghost use Rattle.gathering.specs.Built.{Spots, Holders, unitOn, PutAt, Slotted, isAccepted, acceptedAt, HeldBy, DayOf, dayIn, countsIn, Selected, Inside, pickedAt, markedAt, slotAt, Picked, noticeAt, Given, offersAt, Gather};
 use borders::Executions;
 use hour::Hour;
 use matching::Offers;
@@ -46,39 +47,78 @@ pub struct Day {
     pub price: [u32; 3200],
 }
 
+// An hour, and the places of the units of its offers and executions.
+pub struct Gathered {
+    pub hour: Hour,
+    pub offering: [u32; 128],
+    pub executing: [u32; 128],
+}
+
 // Capacities of an hour by direction (`borders::way`): whether published, and the energy.
 pub struct Published {
     pub flags: [bool; 10],
     pub energies: [u32; 10],
 }
 
-// The unit with a number among the first n; of a number that none has, a unit with nothing.
-fn unit_among(units: [Unit; 64], n: usize, number: u32) -> Unit
+// The numbers of the first n units.
+fn unit_numbers(units: [Unit; 64], n: usize) -> [u32; 64]
     requires { ⌜ n ≤ 64 ⌝ }
-    ensures { λ r. ⌜ r ≡ unitAmong (take n units) number ⌝ }
+    ensures { λ r. ⌜ (n ≤ length units) × Column (unitOn units) 0 n 64 r ⌝ }
 {
-    let p = session::units::place(units, n, number);
-    if p < n {
-        return units[p];
+    let mut found = [0u32; 64];
+    for i in 0..n {
+        let u = units[i];
+        found[i] = u.number;
     }
-    Unit {
-        number: 0,
-        agent: 0,
-        border: 0,
-        purchase: false,
-        maximum: 0,
-        legacy: false,
-    }
+    found
 }
 
-// The units of the standing lodgements, by place.
-pub fn holders(s: Session) -> [Unit; 128]
+// The place of a number among the first n, or n.
+fn place_of(numbers: &[u32; 64], n: usize, number: u32) -> usize
+    requires { ⌜ (n ≤ 64) × (length (now numbers) ≡ 64) ⌝ }
+    ensures { λ r. ⌜ (r ≡ placeOf (isNumber number) (take n (now (numbers .entry)))) × (r ≤ n) ⌝ }
+{
+    for i in 0..n {
+        if numbers[i] == number {
+            return i;
+        }
+    }
+    n
+}
+
+// The places of the units of the standing lodgements, by place; of a unit that is not registered, the place behind the last.
+pub fn spots(s: Session) -> [u32; 128]
     requires { ⌜ Within s ⌝ }
-    ensures { λ r. ⌜ Holders s r ⌝ }
+    ensures { λ r. ⌜ Spots s r ⌝ }
 {
     let units = s.units;
     let enrolled = s.enrolled;
     let lodgements = s.lodgements;
+    let n = s.standing;
+    let numbers = unit_numbers(units, enrolled);
+    let mut found = [0u32; 128];
+    for i in 0..n {
+        let l = lodgements[i];
+        let p = place_of(&numbers, enrolled, l.key.unit);
+        found[i] = p as u32;
+    }
+    found
+}
+
+// A number as a place.
+pub fn index(x: u32) -> usize
+    ensures { λ r. ⌜ r ≡ x ⌝ }
+{
+    x as usize
+}
+
+// The units of the standing lodgements, by place, `spot` being their places; of one that is not registered, a unit with nothing.
+pub fn holders(s: Session, spot: &[u32; 128]) -> [Unit; 128]
+    requires { ⌜ Within s × Spots s (now spot) ⌝ }
+    ensures { λ r. ⌜ Holders s r ⌝ }
+{
+    let units = s.units;
+    let enrolled = s.enrolled;
     let n = s.standing;
     let none = Unit {
         number: 0,
@@ -90,8 +130,11 @@ pub fn holders(s: Session) -> [Unit; 128]
     };
     let mut found = [none; 128];
     for i in 0..n {
-        let l = lodgements[i];
-        let u = unit_among(units, enrolled, l.key.unit);
+        let p = index(spot[i]);
+        if enrolled <= p {
+            continue;
+        }
+        let u = units[p];
         found[i] = u;
     }
     found
@@ -128,10 +171,10 @@ fn slots_of(energies: [Energies; 128], n: usize) -> Slots
 fn is_accepted(execution: bool, v: Verdict, l: Lodgement) -> bool
     ensures { λ r. ⌜ r ≡ isAccepted execution v l ⌝ }
 {
-    if v.accepted {
-        return l.key.execution == execution;
+    if !v.accepted {
+        return false;
     }
-    false
+    l.key.execution == execution
 }
 
 // Which of the first n lodgements are of the kind and accepted at closing.
@@ -366,6 +409,7 @@ fn offers_of(x: Executions, price: [u32; 128]) -> Offers
 pub fn hour_at<'a>(
     n: usize,
     k: usize,
+    spot: &'a [u32; 128],
     number: &'a [u32; 128],
     unit: &'a [u32; 128],
     border: &'a [u32; 128],
@@ -376,12 +420,12 @@ pub fn hour_at<'a>(
     energy: &'a [u32; 3200],
     price: &'a [u32; 3200],
     capacities: [Notice; 8],
-) -> Hour
+) -> Gathered
     requires { ⌜ (n ≤ 128) × (k < 25) ⌝ }
-    ensures { λ r. ⌜ (r .offers .count ≤ 128) × (r .executions .count ≤ 128) ⌝ }
+    ensures { λ r. ⌜ (r .hour .offers .count ≤ 128) × (r .hour .executions .count ≤ 128) ⌝ }
     ensures { λ r. ⌜ ((s : Session) (hs : List Unit) → s .standing ≡ n → s .capacities ≡ capacities
         → DayOf s hs (dayIn (now (number .entry)) (now (unit .entry)) (now (border .entry)) (now (purchase .entry)) (now (legacy .entry)) (now (offer .entry)) (now (execution .entry)) (now (energy .entry)) (now (price .entry)))
-        → Built s hs k r) ⌝ }
+        → Gather s hs (now (spot .entry)) k r) ⌝ }
 {
     let p = chosen(offer, energy, n, k);
     let q = chosen(execution, energy, n, k);
@@ -394,12 +438,19 @@ pub fn hour_at<'a>(
     let offers = offers_of(o, prices);
     let published = c.flags;
     let capacity = c.energies;
-    Hour {
+    let offering = picked(spot, &p.at, p.count);
+    let executing = picked(spot, &q.at, q.count);
+    let hour = Hour {
         offers,
         offered,
         executions,
         energy: energies,
         published,
         capacity,
+    };
+    Gathered {
+        hour,
+        offering,
+        executing,
     }
 }

@@ -34,13 +34,22 @@ offers-of-requires : tie.Need-offers-of-requires
 offers-of-requires c κs = search needs
 
 returns : tie.Need-returns
-returns c = (
-  (
-    omega (arith, c .before .before .before .before .before .before .before .before .before .before .before .before .before .before .before .before .chosen .ensures .few, c .before .before .before .before .before .before .before .before .before .before .before .before .before .before .holders-at .ensures .count, ap (λ (o : Offers). o .count) (c .before .before .offers-of .ensures), c .before .before .before .before .before .before .before .before .before .before .before .before .before .before .before .before .before .pre .0),
-    omega (arith, c .before .before .before .before .before .before .before .before .before .before .before .before .before .before .before .chosen2 .ensures .few, c .before .before .before .before .before .before .before .before .before .before .before .before .before .holders-at2 .ensures .count, c .before .before .before .before .before .before .before .before .before .before .before .before .before .before .before .before .before .pre .0),
-  ),
-  λ s hs all cap t. rw (c .before .before .offers-of .ensures) (hour-built s hs _ t _ _ all (c .before .before .before .before .before .before .before .before .before .before .before .before .before .before .before .before .before .pre .1) _ (c .before .before .before .before .before .before .before .before .before .before .before .before .before .before .before .before .chosen .result) (c .before .before .before .before .before .before .before .before .before .before .before .before .before .before .before .chosen2 .result) (c .before .before .before .before .before .before .before .before .before .before .before .before .before .before .before .before .chosen .ensures) (c .before .before .before .before .before .before .before .before .before .before .before .before .before .before .before .chosen2 .ensures) (c .before .before .before .before .before .before .before .before .before .before .before .before .before .before .holders-at .ensures) (c .before .before .before .before .before .before .before .before .before .before .before .before .before .holders-at2 .ensures) (c .before .before .before .before .before .before .before .before .before .before .slots-at .ensures) (c .before .before .before .before .before .before .before .slots-at2 .ensures) (c .before .before .before .before .slots-at3 .ensures) (rw cap (c .before .before .before .capacities-at .ensures))),
-)
+returns c =
+    let p = c .before .before .before .before .before .before .before .before .before .before .before .before .before .before .before .before .before .before .before .before .before .before .chosen in
+    let q = c .before .before .before .before .before .before .before .before .before .before .before .before .before .before .before .before .before .before .before .before .before .chosen2 in
+    let o = c .before .before .before .before .before .before .before .before .offers-of .ensures in (
+      (
+        omega (arith, p .ensures .few, c .before .before .before .before .before .before .before .before .before .before .before .before .before .before .before .before .before .before .before .before .holders-at .ensures .count, ap (λ (o : Offers). o .count) o, c .before .before .before .before .before .before .before .before .before .before .before .before .before .before .before .before .before .before .before .before .before .before .before .pre .0),
+        omega (arith, q .ensures .few, c .before .before .before .before .before .before .before .before .before .before .before .before .before .before .before .before .before .before .before .holders-at2 .ensures .count, c .before .before .before .before .before .before .before .before .before .before .before .before .before .before .before .before .before .before .before .before .before .before .before .pre .0),
+      ),
+      λ s hs all cap t. rw o (hour-built s hs _ t _ _ all (c .before .before .before .before .before .before .before .before .before .before .before .before .before .before .before .before .before .before .before .before .before .before .before .pre .1) _ _ (p .result) (q .result) (p .ensures) (q .ensures) (c .before .before .before .before .before .before .before .before .before .before .before .before .before .before .before .before .before .before .before .before .holders-at .ensures) (c .before .before .before .before .before .before .before .before .before .before .before .before .before .before .before .before .before .before .before .holders-at2 .ensures) (c .before .before .before .before .before .before .before .before .before .before .before .before .before .before .before .before .slots-at .ensures) (c .before .before .before .before .before .before .before .before .before .before .before .before .before .slots-at2 .ensures) (c .before .before .before .before .before .before .before .before .before .before .slots-at3 .ensures) (rw cap (c .before .before .before .before .before .before .before .before .before .capacities-at .ensures)) (c .before .before .before .picked .ensures) (c .picked2 .ensures)),
+    )
+
+picked-requires : tie.Need-picked-requires
+picked-requires c κs = chosen-inside (c .before .before .before .before .before .before .before .before .before .before .before .before .before .before .before .before .before .before .chosen .ensures) (c .before .before .before .before .before .before .before .before .before .before .before .before .before .before .before .before .before .before .before .pre .0)
+
+picked-requires-2 : tie.Need-picked-requires-2
+picked-requires-2 c κs = chosen-inside (c .before .before .before .before .before .before .before .before .before .before .before .before .before .before .before .before .before .before .before .before .chosen2 .ensures) (c .before .before .before .before .before .before .before .before .before .before .before .before .before .before .before .before .before .before .before .before .before .before .pre .0)
 
 pub hour-at-spec : {M : Type 1} → statement M
 hour-at-spec =
@@ -55,4 +64,6 @@ hour-at-spec =
     slots-at-requires-3
     capacities-at-requires
     offers-of-requires
+    picked-requires
+    picked-requires-2
     returns)
