@@ -8,7 +8,7 @@ use native.Mathlib.Nat.{le-trans}
 use lib.Dec.{eqb}
 use lib.ListN.{getD, set, length}
 use lib.Seq.{getD-set-same, getD-set-other}
-use borrow.Author.Tests.{eqb-true, eqb-false}
+use borrow.Author.Tests.{eqb-true, eqb-false, ne-eqb}
 use Rattle.rules.specs.Lists.{keep, sum, sumOf, from}
 use Rattle.rules.specs.Match.{Offer}
 use Rattle.rules.specs.Borders.{Execution, runs, flow}
@@ -19,9 +19,9 @@ use Rattle.matching.specs.declared.Offers.{Offers}
 use Rattle.matching.specs.View.{offerAt, offersOf}
 use Rattle.borders.specs.declared.Executions.{Executions}
 use Rattle.borders.specs.Ways.{wayOf}
-use Rattle.borders.specs.Flows.{countedFor, addsTo, flowFrom, ByWay, MarketFlows, LegacyFlows, ExecutionFlows}
+use Rattle.borders.specs.Flows.{countedFor, addsTo, flowFrom, ByWay, Abroad, MarketFlows, BorderFlows, LegacyFlows, ExecutionFlows}
 use Rattle.borders.specs.View.{executionAt, executionsOf}
-use Rattle.borders.proofs.WayLaws.{runs-way}
+use Rattle.borders.proofs.WayLaws.{runs-way, way-low, way-inner}
 
 -- The loop
 
@@ -47,6 +47,14 @@ module _ (only : Bool) (bs : List ℕ) (ps ls : List Bool) (es : List ℕ) where
       rw (← z) (omega (arith, g, q, rw (← p, e) at k, ap (λ u. flowFrom only bs ps ls es (i + 1) n u) z, ap (λ u. flowFrom only bs ps ls es i n u) z)))
       (λ e. let g = getD-set-other f v w (getD f v 0 + x) 0 (λ z. eqb-false v w e (sym z)) in
       omega (arith, g, rw (← p, e) at k))
+
+  -- a holder of border 0 adds to no way of the others
+  pub flow-skip : (i n w : ℕ) → i < n → getD bs i 0 ≡ 0 → 2 ≤ w → flowFrom only bs ps ls es (i + 1) n w ≡ flowFrom only bs ps ls es i n w
+  unfolding addsTo
+  flow-skip i n w h z l =
+      let k = from-here i n w h in
+      let o = ne-eqb (wayOf 0 (getD ps i false)) w (λ q. absurd (omega (arith, way-low 0 (getD ps i false) refl))) in
+      omega (arith, rw (z, o) at k)
 
 -- and it stays in range
 pub set-more : (b c v x : ℕ) (f : List ℕ) → ((w : ℕ) → getD f w 0 ≤ b) → x ≤ c → b ≤ c → (w : ℕ) → getD (set f v x) w 0 ≤ c
@@ -78,17 +86,24 @@ legacy-counted true r e = refl
 legacy-counted false true e = refl
 legacy-counted false false e = refl
 
-module _ (h : Offers) (offered matched : List ℕ) {f : List ℕ} where
-  -- the market flows
-  pub market-flows : ByWay false (h .border) (h .purchase) (h .legacy) matched (h .count) f
-      → MarketFlows f (offersOf h offered matched)
+module _ (h : Offers) (offered matched : List ℕ) where
+  way-flow : (b : ℕ) (e : Bool) → flowFrom false (h .border) (h .purchase) (h .legacy) matched 0 (h .count) (wayOf b e) ≡ flow (λ o. o .holder) (λ o. o .matched) b e (offersOf h offered matched)
   unfolding flowFrom flow offersOf addsTo countedFor
-  market-flows k b e l =
-      k .sums (wayOf b e)
-      ∙ ap (λ n. sumOf (addsTo false (h .border) (h .purchase) (h .legacy) matched (wayOf b e)) (from 0 n)) (none-off (h .count))
+  way-flow b e =
+      ap (λ n. sumOf (addsTo false (h .border) (h .purchase) (h .legacy) matched (wayOf b e)) (from 0 n)) (none-off (h .count))
       ∙ kept-sum (λ (o : Offer). o .matched) (λ o. runs b e (o .holder)) (offerAt h offered matched)
       (addsTo false (h .border) (h .purchase) (h .legacy) matched (wayOf b e))
       (λ i. rw (runs-way b e (offerAt h offered matched i .holder))) (from 0 (h .count))
+
+  -- the market flows at the borders
+  pub border-flows : (f : List ℕ) → Abroad (h .border) (h .purchase) matched (h .count) f → BorderFlows f (offersOf h offered matched)
+  border-flows f k b e o l = k (h .legacy) (wayOf b e) (way-inner b e o) ∙ way-flow b e
+
+module _ (h : Offers) (offered matched : List ℕ) {f : List ℕ} where
+  -- all of them
+  pub market-flows : ByWay false (h .border) (h .purchase) (h .legacy) matched (h .count) f
+      → MarketFlows f (offersOf h offered matched)
+  market-flows k b e l = k .sums (wayOf b e) ∙ way-flow h offered matched b e
 
   -- the matched legacy flows
   pub legacy-flows : ByWay true (h .border) (h .purchase) (h .legacy) matched (h .count) f

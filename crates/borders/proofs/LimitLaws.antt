@@ -19,7 +19,7 @@ use Rattle.rules.proofs.SplitLaws.{maximum-by-flows}
 use Rattle.rules.proofs.BalanceLaws.{excess-flows}
 use Rattle.arrays.proofs.PlaceLaws.{from-all, from-next, from-end, map-all, zeros}
 use Rattle.borders.specs.Ways.{wayOf, directed, publishedIn, overIn}
-use Rattle.borders.specs.Flows.{MarketFlows, LegacyFlows, ExecutionFlows}
+use Rattle.borders.specs.Flows.{MarketFlows, BorderFlows, LegacyFlows, ExecutionFlows}
 use Rattle.borders.specs.Limits.{acrossOf, maximumIn, excessIn, nonEmpty}
 use Rattle.borders.proofs.WayLaws.{way-back, way-low}
 
@@ -73,6 +73,13 @@ module _ (f : List ℕ) (w : ℕ) (small : w < 10) where
   unfolding acrossOf
   market-across os k = k (w / 2) (not (eqb (w % 2) 0)) (half-small w small)
 
+  border-at : (os : List Offer) → 2 ≤ w → BorderFlows f os → getD f w 0 ≡ flow (λ (o : Offer). o .holder) (λ o. o .matched) (w / 2) (eqb (w % 2) 0) os
+  border-at os l k = ap (λ v. getD f v 0) (sym (way-back w)) ∙ k (w / 2) (eqb (w % 2) 0) (omega arith) (half-small w small)
+
+  border-across : (os : List Offer) → 2 ≤ w → BorderFlows f os → getD f (acrossOf w) 0 ≡ flow (λ (o : Offer). o .holder) (λ o. o .matched) (w / 2) (not (eqb (w % 2) 0)) os
+  unfolding acrossOf
+  border-across os l k = k (w / 2) (not (eqb (w % 2) 0)) (omega arith) (half-small w small)
+
   pub execution-at : (xs : List Execution) → ExecutionFlows f xs → getD f w 0 ≡ flow (λ (x : Execution). x .holder) (λ x. x .energy) (w / 2) (eqb (w % 2) 0) xs
   execution-at xs k = ap (λ v. getD f v 0) (sym (way-back w)) ∙ k (w / 2) (eqb (w % 2) 0) (half-small w small)
 
@@ -112,27 +119,27 @@ module _ (capacities executions market legacy : List ℕ) (first : List Offer) (
 
 -- Excesses
 
-module _ (flags : List Bool) (maxima market : List ℕ) (os : List Offer) (km : MarketFlows market os) where
-  excess-at : (w : ℕ) → w < 10 → getD market w 0 - getD market (acrossOf w) 0 - getD maxima w 0 ≡ excessOf os (directed maxima w) .energy
+module _ (flags : List Bool) (maxima market : List ℕ) (os : List Offer) (km : BorderFlows market os) where
+  excess-at : (w : ℕ) → 2 ≤ w → w < 10 → getD market w 0 - getD market (acrossOf w) 0 - getD maxima w 0 ≡ excessOf os (directed maxima w) .energy
   unfolding directed
-  excess-at w h = rw (market-at market w h os km, market-across market w h os km) (omega (arith, excess-flows os (directed maxima w)))
+  excess-at w l h = rw (border-at market w h os l km, border-across market w h os l km) (omega (arith, excess-flows os (directed maxima w)))
 
-  over-at : (a : List ℕ) (w : ℕ) → w < 10 → getD flags w false ≡ true → getD a w 0 ≡ excessIn flags maxima market w → directed a w ≡ excessOf os (directed maxima w)
+  over-at : (a : List ℕ) (w : ℕ) → 2 ≤ w → w < 10 → getD flags w false ≡ true → getD a w 0 ≡ excessIn flags maxima market w → directed a w ≡ excessOf os (directed maxima w)
   unfolding directed excessIn excessOf
-  over-at a w h t e = ap (λ n. record { border = w / 2; export = eqb (w % 2) 0; energy = n }) (rw t at e ∙ excess-at w h)
+  over-at a w l h t e = ap (λ n. record { border = w / 2; export = eqb (w % 2) 0; energy = n }) (rw t at e ∙ excess-at w l h)
 
   over-none : (a : List ℕ) (w : ℕ) → getD flags w false ≡ false → getD a w 0 ≡ excessIn flags maxima market w → getD a w 0 ≡ 0
   unfolding excessIn
   over-none a w t e = rw t at e
 
-  over-places : (a : List ℕ) {ws : List ℕ} → All (λ w. (w < 10) × (getD a w 0 ≡ excessIn flags maxima market w)) ws
+  over-places : (a : List ℕ) {ws : List ℕ} → All (λ w. (2 ≤ w) × (w < 10) × (getD a w 0 ≡ excessIn flags maxima market w)) ws
       → map (directed a) (keep (λ w. ltb 0 (getD a w 0)) ws) ≡ keep (λ d. ltb 0 (d .energy)) (map (excessOf os) (map (directed maxima) (keep (λ w. getD flags w false) ws)))
   unfolding keep directed
   over-places a none = refl
   over-places a (more {x = w} {xs = ws} h t) =
       by-bool (getD flags w false)
-      (λ e. rw (e, ← (over-at a w (h .0) e (h .1))) (either-way (over-places a t)))
-      (λ e. rw (e, over-none a w e (h .1)) (over-places a t))
+      (λ e. rw (e, ← (over-at a w (h .0) (h .1) e (h .2))) (either-way (over-places a t)))
+      (λ e. rw (e, over-none a w e (h .2)) (over-places a t))
     where
       either-way : {es : List Directed} → map (directed a) (keep (λ v. ltb 0 (getD a v 0)) ws) ≡ es
           → map (directed a) (cond (ltb 0 (getD a w 0)) (w ∷ keep (λ v. ltb 0 (getD a v 0)) ws) (keep (λ v. ltb 0 (getD a v 0)) ws)) ≡ cond (ltb 0 (directed a w .energy)) (directed a w ∷ es) es
@@ -141,7 +148,7 @@ module _ (flags : List Bool) (maxima market : List ℕ) (os : List Offer) (km : 
   -- the directions over
   pub excesses-said : (a : List ℕ) (n : ℕ) → 10 ≤ n → Filled (excessIn flags maxima market) n a → overIn a ≡ overruns (publishedIn flags maxima) os
   unfolding publishedIn overIn overruns
-  excesses-said a n end f = over-places a (from-all _ 2 8 (λ w h k. (omega arith, f .inner w h (omega arith))))
+  excesses-said a n end f = over-places a (from-all _ 2 8 (λ w h k. (h, omega arith, f .inner w h (omega arith))))
 
 -- border 0 has no excess
 pub outer-none : (g : ℕ → ℕ) (w : ℕ) (a : List ℕ) → Filled g w a → (e : Bool) → getD a (wayOf 0 e) 0 ≡ 0

@@ -1,5 +1,5 @@
 -- Energies by way, from arrays; and arrays of ten that carry the flows of the rules' lists.
-use Prim.Native.Nat.{ℕ, _-_, _<_}
+use Prim.Native.Nat.{ℕ, _-_, _≤_, _<_}
 use mathlib.Core.Path.{_≡_}
 use mathlib.Core.Bool.{Bool, false, cond, not, _&&_}
 use mathlib.Core.List.{List}
@@ -36,6 +36,14 @@ pub record ByWay (only : Bool) (border : List ℕ) (purchase legacy : List Bool)
 -- an array of ten has the market flows of a list of offers
 abbrev pub MarketFlows : List ℕ → List Offer → Type 0
 MarketFlows f os = (b : ℕ) (e : Bool) → b < 5 → getD f (wayOf b e) 0 ≡ flow (λ o. o .holder) (λ o. o .matched) b e os
+
+-- the same at the borders alone, which have the maxima
+abbrev pub BorderFlows : List ℕ → List Offer → Type 0
+BorderFlows f os = (b : ℕ) (e : Bool) → 0 < b → b < 5 → getD f (wayOf b e) 0 ≡ flow (λ o. o .holder) (λ o. o .matched) b e os
+
+-- an array of ten has the energy of the first n holders by way, border 0 left out
+abbrev pub Abroad : List ℕ → List Bool → List ℕ → ℕ → List ℕ → Type 0
+Abroad border purchase energy n f = (legacy : List Bool) (w : ℕ) → 2 ≤ w → getD f w 0 ≡ flowFrom false border purchase legacy energy 0 n w
 
 -- the matched legacy flows
 abbrev pub LegacyFlows : List ℕ → List Offer → Type 0

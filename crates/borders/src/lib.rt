@@ -9,7 +9,7 @@ ghost use Rattle.rules.specs.Borders.{Execution};
 ghost use Rattle.rules.specs.Split.{maximumOf};
 ghost use Rattle.rules.specs.Withdrawal.{overruns};
 ghost use Rattle.borders.specs.Ways.{wayOf, publishedIn, overIn};
-ghost use Rattle.borders.specs.Flows.{countedFor, ByWay, MarketFlows, LegacyFlows, ExecutionFlows, Small};
+ghost use Rattle.borders.specs.Flows.{countedFor, ByWay, Abroad, MarketFlows, BorderFlows, LegacyFlows, ExecutionFlows, Small};
 ghost use Rattle.borders.specs.Limits.{acrossOf, maximumIn, excessIn, nonEmpty};
 
 // The place of a border and direction in an array of ten: export of border 0, import of border 0, export of border 1, ..
@@ -65,6 +65,29 @@ pub fn flows<'a>(
     for i in 0..n {
         let w = way(border[i], purchase[i]);
         f[w] += counted(only, legacy[i], energy[i]);
+    }
+    f
+}
+
+// The energy of the first n holders by way at the borders alone, for a withdrawal, which asks at each step and for no more: most offers
+// are domestic, and all those of a side would be added in one place, one after the other.
+pub fn abroad<'a>(
+    n: usize,
+    border: &'a [u32; 128],
+    purchase: &'a [bool; 128],
+    energy: &'a [u32; 128],
+) -> [u32; 10]
+    requires { ⌜ (n ≤ 128) × ((i : ℕ) → i < n → getD (now border) i 0 < 5) × ((i : ℕ) → getD (now energy) i 0 ≤ 99999) ⌝ }
+    ensures { λ r. ⌜ Abroad (now (border .entry)) (now (purchase .entry)) (now (energy .entry)) n r ⌝ }
+{
+    let mut f = [0u32; 10];
+    for i in 0..n {
+        let b = border[i];
+        if b == 0 {
+            continue;
+        }
+        let w = way(b, purchase[i]);
+        f[w] += energy[i];
     }
     f
 }
@@ -138,7 +161,7 @@ fn excess_at(w: usize, flags: &[bool; 10], maxima: &[u32; 10], market: &[u32; 10
 
 // The excess of each published direction over its maximum, 0 elsewhere.
 pub fn excesses(flags: &[bool; 10], maxima: &[u32; 10], market: &[u32; 10]) -> [u32; 10]
-    ensures { λ r. ⌜ ((os : List Offer) → MarketFlows (now (market .entry)) os → overIn r ≡ overruns (publishedIn (now (flags .entry)) (now (maxima .entry))) os) ⌝ }
+    ensures { λ r. ⌜ ((os : List Offer) → BorderFlows (now (market .entry)) os → overIn r ≡ overruns (publishedIn (now (flags .entry)) (now (maxima .entry))) os) ⌝ }
     ensures { λ r. ⌜ ((e : Bool) → getD r (wayOf 0 e) 0 ≡ 0) ⌝ }
     ensures { λ r. ⌜ ((w : ℕ) → 2 ≤ w → w < 10 → getD r w 0 ≡ excessIn (now (flags .entry)) (now (maxima .entry)) (now (market .entry)) w) ⌝ }
 {

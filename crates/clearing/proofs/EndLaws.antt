@@ -7,7 +7,7 @@ use mathlib.Core.Option.{none as nothing}
 use native.Mathlib.Omega.{arith}
 use native.Mathlib.Numerals.{add-one}
 use lib.Dec.{eqb}
-use lib.ListN.{getD, length, take, set, replicate, length-map}
+use lib.ListN.{getD, length, take, set, replicate, length-map, length-take}
 use borrow.Author.Tests.{not-false}
 use Rattle.rules.specs.Lists.{sum, sumOf, from, keep}
 use Rattle.rules.specs.Refusals.{row, firstRow}
@@ -40,12 +40,17 @@ use Rattle.session.specs.Steps.{said, isRefusal}
 use Rattle.session.specs.Changes.{withFigures}
 use Rattle.session.specs.Parts.{Judges, Entered}
 use Rattle.session.proofs.LaidLaws.{map-last, set-pad}
-use Rattle.session.proofs.ImageLaws.{closed-as, cleared-as, hours-as, units-as}
+use Rattle.session.proofs.ImageLaws.{closed-as, cleared-as, hours-as, units-as, enrolled-as}
 use Rattle.clearing.specs.declared.HourEnd.{HourEnd}
-use Rattle.gathering.specs.Built.{Holders, Built}
-use Rattle.results.specs.Shown.{clearedAs}
+use Rattle.borders.specs.declared.Executions.{Executions}
+use Rattle.gathering.specs.declared.Places.{Places}
+use Rattle.gathering.specs.declared.Gathered.{Gathered}
+use Rattle.gathering.specs.Columns.{Column}
+use Rattle.gathering.specs.Built.{Spots, Holders, Held, holdersIn, pickedAt, unitAt, Gather}
+use Rattle.gathering.proofs.SpotLaws.{spot-placed}
+use Rattle.results.specs.Shown.{Placed, clearedAs}
 use Rattle.clearing.specs.Hours.{HourAs, HoursAs}
-use Rattle.results.proofs.FigureLaws.{length-from}
+use Rattle.results.proofs.FigureLaws.{length-from, from-last, sum-last}
 use Rattle.gathering.proofs.HourLaws.{hour-as}
 use Rattle.gathering.proofs.ReadyLaws.{hour-ready}
 
@@ -66,21 +71,45 @@ figures-as b h =
     (sym (map-map (λ (u : Unit). sumOf (λ (o : Offer). o .matched) (keep (λ o. eqb (o .holder .unit) (u .number)) (R.figuresAt b h .offers))) I.unitOf (b .units)))
     (sym (map-map (λ (u : Unit). sumOf (λ (x : Execution). x .energy) (keep (λ x. eqb (x .holder .unit) (u .number)) (R.figuresAt b h .executions))) I.unitOf (b .units)))
 
-pub hour-told : (s : Session) (hs : List Unit) (k : ℕ) (h : Hour) (f : Figures) (r : Cleared) → Holders s hs → Built s hs k h
-    → (isReady h ≡ true → (figuresIn h f ≡ R.clearHour (hourIn h)) × AtBorders h f)
-    → (AtBorders h f → r ≡ clearedAs (figuresIn h f) (take (s .enrolled) (s .units)))
+-- the holders of an hour are at the places of their units
+module _ (s : Session) (b : B.Book) (e : s ≡ I.image b) (sound : I.Sound b) (spot : List ℕ) (hs : List Unit) (spots : Spots s spot) (holders : Holders s hs) (p : Places) (inside : (i : ℕ) → i < p .count → getD (p .at) i 0 < s .standing) where
+  all-placed : (x : Executions) (r : List ℕ) → Held (s .lodgements) hs p x → Column (pickedAt spot (p .at)) 0 (p .count) 128 r → Placed (s .units) (s .enrolled) (x .unit) r (x .count)
+  unfolding pickedAt unitAt
+  all-placed x r h c i q l m =
+      let n : i < p .count = omega (arith, h .count) in
+      rw (c .at i n, h .units .at i n) (spot-placed s b e sound spot hs spots holders (getD (p .at) i 0) q (inside i n) m)
+
+pub hour-told : (s : Session) (spot : List ℕ) (hs : List Unit) (k : ℕ) (g : Gathered) (f : Figures) (r : Cleared) → Spots s spot → Holders s hs → Gather s hs spot k g
+    → (isReady (g .hour) ≡ true → (figuresIn (g .hour) f ≡ R.clearHour (hourIn (g .hour))) × AtBorders (g .hour) f)
+    → ((us : List Unit) → s .enrolled ≤ length us
+    → Placed us (s .enrolled) (g .hour .offers .unit) (g .offering) (g .hour .offers .count)
+    → Placed us (s .enrolled) (g .hour .executions .unit) (g .executing) (g .hour .executions .count)
+    → AtBorders (g .hour) f → r ≡ clearedAs (figuresIn (g .hour) f) (take (s .enrolled) us))
     → HourAs s k (record { steps = f .steps; figures = r })
 unfolding figuresIn R.figuresAt
-hour-told s hs k h f r holders t q p b sound closed e =
-    let g = q (ready-told h (hour-ready s b e sound closed hs holders k h t)) in
+hour-told s spot hs k x f r spots holders t q p b sound closed e =
+    let h : Hour = x .hour in
+    let g = q (ready-told h (hour-ready s b e sound closed hs holders k h (t .built))) in
     let a : figuresIn h f ≡ R.figuresAt b (suc k) = g .0 ∙ figured in
-    (p (g .1) ∙ (ap₂ clearedAs a (units-as s b e) ∙ sym (figures-as b (suc k))), steps a)
+    (kept (g .1) ∙ (ap₂ clearedAs a (units-as s b e) ∙ sym (figures-as b (suc k))), steps a)
   where
-    figured : R.clearHour (hourIn h) ≡ R.figuresAt b (suc k)
-    figured = ap R.clearHour (hour-as s b e closed hs holders k h t (sound .directions))
+    figured : R.clearHour (hourIn (x .hour)) ≡ R.figuresAt b (suc k)
+    figured = ap R.clearHour (hour-as s b e closed hs holders k (x .hour) (t .built) (sound .directions))
 
-    steps : figuresIn h f ≡ R.figuresAt b (suc k) → f .steps ≡ R.figuresAt b (suc k) .steps
+    steps : figuresIn (x .hour) f ≡ R.figuresAt b (suc k) → f .steps ≡ R.figuresAt b (suc k) .steps
     steps a = ap (λ (x : R.Figures). x .steps) a
+
+    long : s .enrolled ≤ length (s .units)
+    long =
+        let l : length (take (s .enrolled) (s .units)) ≡ s .enrolled = ap length (units-as s b e) ∙ (length-map (b .units) I.unitOf ∙ enrolled-as s b e) in
+        omega (arith, l, length-take (s .enrolled) (s .units))
+
+    kept : AtBorders (x .hour) f → r ≡ clearedAs (figuresIn (x .hour) f) (take (s .enrolled) (s .units))
+    kept =
+        let y = t .built in
+        p (s .units) long
+        (all-placed s b e sound spot hs spots holders (y .places) (y .chosen .inside) (holdersIn (x .hour .offers)) (x .offering) (y .holders) (t .offering))
+        (all-placed s b e sound spot hs spots holders (y .places′) (y .chosen′ .inside) (x .hour .executions) (x .executing) (y .holders′) (t .executing))
 
 -- energies in range, whether the hour was ready or not
 pub figures-small : (h : Hour) (f : Figures) → (isReady h ≡ true → (figuresIn h f ≡ R.clearHour (hourIn h)) × AtBorders h f) → (isReady h ≡ false → f ≡ noFigures)
@@ -91,16 +120,6 @@ figures-small h f p q =
     (λ t. ((λ i. omega (arith, ap (λ (g : Figures). getD (g .matched) i 0) (q t), zeros 128 i)), (λ i. omega (arith, ap (λ (g : Figures). getD (g .executed) i 0) (q t), zeros 128 i))))
 
 -- The loop over the hours
-
-from-last : (a n : ℕ) → from a (suc n) ≡ from a n ++ ((a + n) ∷ [])
-unfolding from
-from-last a zero = let o : a + 0 ≡ a = omega arith in rw o
-from-last a (suc n) = let o : a + suc n ≡ suc a + n = omega arith in rw o (ap (λ (l : List ℕ). a ∷ l) (from-last (suc a) n))
-
-sum-last : (f : ℕ → ℕ) (l : List ℕ) (x : ℕ) → sumOf f (l ++ (x ∷ [])) ≡ sumOf f l + f x
-unfolding sumOf sum
-sum-last f [] x = omega arith
-sum-last f (y ∷ l) x = ap (λ n. f y + n) (sum-last f l x) ∙ omega arith
 
 pub hours-start : (s : Session) (x : Cleared) → x ≡ I.noFigures → HoursAs s 0 (replicate 25 x) 0
 unfolding pad from sumOf sum

@@ -4,7 +4,9 @@ ghost use Rattle.rules.specs.DayBook.{clear};
 ghost use Rattle.session.specs.Steps.{Met};
 ghost use Rattle.session.specs.Parts.{Within, Judges, Entered};
 ghost use Rattle.session.specs.Changes.{clearingTurn};
-ghost use Rattle.gathering.specs.Built.{Holders};
+ghost use mathlib.Core.List.{List};
+ghost use Rattle.session.specs.declared.Unit.{Unit};
+ghost use Rattle.gathering.specs.Built.{Spots, Holders, DayOf, dayIn};
 ghost use Rattle.clearing.specs.Hours.{HourAs, HoursAs};
 use session::Answer;
 use session::Cleared;
@@ -13,7 +15,6 @@ use session::GATE;
 use session::Judged;
 use session::Session;
 use session::Turn;
-use session::Unit;
 use session::changes::clearing_refused;
 use session::changes::with_clearing;
 
@@ -29,17 +30,47 @@ pub struct DayEnd {
     pub figures: [Cleared; 25],
 }
 
-// The hour at place k, `holders` being the units of the lodgements. An hour that no session of calls has, one that is not
-// ready, gets figures of 0.
-fn clear_hour(s: Session, holders: [Unit; 128], k: usize) -> HourEnd
-    requires { ⌜ Within s × Holders s holders × (k < 25) ⌝ }
-    ensures { λ r. ⌜ HourAs s k r ⌝ }
+// The hour at place k. What is lent is what the day's hours read of the lodgements. An hour that no session of calls has, one
+// that is not ready, gets figures of 0.
+fn clear_hour<'a>(
+    s: Session,
+    k: usize,
+    spot: &'a [u32; 128],
+    number: &'a [u32; 128],
+    unit: &'a [u32; 128],
+    border: &'a [u32; 128],
+    purchase: &'a [bool; 128],
+    legacy: &'a [bool; 128],
+    offer: &'a [bool; 128],
+    execution: &'a [bool; 128],
+    energy: &'a [u32; 3200],
+    price: &'a [u32; 3200],
+) -> HourEnd
+    requires { ⌜ Within s × (k < 25) ⌝ }
+    ensures { λ r. ⌜ ((hs : List Unit) → Spots s (now (spot .entry)) → Holders s hs
+        → DayOf s hs (dayIn (now (number .entry)) (now (unit .entry)) (now (border .entry)) (now (purchase .entry)) (now (legacy .entry)) (now (offer .entry)) (now (execution .entry)) (now (energy .entry)) (now (price .entry)))
+        → HourAs s k r) ⌝ }
 {
-    let h = gathering::hour_at(s, holders, k);
+    let capacities = s.capacities;
+    let g = gathering::hour_at(
+        s.standing,
+        k,
+        spot,
+        number,
+        unit,
+        border,
+        purchase,
+        legacy,
+        offer,
+        execution,
+        energy,
+        price,
+        capacities,
+    );
+    let h = g.hour;
     let c = hour::clear(h);
     let f = c.figures;
-    let units = s.units;
-    let figures = results::kept(units, s.enrolled, h, f);
+    let figures = results::kept(s.enrolled, h, f, &g.offering, &g.executing);
     HourEnd {
         steps: f.steps,
         figures,
@@ -51,13 +82,28 @@ fn clear_hours(s: Session) -> DayEnd
     requires { ⌜ Within s ⌝ }
     ensures { λ r. ⌜ HoursAs s (s .hours) (r .figures) (r .steps) ⌝ }
 {
-    let holders = gathering::holders(s);
+    let spot = gathering::spots(s);
+    let holders = gathering::holders(s, &spot);
+    let d = gathering::day_of(s, holders);
     let none = session::no_figures();
     let n = s.hours as usize;
     let mut figures = [none; 25];
     let mut steps: u64 = 0;
     for k in 0..n {
-        let e = clear_hour(s, holders, k);
+        let e = clear_hour(
+            s,
+            k,
+            &spot,
+            &d.number,
+            &d.unit,
+            &d.border,
+            &d.purchase,
+            &d.legacy,
+            &d.offer,
+            &d.execution,
+            &d.energy,
+            &d.price,
+        );
         let f = e.figures;
         figures[k] = f;
         steps += arrays::wide(e.steps);

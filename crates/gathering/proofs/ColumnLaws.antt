@@ -17,7 +17,7 @@ blanks d zero i = refl
 blanks d (suc n) zero = refl
 blanks d (suc n) (suc i) = blanks d n i
 
-below : (i j : ℕ) → j < i + 1 → (i ≡ j → ⊥) → j < i
+pub below : (i j : ℕ) → j < i + 1 → (i ≡ j → ⊥) → j < i
 below i j h f = ⊎-elim (λ z. absurd (f (omega arith))) (λ z. omega arith) (eq-or-lt-of-le (let m : suc j ≤ i + 1 = omega arith in m))
 
 module _ {A : Type 0} (f : ℕ → A) (d : A) (size : ℕ) where
@@ -33,5 +33,19 @@ module _ {A : Type 0} (f : ℕ → A) (d : A) (size : ℕ) where
     long = length-set r i x ∙ c .long;
   }
 
+  -- a place that is left as it is
+  pub column-skip : (r : List A) (i : ℕ) → Column f d i size r → d ≡ f i → Column f d (i + 1) size r
+  column-skip r i c e = record {
+    at = λ j k. by-bool (eqb i j)
+        (λ t. let q = eqb-true i j t in rw (← q) (c .behind i (omega arith) ∙ e))
+        (λ t. c .at j (below i j k (eqb-false i j t)));
+    behind = λ j k. c .behind j (omega arith);
+    long = c .long;
+  }
+
   pub column-end : (r : List A) (i n : ℕ) → Column f d i size r → i ≡ n → Column f d n size r
   column-end r i n c e = rw (← e) c
+
+-- a column by another name
+pub column-as : {A : Type 0} {f g : ℕ → A} {d : A} {n size : ℕ} {r : List A} → Column f d n size r → ((i : ℕ) → i < n → f i ≡ g i) → Column g d n size r
+column-as c e = record { at = λ i h. c .at i h ∙ e i h; behind = c .behind; long = c .long }

@@ -1,57 +1,97 @@
 -- The unit of a number, the lodgements that count in an hour and their places, the notice at a way.
-use Prim.Native.Nat.{ℕ, _+_, _-_, _≤_, _<_}
+use Prim.Native.Nat.{ℕ, _+_, _*_, _-_, _≤_, _<_}
 use mathlib.Core.Path.{_≡_, refl, sym, ap, _∙_}
-use mathlib.Core.Bool.{Bool, true, false, Bool·beq}
-use mathlib.Core.List.{List, [], _∷_, _++_, append-assoc, append-nil}
+use mathlib.Core.Bool.{Bool, true, false, cond, _&&_, Bool·beq}
+use mathlib.Core.List.{List, [], _∷_, _++_, map, map-map, append-assoc, append-nil}
 use native.Mathlib.Omega.{arith}
 use native.Mathlib.Numerals.{add-one}
-use lib.Dec.{ltb}
+use lib.Dec.{eqb, ltb}
 use lib.ListN.{getD, set, take, length, length-take, List·getD-eq-default}
-use lib.Seq.{getD-take, take-suc-set}
-use borrow.Author.Tests.{lt-ltb, le-ltb}
+use lib.Seq.{getD-take, take-suc-set, getD-set-same, getD-set-other}
+use borrow.Author.Tests.{lt-ltb, le-ltb, eqb-true, eqb-false, ltb-true, ltb-false}
+use Rattle.rules.proofs.BoolLaws.{by-bool}
 use Rattle.rules.specs.Lists.{All, keep, from}
 use Rattle.rules.proofs.ListLaws.{all-keep, all-at, keep-same}
-use Rattle.arrays.proofs.PlaceLaws.{from-next, from-end, from-all, none-off}
+use Rattle.arrays.proofs.PlaceLaws.{from-next, from-end, from-all, none-off, map-all}
+use Rattle.session.specs.declared.Session.{Session}
 use Rattle.session.specs.declared.Unit.{Unit}
 use Rattle.session.specs.declared.Notice.{Notice}
 use Rattle.session.specs.declared.Lodgement.{Lodgement}
-use Rattle.session.specs.declared.Energies.{Energies}
 use Rattle.session.specs.declared.Verdict.{Verdict}
 use Rattle.session.specs.Image.{noUnit, noNotice, noLodgement, noVerdict}
 use Rattle.session.specs.Parts.{numberIs, placeOf}
-use Rattle.session.proofs.PlaceLaws.{place-first}
+use Rattle.session.proofs.PlaceLaws.{place-first, place-map}
 use Rattle.gathering.specs.declared.Places.{Places}
-use Rattle.gathering.specs.declared.Slots.{Slots}
+use Rattle.gathering.specs.declared.Day.{Day}
+use Rattle.gathering.specs.declared.Gathered.{Gathered}
+use Rattle.borders.specs.declared.Executions.{Executions}
+use Rattle.hour.specs.declared.Hour.{Hour}
 use Rattle.gathering.specs.Columns.{Column}
-use Rattle.gathering.specs.Built.{unitAmong, counts, countsIn, countsAt, Selected, Chosen, Slotted, pickedAt, energyAt, priceAt, Inside, noticeAt, bareNotice}
+use Rattle.gathering.specs.Built.{isNumber, spotIn, unitAmong, holderIn, energyOn, PutAt, Rows, isAccepted, acceptedAt, counts, countsIn, countsAt, Selected, Chosen, Inside, pickedAt, markedAt, slotAt, energyAt, priceAt, numberAt, unitAt, borderAt, sideAt, legacyAt, numberOn, unitOn, borderOn, sideOn, legacyOn, Held, Picked, DayOf, noticeAt, bareNotice, Given, holdersIn, Gather}
+use Rattle.gathering.proofs.ColumnLaws.{below, column-as}
+use Rattle.gathering.proofs.ListLaws.{front-places}
 
 -- The unit of a number
 
-module _ (us : List Unit) (n m p : ℕ) (at : p ≡ placeOf (numberIs m) (take n us)) where
-  found : unitAmong (take n us) m ≡ getD (take n us) p noUnit
-  unfolding unitAmong
-  found = place-first (numberIs m) noUnit (take n us) ∙ ap (λ k. getD (take n us) k noUnit) (sym at)
+-- a search among the numbers of units is one among the units
+pub numbers-place : (us : List Unit) (n m : ℕ) (numbers : List ℕ) → Column (unitOn us) 0 n 64 numbers → n ≤ 64 → n ≤ length us → placeOf (isNumber m) (take n numbers) ≡ placeOf (numberIs m) (take n us)
+unfolding unitOn
+numbers-place us n m numbers c h l =
+    ap (placeOf (isNumber m)) (sym (front-places 0 numbers n (omega (arith, c .long)))
+    ∙ (map-all _ (λ p. getD us p noUnit .number) (from-all _ 0 n (λ p a b. c .at p (omega arith)))
+    ∙ (sym (map-map (λ (u : Unit). u .number) (λ p. getD us p noUnit) (from 0 n)) ∙ ap (map (λ (u : Unit). u .number)) (front-places noUnit us n l))))
+    ∙ place-map (λ (u : Unit). u .number) (isNumber m) (take n us)
 
-  pub among-here : p < n → getD us p noUnit ≡ unitAmong (take n us) m
-  among-here h = sym (found ∙ getD-take n us p noUnit h)
+unfoldable pub spotAmong : List ℕ → ℕ → List Lodgement → ℕ → ℕ
+spotAmong numbers n ls i = placeOf (isNumber (getD ls i noLodgement .key .unit)) (take n numbers)
 
-  pub among-none : n ≤ p → noUnit ≡ unitAmong (take n us) m
-  among-none h = sym (found ∙ List·getD-eq-default (take n us) noUnit (omega (arith, length-take n us)))
+pub spots-as : (us : List Unit) (n : ℕ) (ls : List Lodgement) (m : ℕ) (numbers r : List ℕ) → Column (unitOn us) 0 n 64 numbers → n ≤ 64 → n ≤ length us
+    → Column (spotAmong numbers n ls) 0 m 128 r → Column (spotIn us n ls) 0 m 128 r
+unfolding spotAmong spotIn
+spots-as us n ls m numbers r c h l d = column-as d (λ i k. numbers-place us n (getD ls i noLodgement .key .unit) numbers c h l)
 
--- A lodgement that counts
+-- the unit at a place of its own
+unfoldable pub unitBy : List Unit → ℕ → List ℕ → ℕ → Unit
+unitBy us n spot i = cond (ltb (getD spot i 0) n) (getD us (getD spot i 0) noUnit) noUnit
 
-module _ (execution : Bool) (v : Verdict) (l : Lodgement) (energy : ℕ) where
-  pub count-refused : v .accepted ≡ false → false ≡ counts execution v l energy
-  unfolding counts
-  count-refused h = rw h
+module _ (us : List Unit) (n : ℕ) (spot : List ℕ) (i : ℕ) where
+  pub unit-here : {p : ℕ} → p ≡ getD spot i 0 → p < n → getD us p noUnit ≡ unitBy us n spot i
+  unfolding unitBy
+  unit-here e h = rw (e, lt-ltb (getD spot i 0) n (omega arith))
 
-  pub count-kind : v .accepted ≡ true → Bool·beq (l .key .execution) execution ≡ true → ltb 0 energy ≡ counts execution v l energy
-  unfolding counts
-  count-kind h q = rw (h, q)
+  pub unit-none : {p : ℕ} → p ≡ getD spot i 0 → n ≤ p → noUnit ≡ unitBy us n spot i
+  unfolding unitBy
+  unit-none e h = rw (le-ltb (getD spot i 0) n (omega arith))
 
-  pub count-other : v .accepted ≡ true → Bool·beq (l .key .execution) execution ≡ false → false ≡ counts execution v l energy
-  unfolding counts
-  count-other h q = rw (h, q)
+  pub unit-found : (ls : List Lodgement) → getD spot i 0 ≡ spotIn us n ls i → unitBy us n spot i ≡ holderIn us n ls i
+  unfolding holderIn spotIn unitAmong
+  unit-found ls e =
+      let p = getD spot i 0 in
+      let g : holderIn us n ls i ≡ getD (take n us) p noUnit = place-first _ noUnit (take n us) ∙ ap (λ k. getD (take n us) k noUnit) (sym e) in
+      by-bool (ltb p n)
+      (λ t. let h = ltb-true p n t in sym (unit-here refl h) ∙ sym (g ∙ getD-take n us p noUnit h))
+      (λ t. let h = ltb-false p n t in sym (unit-none refl h) ∙ sym (g ∙ List·getD-eq-default (take n us) noUnit (omega (arith, length-take n us))))
+
+-- A lodgement that is accepted, or counts
+
+module _ (execution : Bool) (v : Verdict) (l : Lodgement) where
+  pub accepted-kind : v .accepted ≡ true → Bool·beq (l .key .execution) execution ≡ isAccepted execution v l
+  unfolding isAccepted
+  accepted-kind h = rw h
+
+  pub accepted-none : v .accepted ≡ false → false ≡ isAccepted execution v l
+  unfolding isAccepted
+  accepted-none h = rw h
+
+  counts-as : (energy : ℕ) → (isAccepted execution v l && ltb 0 energy) ≡ counts execution v l energy
+  unfolding isAccepted counts
+  counts-as energy = by-bool (v .accepted) (λ t. rw t) (λ t. rw t)
+
+pub wanted-counts : {t : Bool} (energy : ℕ) → t ≡ true → ltb 0 energy ≡ (t && ltb 0 energy)
+wanted-counts energy h = rw h
+
+pub other-counts : {t : Bool} (energy : ℕ) → t ≡ false → false ≡ (t && ltb 0 energy)
+other-counts energy h = rw h
 
 -- Their places: those that are found, and those of the places to come
 
@@ -89,28 +129,122 @@ chosen-done p n at count i c l h e =
       named = q;
     }
 
-pub chosen-inside : {p : ℕ → Bool} {n : ℕ} {r : Places} → Selected p n r → n ≤ 128 → Inside r
+pub chosen-inside : {p : ℕ → Bool} {n : ℕ} {r : Places} → Selected p n r → n ≤ 128 → Inside (r .count) (r .at)
 chosen-inside c h = record { few = omega (arith, c .few); inside = λ i l. omega (arith, c .inside i l) }
 
--- What the lodgements have in an hour, read from the numbers of all
+-- What the lodgements have in all hours
 
-module _ (es : List Energies) (k : ℕ) (r : Slots) (s : Slotted es k r) where
-  pub chosen-as : (vs : List Verdict) (ls : List Lodgement) (n : ℕ) (execution : Bool) (p : Places) → n ≤ 128 → Selected (countsIn vs ls (r .energy) execution) n p → Chosen vs ls es n execution k p
-  unfolding countsIn countsAt
-  chosen-as vs ls n execution p h c = record {
+-- the first k hours of a place
+unfoldable pub PutTo : ℕ → List ℕ → List ℕ → List ℕ → ℕ → Type 0
+PutTo i row before after k =
+    ((h : ℕ) → h < k → getD after (i * 25 + h) 0 ≡ getD row h 0)
+    × ((j : ℕ) → j < i * 25 → getD after j 0 ≡ getD before j 0)
+
+pub put-start : (i : ℕ) (row before : List ℕ) → PutTo i row before before 0
+unfolding PutTo
+put-start i row before = (λ h m. absurd (omega arith), λ j m. refl)
+
+pub put-next : (i : ℕ) (row before after : List ℕ) (k : ℕ) → i * 25 + k < length after → PutTo i row before after k → PutTo i row before (set after (i * 25 + k) (getD row k 0)) (k + 1)
+unfolding PutTo
+put-next i row before after k l p = (
+  λ h m. by-bool (eqb k h)
+      (λ t. let q = eqb-true k h t in rw (← q) (getD-set-same after (i * 25 + k) (getD row k 0) 0 l))
+      (λ t. let q = eqb-false k h t in other (i * 25 + h) (λ z. q (omega arith)) ∙ p .0 h (below k h m q)),
+  λ j m. other j (λ z. absurd (omega arith)) ∙ p .1 j m,
+)
+  where
+    other : (j : ℕ) → (j ≡ i * 25 + k → ⊥) → getD (set after (i * 25 + k) (getD row k 0)) j 0 ≡ getD after j 0
+    other j q = getD-set-other after (i * 25 + k) j (getD row k 0) 0 q
+
+pub put-end : (i k : ℕ) (row before after : List ℕ) → k ≡ 25 → PutTo i row before after k → PutAt i row before after
+unfolding PutTo PutAt
+put-end i k row before after e p = rw e at p
+
+module _ (f : ℕ → ℕ → ℕ) where
+  pub rows-start : (a : List ℕ) → Rows f 0 a
+  unfolding Rows
+  rows-start a i k h l = absurd (omega arith)
+
+  pub rows-next : (n : ℕ) (row before after : List ℕ) → Rows f n before → PutAt n row before after → ((k : ℕ) → getD row k 0 ≡ f k n) → Rows f (n + 1) after
+  unfolding Rows PutAt
+  rows-next n row before after r p e i k h l =
+      by-bool (eqb n i)
+      (λ t. let q = eqb-true n i t in rw (← q) (p .0 k l ∙ e k))
+      (λ t. let m = below n i h (eqb-false n i t) in p .1 (i * 25 + k) (omega arith) ∙ r i k m l)
+
+  pub rows-end : (i n : ℕ) (a : List ℕ) → i ≡ n → Rows f i a → Rows f n a
+  rows-end i n a e r = rw (← e) r
+
+-- An hour's lodgements, read from the numbers of the day
+
+module _ (s : Session) (hs : List Unit) (d : Day) (t : DayOf s hs d) (k : ℕ) (hour : k < 25) where
+  pub chosen-as : (execution : Bool) (wanted : List Bool) (p : Places) → Column (acceptedAt (s .verdicts) (s .lodgements) execution) false (s .standing) 128 wanted
+      → Selected (countsIn wanted (d .energy) k) (s .standing) p → Chosen (s .verdicts) (s .lodgements) (s .energies) (s .standing) execution k p
+  unfolding countsIn countsAt acceptedAt Rows
+  chosen-as execution wanted p a c = record {
     few = c .few;
     long = c .long;
     inside = c .inside;
-    named = c .named ∙ keep-same _ _ (from-all _ 0 n (λ i l m. ap (counts execution (getD vs i noVerdict) (getD ls i noLodgement)) (s .energies .at i (omega arith))));
+    named = c .named ∙ keep-same _ _ (from-all _ 0 (s .standing) (λ i l m.
+        rw (a .at i (omega arith), t .slots .energies i k (omega arith) hour) (counts-as execution (getD (s .verdicts) i noVerdict) (getD (s .lodgements) i noLodgement) (energyOn (s .energies) k i))));
   }
 
-  pub energies-as : (p : Places) (a : List ℕ) → Inside p → Column (pickedAt (r .energy) (p .at)) 0 (p .count) 128 a → Column (energyAt es k (p .at)) 0 (p .count) 128 a
-  unfolding pickedAt energyAt
-  energies-as p a o c = record { at = λ i h. c .at i h ∙ s .energies .at (getD (p .at) i 0) (o .inside i h); behind = c .behind; long = c .long }
+  module _ (p : Places) (inside : (i : ℕ) → i < p .count → getD (p .at) i 0 < s .standing) where
+    pub energies-as : (a : List ℕ) → Column (slotAt (d .energy) k (p .at)) 0 (p .count) 128 a → Column (energyAt (s .energies) k (p .at)) 0 (p .count) 128 a
+    unfolding slotAt energyAt Rows
+    energies-as a c = column-as c (λ i h. t .slots .energies (getD (p .at) i 0) k (inside i h) hour)
 
-  pub prices-as : (p : Places) (a : List ℕ) → Inside p → Column (pickedAt (r .price) (p .at)) 0 (p .count) 128 a → Column (priceAt es k (p .at)) 0 (p .count) 128 a
-  unfolding pickedAt priceAt
-  prices-as p a o c = record { at = λ i h. c .at i h ∙ s .prices .at (getD (p .at) i 0) (o .inside i h); behind = c .behind; long = c .long }
+    pub prices-as : (a : List ℕ) → Column (slotAt (d .price) k (p .at)) 0 (p .count) 128 a → Column (priceAt (s .energies) k (p .at)) 0 (p .count) 128 a
+    unfolding slotAt priceAt Rows
+    prices-as a c = column-as c (λ i h. t .slots .prices (getD (p .at) i 0) k (inside i h) hour)
+
+    pub holders-as : (x : Executions) → Picked (d .number) (d .unit) (d .border) (d .purchase) (d .legacy) p x → Held (s .lodgements) hs p x
+    unfolding pickedAt markedAt numberAt unitAt borderAt sideAt legacyAt numberOn unitOn borderOn sideOn legacyOn
+    holders-as x c =
+        let h = t .holders in
+        record {
+          count = c .count;
+          numbers = column-as (c .numbers) (λ i l. h .numbers .at (getD (p .at) i 0) (inside i l));
+          units = column-as (c .units) (λ i l. h .units .at (getD (p .at) i 0) (inside i l));
+          borders = column-as (c .borders) (λ i l. h .borders .at (getD (p .at) i 0) (inside i l));
+          sides = column-as (c .sides) (λ i l. h .sides .at (getD (p .at) i 0) (inside i l));
+          marks = column-as (c .marks) (λ i l. h .marks .at (getD (p .at) i 0) (inside i l));
+        }
+
+-- what is read so is the hour
+module _ (s : Session) (hs : List Unit) (d : Day) (t : DayOf s hs d) (n k : ℕ) (all : s .standing ≡ n) (hour : k < 25) (spot : List ℕ) (r : Gathered) where
+  abbrev h : Hour
+  h = r .hour
+
+  pub hour-built : (p q : Places) → Selected (countsIn (d .offer) (d .energy) k) n p → Selected (countsIn (d .execution) (d .energy) k) n q
+      → Picked (d .number) (d .unit) (d .border) (d .purchase) (d .legacy) p (holdersIn (h .offers))
+      → Picked (d .number) (d .unit) (d .border) (d .purchase) (d .legacy) q (h .executions)
+      → Column (slotAt (d .price) k (p .at)) 0 (p .count) 128 (h .offers .price)
+      → Column (slotAt (d .energy) k (p .at)) 0 (p .count) 128 (h .offered)
+      → Column (slotAt (d .energy) k (q .at)) 0 (q .count) 128 (h .energy)
+      → Given (s .capacities) k (record { flags = h .published; energies = h .capacity })
+      → Column (pickedAt spot (p .at)) 0 (p .count) 128 (r .offering)
+      → Column (pickedAt spot (q .at)) 0 (q .count) 128 (r .executing)
+      → Gather s hs spot k r
+  hour-built p q c f o x price offered energy given offering executing =
+      let c′ : Selected (countsIn (d .offer) (d .energy) k) (s .standing) p = rw all c in
+      let f′ : Selected (countsIn (d .execution) (d .energy) k) (s .standing) q = rw all f in
+      record {
+        offering = offering;
+        executing = executing;
+        built = record {
+          places = p;
+          chosen = chosen-as s hs d t k hour false (d .offer) p (t .offers) c′;
+          holders = holders-as s hs d t k hour p (c′ .inside) (holdersIn (h .offers)) o;
+          prices = prices-as s hs d t k hour p (c′ .inside) (h .offers .price) price;
+          offered = energies-as s hs d t k hour p (c′ .inside) (h .offered) offered;
+          places′ = q;
+          chosen′ = chosen-as s hs d t k hour true (d .execution) q (t .executions) f′;
+          holders′ = holders-as s hs d t k hour q (f′ .inside) (h .executions) x;
+          energies = energies-as s hs d t k hour q (f′ .inside) (h .energy) energy;
+          capacities = given;
+        };
+      }
 
 -- The notice at a way
 

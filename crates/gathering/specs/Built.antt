@@ -1,9 +1,9 @@
 -- The lodgements that an hour is cleared from, by their places in the session's arrays.
-use Prim.Native.Nat.{ℕ, _≤_, _<_, _-_}
+use Prim.Native.Nat.{ℕ, _+_, _*_, _≤_, _<_, _-_}
 use mathlib.Core.Path.{_≡_}
 use mathlib.Core.Bool.{Bool, true, false, cond, _&&_, Bool·beq}
 use mathlib.Core.List.{List, []}
-use lib.Dec.{ltb}
+use lib.Dec.{eqb, ltb}
 use lib.ListN.{getD, take, length}
 use Rattle.rules.specs.Lists.{keep, first, from}
 use Rattle.session.specs.declared.Unit.{Unit}
@@ -13,12 +13,14 @@ use Rattle.session.specs.declared.Energies.{Energies}
 use Rattle.session.specs.declared.Verdict.{Verdict}
 use Rattle.session.specs.declared.Session.{Session}
 use Rattle.session.specs.Image.{noUnit, noNotice, noLodgement, noVerdict}
-use Rattle.session.specs.Parts.{numberIs}
+use Rattle.session.specs.Parts.{numberIs, placeOf}
 use Rattle.matching.specs.declared.Offers.{Offers}
 use Rattle.borders.specs.declared.Executions.{Executions}
 use Rattle.hour.specs.declared.Hour.{Hour}
 use Rattle.gathering.specs.declared.Places.{Places}
 use Rattle.gathering.specs.declared.Slots.{Slots}
+use Rattle.gathering.specs.declared.Day.{Day}
+use Rattle.gathering.specs.declared.Gathered.{Gathered}
 use Rattle.gathering.specs.declared.Published.{Published}
 use Rattle.gathering.specs.Columns.{Column}
 
@@ -34,6 +36,17 @@ bareNotice = record { given = false; energies = [] }
 -- the unit with a number among some units; of a number that none has, a unit with nothing
 unfoldable pub unitAmong : List Unit → ℕ → Unit
 unitAmong us n = first (numberIs n) noUnit us
+
+-- the place of a number among some, or behind the last
+abbrev pub isNumber : ℕ → ℕ → Bool
+isNumber n m = eqb m n
+
+-- the place of the unit of the lodgement at a place
+unfoldable pub spotIn : List Unit → ℕ → List Lodgement → ℕ → ℕ
+spotIn us n ls i = placeOf (numberIs (getD ls i noLodgement .key .unit)) (take n us)
+
+abbrev pub Spots : Session → List ℕ → Type 0
+Spots s r = Column (spotIn (s .units) (s .enrolled) (s .lodgements)) 0 (s .standing) 128 r
 
 -- the unit of the lodgement at a place
 unfoldable pub holderIn : List Unit → ℕ → List Lodgement → ℕ → Unit
@@ -52,18 +65,35 @@ energyOn es k i = getD (getD es i bareEnergies .energies) k 0
 unfoldable pub priceOn : List Energies → ℕ → ℕ → ℕ
 priceOn es k i = getD (getD es i bareEnergies .prices) k 0
 
--- what all have in it
-pub record Slotted (es : List Energies) (k : ℕ) (r : Slots) : Type 0 where
-  pub energies : Column (energyOn es k) 0 128 128 (r .energy)
-  pub prices : Column (priceOn es k) 0 128 128 (r .price)
+-- 25 numbers of a place are these, and the others as before
+unfoldable pub PutAt : ℕ → List ℕ → List ℕ → List ℕ → Type 0
+PutAt i row before after =
+    ((k : ℕ) → k < 25 → getD after (i * 25 + k) 0 ≡ getD row k 0)
+    × ((j : ℕ) → j < i * 25 → getD after j 0 ≡ getD before j 0)
+
+-- an array has f of each hour at each of its first n places, 25 for each place
+unfoldable pub Rows : (ℕ → ℕ → ℕ) → ℕ → List ℕ → Type 0
+Rows f n a = (i k : ℕ) → i < n → k < 25 → getD a (i * 25 + k) 0 ≡ f k i
+
+-- what the first n lodgements have in all hours
+pub record Slotted (es : List Energies) (n : ℕ) (r : Slots) : Type 0 where
+  pub energies : Rows (energyOn es) n (r .energy)
+  pub prices : Rows (priceOn es) n (r .price)
+
+-- a lodgement of the kind, accepted at closing
+unfoldable pub isAccepted : Bool → Verdict → Lodgement → Bool
+isAccepted execution v l = v .accepted && Bool·beq (l .key .execution) execution
+
+unfoldable pub acceptedAt : List Verdict → List Lodgement → Bool → ℕ → Bool
+acceptedAt vs ls execution i = isAccepted execution (getD vs i noVerdict) (getD ls i noLodgement)
+
+-- one that is wanted and has some energy in the hour at place k
+unfoldable pub countsIn : List Bool → List ℕ → ℕ → ℕ → Bool
+countsIn wanted energy k i = getD wanted i false && ltb 0 (getD energy (i * 25 + k) 0)
 
 -- a lodgement of the kind, accepted at closing, that names an hour, in which it has some energy
 unfoldable pub counts : Bool → Verdict → Lodgement → ℕ → Bool
 counts execution v l energy = v .accepted && (Bool·beq (l .key .execution) execution && ltb 0 energy)
-
--- the one at a place, by what all have in the hour
-unfoldable pub countsIn : List Verdict → List Lodgement → List ℕ → Bool → ℕ → Bool
-countsIn vs ls energy execution i = counts execution (getD vs i noVerdict) (getD ls i noLodgement) (getD energy i 0)
 
 unfoldable pub countsAt : List Verdict → List Lodgement → List Energies → Bool → ℕ → ℕ → Bool
 countsAt vs ls es execution k i = counts execution (getD vs i noVerdict) (getD ls i noLodgement) (energyOn es k i)
@@ -98,6 +128,12 @@ legacyAt us at i = getD us (getD at i 0) noUnit .legacy
 unfoldable pub pickedAt : List ℕ → List ℕ → ℕ → ℕ
 pickedAt column at i = getD column (getD at i 0) 0
 
+unfoldable pub markedAt : List Bool → List ℕ → ℕ → Bool
+markedAt column at i = getD column (getD at i 0) false
+
+unfoldable pub slotAt : List ℕ → ℕ → List ℕ → ℕ → ℕ
+slotAt all k at i = getD all (getD at i 0 * 25 + k) 0
+
 unfoldable pub energyAt : List Energies → ℕ → List ℕ → ℕ → ℕ
 energyAt es k at i = energyOn es k (getD at i 0)
 
@@ -105,9 +141,9 @@ unfoldable pub priceAt : List Energies → ℕ → List ℕ → ℕ → ℕ
 priceAt es k at i = priceOn es k (getD at i 0)
 
 -- places that can be read
-pub record Inside (p : Places) : Type 0 where
-  pub few : p .count ≤ 128
-  pub inside : (i : ℕ) → i < p .count → getD (p .at) i 0 < 128
+pub record Inside (count : ℕ) (at : List ℕ) : Type 0 where
+  pub few : count ≤ 128
+  pub inside : (i : ℕ) → i < count → getD at i 0 < 128
 
 -- the holders of the lodgements at some places
 pub record Held (ls : List Lodgement) (us : List Unit) (p : Places) (x : Executions) : Type 0 where
@@ -117,6 +153,64 @@ pub record Held (ls : List Lodgement) (us : List Unit) (p : Places) (x : Executi
   pub borders : Column (borderAt us (p .at)) 0 (p .count) 128 (x .border)
   pub sides : Column (sideAt us (p .at)) false (p .count) 128 (x .purchase)
   pub marks : Column (legacyAt us (p .at)) false (p .count) 128 (x .legacy)
+
+-- the same from columns of all
+pub record Picked (number unit border : List ℕ) (purchase legacy : List Bool) (p : Places) (x : Executions) : Type 0 where
+  pub count : x .count ≡ p .count
+  pub numbers : Column (pickedAt number (p .at)) 0 (p .count) 128 (x .number)
+  pub units : Column (pickedAt unit (p .at)) 0 (p .count) 128 (x .unit)
+  pub borders : Column (pickedAt border (p .at)) 0 (p .count) 128 (x .border)
+  pub sides : Column (markedAt purchase (p .at)) false (p .count) 128 (x .purchase)
+  pub marks : Column (markedAt legacy (p .at)) false (p .count) 128 (x .legacy)
+
+-- The day
+
+unfoldable pub numberOn : List Lodgement → ℕ → ℕ
+numberOn ls i = getD ls i noLodgement .number
+
+unfoldable pub unitOn : List Unit → ℕ → ℕ
+unitOn us i = getD us i noUnit .number
+
+unfoldable pub borderOn : List Unit → ℕ → ℕ
+borderOn us i = getD us i noUnit .border
+
+unfoldable pub sideOn : List Unit → ℕ → Bool
+sideOn us i = getD us i noUnit .purchase
+
+unfoldable pub legacyOn : List Unit → ℕ → Bool
+legacyOn us i = getD us i noUnit .legacy
+
+-- the holders of the first n lodgements
+pub record HeldBy (ls : List Lodgement) (us : List Unit) (n : ℕ) (x : Executions) : Type 0 where
+  pub count : x .count ≡ n
+  pub numbers : Column (numberOn ls) 0 n 128 (x .number)
+  pub units : Column (unitOn us) 0 n 128 (x .unit)
+  pub borders : Column (borderOn us) 0 n 128 (x .border)
+  pub sides : Column (sideOn us) false n 128 (x .purchase)
+  pub marks : Column (legacyOn us) false n 128 (x .legacy)
+
+abbrev pub dayIn : (number unit border : List ℕ) (purchase legacy offer execution : List Bool) (energy price : List ℕ) → Day
+dayIn number unit border purchase legacy offer execution energy price = record {
+  number = number;
+  unit = unit;
+  border = border;
+  purchase = purchase;
+  legacy = legacy;
+  offer = offer;
+  execution = execution;
+  energy = energy;
+  price = price;
+}
+
+abbrev pub holdersOf : ℕ → Day → Executions
+holdersOf n d = record { count = n; number = d .number; unit = d .unit; border = d .border; purchase = d .purchase; legacy = d .legacy }
+
+-- what a day's hours read of a session's lodgements
+pub record DayOf (s : Session) (hs : List Unit) (d : Day) : Type 0 where
+  pub holders : HeldBy (s .lodgements) hs (s .standing) (holdersOf (s .standing) d)
+  pub offers : Column (acceptedAt (s .verdicts) (s .lodgements) false) false (s .standing) 128 (d .offer)
+  pub executions : Column (acceptedAt (s .verdicts) (s .lodgements) true) false (s .standing) 128 (d .execution)
+  pub slots : Slotted (s .energies) (s .standing) (record { energy = d .energy; price = d .price })
 
 -- Capacities
 
@@ -161,3 +255,9 @@ pub record Built (s : Session) (hs : List Unit) (k : ℕ) (h : Hour) : Type 0 wh
   pub holders′ : Held (s .lodgements) hs places′ (h .executions)
   pub energies : Column (energyAt (s .energies) k (places′ .at)) 0 (places′ .count) 128 (h .energy)
   pub capacities : Given (s .capacities) k (record { flags = h .published; energies = h .capacity })
+
+-- with the places of the units
+pub record Gather (s : Session) (hs : List Unit) (spot : List ℕ) (k : ℕ) (r : Gathered) : Type 0 where
+  pub built : Built s hs k (r .hour)
+  pub offering : Column (pickedAt spot (built .places .at)) 0 (built .places .count) 128 (r .offering)
+  pub executing : Column (pickedAt spot (built .places′ .at)) 0 (built .places′ .count) 128 (r .executing)

@@ -1,10 +1,16 @@
 // An hour of the day, from the lodgements accepted at closing that name it.
 ghost use mathlib.Core.Path.{_≡_};
+ghost use mathlib.Core.Bool.{false, _&&_};
+ghost use mathlib.Core.List.{List};
 ghost use Prim.Native.Nat.{_≤_, _<_};
-ghost use lib.ListN.{take};
-ghost use Rattle.session.specs.Parts.{Within};
+ghost use lib.Dec.{ltb};
+ghost use lib.ListN.{take, length};
+ghost use Rattle.session.specs.declared.Session.{Session};
+ghost use Rattle.session.specs.declared.Unit.{Unit};
+ghost use Rattle.session.specs.Parts.{Within, placeOf};
 ghost use Rattle.gathering.specs.Columns.{Column};
-ghost use Rattle.gathering.specs.Built.{unitAmong, Holders, Slotted, counts, countsIn, Selected, Inside, pickedAt, Held, noticeAt, Given, offersAt, Built};
+ghost use Rattle.gathering.specs.Built.{isNumber};
+ghost use Rattle.gathering.specs.Built.{Spots, Holders, unitOn, PutAt, Slotted, isAccepted, acceptedAt, HeldBy, DayOf, dayIn, countsIn, Selected, Inside, pickedAt, markedAt, slotAt, Picked, noticeAt, Given, offersAt, Gather};
 use borders::Executions;
 use hour::Hour;
 use matching::Offers;
@@ -21,10 +27,31 @@ pub struct Places {
     pub at: [usize; 128],
 }
 
-// What the standing lodgements have in an hour, by place.
+// What the standing lodgements have in all hours, 25 for each place.
 pub struct Slots {
-    pub energy: [u32; 128],
-    pub price: [u32; 128],
+    pub energy: [u32; 3200],
+    pub price: [u32; 3200],
+}
+
+// What the day's hours read of the standing lodgements, by place: their holders, which are accepted offers or executions, and what
+// they have. They are plain numbers, which can be lent, so that no hour copies them.
+pub struct Day {
+    pub number: [u32; 128],
+    pub unit: [u32; 128],
+    pub border: [u32; 128],
+    pub purchase: [bool; 128],
+    pub legacy: [bool; 128],
+    pub offer: [bool; 128],
+    pub execution: [bool; 128],
+    pub energy: [u32; 3200],
+    pub price: [u32; 3200],
+}
+
+// An hour, and the places of the units of its offers and executions.
+pub struct Gathered {
+    pub hour: Hour,
+    pub offering: [u32; 128],
+    pub executing: [u32; 128],
 }
 
 // Capacities of an hour by direction (`borders::way`): whether published, and the energy.
@@ -33,33 +60,65 @@ pub struct Published {
     pub energies: [u32; 10],
 }
 
-// The unit with a number among the first n; of a number that none has, a unit with nothing.
-fn unit_among(units: [Unit; 64], n: usize, number: u32) -> Unit
+// The numbers of the first n units.
+fn unit_numbers(units: [Unit; 64], n: usize) -> [u32; 64]
     requires { ⌜ n ≤ 64 ⌝ }
-    ensures { λ r. ⌜ r ≡ unitAmong (take n units) number ⌝ }
+    ensures { λ r. ⌜ (n ≤ length units) × Column (unitOn units) 0 n 64 r ⌝ }
 {
-    let p = session::units::place(units, n, number);
-    if p < n {
-        return units[p];
+    let mut found = [0u32; 64];
+    for i in 0..n {
+        let u = units[i];
+        found[i] = u.number;
     }
-    Unit {
-        number: 0,
-        agent: 0,
-        border: 0,
-        purchase: false,
-        maximum: 0,
-        legacy: false,
-    }
+    found
 }
 
-// The units of the standing lodgements, by place.
-pub fn holders(s: Session) -> [Unit; 128]
+// The place of a number among the first n, or n.
+fn place_of(numbers: &[u32; 64], n: usize, number: u32) -> usize
+    requires { ⌜ (n ≤ 64) × (length (now numbers) ≡ 64) ⌝ }
+    ensures { λ r. ⌜ (r ≡ placeOf (isNumber number) (take n (now (numbers .entry)))) × (r ≤ n) ⌝ }
+{
+    for i in 0..n {
+        if numbers[i] == number {
+            return i;
+        }
+    }
+    n
+}
+
+// The places of the units of the standing lodgements, by place; of a unit that is not registered, the place behind the last.
+pub fn spots(s: Session) -> [u32; 128]
     requires { ⌜ Within s ⌝ }
-    ensures { λ r. ⌜ Holders s r ⌝ }
+    ensures { λ r. ⌜ Spots s r ⌝ }
 {
     let units = s.units;
     let enrolled = s.enrolled;
     let lodgements = s.lodgements;
+    let n = s.standing;
+    let numbers = unit_numbers(units, enrolled);
+    let mut found = [0u32; 128];
+    for i in 0..n {
+        let l = lodgements[i];
+        let p = place_of(&numbers, enrolled, l.key.unit);
+        found[i] = p as u32;
+    }
+    found
+}
+
+// A number as a place.
+pub fn index(x: u32) -> usize
+    ensures { λ r. ⌜ r ≡ x ⌝ }
+{
+    x as usize
+}
+
+// The units of the standing lodgements, by place, `spot` being their places; of one that is not registered, a unit with nothing.
+pub fn holders(s: Session, spot: &[u32; 128]) -> [Unit; 128]
+    requires { ⌜ Within s × Spots s (now spot) ⌝ }
+    ensures { λ r. ⌜ Holders s r ⌝ }
+{
+    let units = s.units;
+    let enrolled = s.enrolled;
     let n = s.standing;
     let none = Unit {
         number: 0,
@@ -71,84 +130,86 @@ pub fn holders(s: Session) -> [Unit; 128]
     };
     let mut found = [none; 128];
     for i in 0..n {
-        let l = lodgements[i];
-        let u = unit_among(units, enrolled, l.key.unit);
+        let p = index(spot[i]);
+        if enrolled <= p {
+            continue;
+        }
+        let u = units[p];
         found[i] = u;
     }
     found
 }
 
-// What the lodgements have in the hour at place k, by place: each is read once, and all that follows works on the numbers.
-fn slots_at(energies: [Energies; 128], k: usize) -> Slots
-    requires { ⌜ k < 25 ⌝ }
-    ensures { λ r. ⌜ Slotted energies k r ⌝ }
+// A lodgement's numbers by hour, at its place.
+fn put(all: &mut [u32; 3200], i: usize, row: [u32; 25])
+    requires { ⌜ (i < 128) × (length (now all) ≡ 3200) ⌝ }
+    ensures { λ _. ⌜ (length (now (all .exit)) ≡ 3200) × PutAt i row (now (all .entry)) (now (all .exit)) ⌝ }
 {
-    let mut energy = [0u32; 128];
-    let mut price = [0u32; 128];
-    for i in 0..128 {
+    for k in 0..25 {
+        all[i * 25 + k] = row[k];
+    }
+}
+
+// What the first n lodgements have in all hours.
+fn slots_of(energies: [Energies; 128], n: usize) -> Slots
+    requires { ⌜ n ≤ 128 ⌝ }
+    ensures { λ r. ⌜ Slotted energies n r ⌝ }
+{
+    let mut energy = [0u32; 3200];
+    let mut price = [0u32; 3200];
+    for i in 0..n {
         let e = energies[i];
-        energy[i] = e.energies[k];
-        price[i] = e.prices[k];
+        let a = e.energies;
+        put(&mut energy, i, a);
+        let b = e.prices;
+        put(&mut price, i, b);
     }
     Slots { energy, price }
 }
 
-// Whether a lodgement is of the kind, accepted at closing, and names an hour, in which it has some energy.
-fn counts(execution: bool, v: Verdict, l: Lodgement, energy: u32) -> bool
-    ensures { λ r. ⌜ r ≡ counts execution v l energy ⌝ }
+// Whether a lodgement is of the kind and accepted at closing.
+fn is_accepted(execution: bool, v: Verdict, l: Lodgement) -> bool
+    ensures { λ r. ⌜ r ≡ isAccepted execution v l ⌝ }
 {
     if !v.accepted {
         return false;
     }
-    if l.key.execution == execution {
-        return 0 < energy;
-    }
-    false
+    l.key.execution == execution
 }
 
-// The places of the lodgements of a kind, among the first n, that an hour is cleared from; `energy` is what all have in it.
-fn chosen(
+// Which of the first n lodgements are of the kind and accepted at closing.
+fn accepted(
     verdicts: [Verdict; 128],
     lodgements: [Lodgement; 128],
-    energy: [u32; 128],
     n: usize,
     execution: bool,
-) -> Places
+) -> [bool; 128]
     requires { ⌜ n ≤ 128 ⌝ }
-    ensures { λ r. ⌜ Selected (countsIn verdicts lodgements energy execution) n r ⌝ }
+    ensures { λ r. ⌜ Column (acceptedAt verdicts lodgements execution) false n 128 r ⌝ }
 {
-    let mut at = [0usize; 128];
-    let mut count: usize = 0;
-    let mut next: usize = 0;
-    while next < n {
-        let i = next;
-        next += 1;
+    let mut found = [false; 128];
+    for i in 0..n {
         let v = verdicts[i];
         let l = lodgements[i];
-        if counts(execution, v, l, energy[i]) {
-            at[count] = i;
-            count += 1;
-        }
+        let t = is_accepted(execution, v, l);
+        found[i] = t;
     }
-    Places { count, at }
+    found
 }
 
-// The holders of the lodgements at some places, `units` being those of all.
-fn held(lodgements: [Lodgement; 128], units: [Unit; 128], p: Places) -> Executions
-    requires { ⌜ Inside p ⌝ }
-    ensures { λ r. ⌜ Held lodgements units p r ⌝ }
+// The holders of the first n lodgements, `units` being their units.
+fn held(lodgements: [Lodgement; 128], units: [Unit; 128], n: usize) -> Executions
+    requires { ⌜ n ≤ 128 ⌝ }
+    ensures { λ r. ⌜ HeldBy lodgements units n r ⌝ }
 {
-    let at = p.at;
-    let count = p.count;
     let mut number = [0u32; 128];
     let mut unit = [0u32; 128];
     let mut border = [0u32; 128];
     let mut purchase = [false; 128];
     let mut legacy = [false; 128];
-    for i in 0..count {
-        let j = at[i];
-        let l = lodgements[j];
-        let u = units[j];
+    for i in 0..n {
+        let l = lodgements[i];
+        let u = units[i];
         number[i] = l.number;
         unit[i] = u.number;
         border[i] = u.border;
@@ -156,7 +217,7 @@ fn held(lodgements: [Lodgement; 128], units: [Unit; 128], p: Places) -> Executio
         legacy[i] = u.legacy;
     }
     Executions {
-        count,
+        count: n,
         number,
         unit,
         border,
@@ -165,18 +226,133 @@ fn held(lodgements: [Lodgement; 128], units: [Unit; 128], p: Places) -> Executio
     }
 }
 
-// The numbers at some places.
-fn picked(column: [u32; 128], p: Places) -> [u32; 128]
-    requires { ⌜ Inside p ⌝ }
-    ensures { λ r. ⌜ Column (pickedAt column (p .at)) 0 (p .count) 128 r ⌝ }
+// What the hours read of the session's lodgements, `holders` being their units.
+pub fn day_of(s: Session, holders: [Unit; 128]) -> Day
+    requires { ⌜ s .standing ≤ 128 ⌝ }
+    ensures { λ r. ⌜ DayOf s holders r ⌝ }
 {
-    let at = p.at;
-    let count = p.count;
+    let n = s.standing;
+    let lodgements = s.lodgements;
+    let verdicts = s.verdicts;
+    let energies = s.energies;
+    let x = held(lodgements, holders, n);
+    let number = x.number;
+    let unit = x.unit;
+    let border = x.border;
+    let purchase = x.purchase;
+    let legacy = x.legacy;
+    let offer = accepted(verdicts, lodgements, n, false);
+    let execution = accepted(verdicts, lodgements, n, true);
+    let slots = slots_of(energies, n);
+    let energy = slots.energy;
+    let price = slots.price;
+    Day {
+        number,
+        unit,
+        border,
+        purchase,
+        legacy,
+        offer,
+        execution,
+        energy,
+        price,
+    }
+}
+
+// Whether a lodgement is one of those wanted, and names an hour, in which it has some energy.
+fn counts(wanted: bool, energy: u32) -> bool
+    ensures { λ r. ⌜ r ≡ (wanted && ltb 0 energy) ⌝ }
+{
+    if wanted {
+        return 0 < energy;
+    }
+    false
+}
+
+// The places of those wanted, among the first n, that name the hour at place k.
+fn chosen(wanted: &[bool; 128], energy: &[u32; 3200], n: usize, k: usize) -> Places
+    requires { ⌜ (n ≤ 128) × (k < 25) ⌝ }
+    ensures { λ r. ⌜ Selected (countsIn (now (wanted .entry)) (now (energy .entry)) k) n r ⌝ }
+{
+    let mut at = [0usize; 128];
+    let mut count: usize = 0;
+    let mut next: usize = 0;
+    while next < n {
+        let i = next;
+        next += 1;
+        if counts(wanted[i], energy[i * 25 + k]) {
+            at[count] = i;
+            count += 1;
+        }
+    }
+    Places { count, at }
+}
+
+// The numbers at some places, of a column.
+fn picked(column: &[u32; 128], at: &[usize; 128], count: usize) -> [u32; 128]
+    requires { ⌜ Inside count (now at) ⌝ }
+    ensures { λ r. ⌜ Column (pickedAt (now (column .entry)) (now (at .entry))) 0 count 128 r ⌝ }
+{
     let mut found = [0u32; 128];
     for i in 0..count {
-        found[i] = column[at[i]];
+        let j = at[i];
+        found[i] = column[j];
     }
     found
+}
+
+// The marks at some places.
+fn marked(column: &[bool; 128], at: &[usize; 128], count: usize) -> [bool; 128]
+    requires { ⌜ Inside count (now at) ⌝ }
+    ensures { λ r. ⌜ Column (markedAt (now (column .entry)) (now (at .entry))) false count 128 r ⌝ }
+{
+    let mut found = [false; 128];
+    for i in 0..count {
+        let j = at[i];
+        found[i] = column[j];
+    }
+    found
+}
+
+// What the lodgements at some places have in the hour at place k.
+fn slots_at(all: &[u32; 3200], k: usize, at: &[usize; 128], count: usize) -> [u32; 128]
+    requires { ⌜ (k < 25) × Inside count (now at) ⌝ }
+    ensures { λ r. ⌜ Column (slotAt (now (all .entry)) k (now (at .entry))) 0 count 128 r ⌝ }
+{
+    let mut found = [0u32; 128];
+    for i in 0..count {
+        let j = at[i];
+        found[i] = all[j * 25 + k];
+    }
+    found
+}
+
+// The holders of the lodgements at some places.
+fn holders_at<'a>(
+    number: &'a [u32; 128],
+    unit: &'a [u32; 128],
+    border: &'a [u32; 128],
+    purchase: &'a [bool; 128],
+    legacy: &'a [bool; 128],
+    p: Places,
+) -> Executions
+    requires { ⌜ Inside (p .count) (p .at) ⌝ }
+    ensures { λ r. ⌜ Picked (now (number .entry)) (now (unit .entry)) (now (border .entry)) (now (purchase .entry)) (now (legacy .entry)) p r ⌝ }
+{
+    let count = p.count;
+    let number = picked(number, &p.at, count);
+    let unit = picked(unit, &p.at, count);
+    let border = picked(border, &p.at, count);
+    let purchase = marked(purchase, &p.at, count);
+    let legacy = marked(legacy, &p.at, count);
+    Executions {
+        count,
+        number,
+        unit,
+        border,
+        purchase,
+        legacy,
+    }
 }
 
 // The capacity notice of the direction at a way; border 0 has none.
@@ -228,36 +404,53 @@ fn offers_of(x: Executions, price: [u32; 128]) -> Offers
     }
 }
 
-// The hour at place k: its accepted offers and executions by rising lodging number, and its published capacities.
-pub fn hour_at(s: Session, holders: [Unit; 128], k: usize) -> Hour
-    requires { ⌜ (s .standing ≤ 128) × (k < 25) ⌝ }
-    ensures { λ r. ⌜ Built s holders k r ⌝ }
+// The hour at place k: its accepted offers and executions by rising lodging number, and its published capacities. What is lent is the
+// day's, of n lodgements.
+pub fn hour_at<'a>(
+    n: usize,
+    k: usize,
+    spot: &'a [u32; 128],
+    number: &'a [u32; 128],
+    unit: &'a [u32; 128],
+    border: &'a [u32; 128],
+    purchase: &'a [bool; 128],
+    legacy: &'a [bool; 128],
+    offer: &'a [bool; 128],
+    execution: &'a [bool; 128],
+    energy: &'a [u32; 3200],
+    price: &'a [u32; 3200],
+    capacities: [Notice; 8],
+) -> Gathered
+    requires { ⌜ (n ≤ 128) × (k < 25) ⌝ }
+    ensures { λ r. ⌜ (r .hour .offers .count ≤ 128) × (r .hour .executions .count ≤ 128) ⌝ }
+    ensures { λ r. ⌜ ((s : Session) (hs : List Unit) → s .standing ≡ n → s .capacities ≡ capacities
+        → DayOf s hs (dayIn (now (number .entry)) (now (unit .entry)) (now (border .entry)) (now (purchase .entry)) (now (legacy .entry)) (now (offer .entry)) (now (execution .entry)) (now (energy .entry)) (now (price .entry)))
+        → Gather s hs (now (spot .entry)) k r) ⌝ }
 {
-    let verdicts = s.verdicts;
-    let lodgements = s.lodgements;
-    let energies = s.energies;
-    let capacities = s.capacities;
-    let n = s.standing;
-    let slots = slots_at(energies, k);
-    let energies = slots.energy;
-    let prices = slots.price;
-    let p = chosen(verdicts, lodgements, energies, n, false);
-    let q = chosen(verdicts, lodgements, energies, n, true);
-    let o = held(lodgements, holders, p);
-    let executions = held(lodgements, holders, q);
-    let price = picked(prices, p);
-    let offered = picked(energies, p);
-    let energy = picked(energies, q);
+    let p = chosen(offer, energy, n, k);
+    let q = chosen(execution, energy, n, k);
+    let o = holders_at(number, unit, border, purchase, legacy, p);
+    let executions = holders_at(number, unit, border, purchase, legacy, q);
+    let prices = slots_at(price, k, &p.at, p.count);
+    let offered = slots_at(energy, k, &p.at, p.count);
+    let energies = slots_at(energy, k, &q.at, q.count);
     let c = capacities_at(capacities, k);
-    let offers = offers_of(o, price);
+    let offers = offers_of(o, prices);
     let published = c.flags;
     let capacity = c.energies;
-    Hour {
+    let offering = picked(spot, &p.at, p.count);
+    let executing = picked(spot, &q.at, q.count);
+    let hour = Hour {
         offers,
         offered,
         executions,
-        energy,
+        energy: energies,
         published,
         capacity,
+    };
+    Gathered {
+        hour,
+        offering,
+        executing,
     }
 }

@@ -5,10 +5,11 @@ use mathlib.Core.Bool.{Bool, true, false, cond, _&&_, Bool·beq}
 use mathlib.Core.List.{List, [], _∷_, _++_, map, map-map}
 use mathlib.Core.Logic.{⊎-elim}
 use native.Mathlib.Omega.{arith}
+use native.Mathlib.Numerals.{add-one}
 use native.Mathlib.Nat.{eq-or-lt-of-le}
 use lib.Dec.{eqb, ltb}
-use lib.ListN.{getD, length, take, replicate, length-map, length-append, length-replicate}
-use lib.Seq.{ext-getD, getD-append-add}
+use lib.ListN.{getD, length, take, set, replicate, length-set, length-map, length-append, length-replicate}
+use lib.Seq.{ext-getD, getD-append-add, getD-set-same, getD-set-other}
 use borrow.Author.Tests.{eqb-true, eqb-false, ltb-true, ltb-false, lt-ltb, le-ltb, eq-eqb, ne-eqb}
 use Rattle.rules.specs.Lists.{keep, sum, sumOf, from}
 use Rattle.rules.specs.Match.{Holder, Offer}
@@ -29,8 +30,8 @@ use Rattle.session.specs.declared.Cleared.{Cleared}
 use Rattle.session.specs.Laid.{pad}
 use Rattle.session.specs.Image.{noUnit, byWay, energyOf}
 use Rattle.gathering.specs.Columns.{Column}
-use Rattle.results.specs.Shown.{addsTo, unitEnergy, energyAtPlace, shownAt, clearedAs}
-use Rattle.gathering.proofs.ColumnLaws.{blanks}
+use Rattle.results.specs.Shown.{addsTo, unitEnergy, energyAtPlace, Placed, shownAt, clearedAs}
+use Rattle.gathering.proofs.ColumnLaws.{blanks, column-as}
 use Rattle.gathering.proofs.ListLaws.{front-places, all-places, laid-at}
 
 -- Columns as lists
@@ -128,22 +129,72 @@ shown-energy flags a w h =
 pub shown-done : (flags : List Bool) (a r : List ℕ) → Column (shownAt flags a) 0 10 10 r → r ≡ byWay (energyOf (publishedIn flags a))
 shown-done flags a r c = by-way (energyOf (publishedIn flags a)) r (c .long) (λ w h. c .at w h ∙ shown-energy flags a w h)
 
--- one turn of the sum over holders
-unfoldable pub summed : List ℕ → List ℕ → ℕ → ℕ → ℕ → ℕ
-summed unit energy u i n = sumOf (addsTo unit energy u) (from i (n - i))
+-- Energies added at the places of the units
 
-module _ (unit energy : List ℕ) (u : ℕ) where
-  pub sum-start : (n : ℕ) → summed unit energy u 0 n ≡ unitEnergy unit energy n u
-  unfolding summed unitEnergy
-  sum-start n = rw (none-off n) refl
+pub from-last : (a n : ℕ) → from a (suc n) ≡ from a n ++ ((a + n) ∷ [])
+unfolding from
+from-last a zero = let o : a + 0 ≡ a = omega arith in rw o
+from-last a (suc n) = let o : a + suc n ≡ suc a + n = omega arith in rw o (ap (λ (l : List ℕ). a ∷ l) (from-last (suc a) n))
 
-  pub sum-next : (i n x : ℕ) → i < n → x ≡ cond (eqb (getD unit i 0) u) (getD energy i 0) 0 → x + summed unit energy u (i + 1) n ≡ summed unit energy u i n
-  unfolding summed sumOf sum addsTo
-  sum-next i n x h e = rw (from-next n i h, e)
+pub sum-last : (f : ℕ → ℕ) (l : List ℕ) (x : ℕ) → sumOf f (l ++ (x ∷ [])) ≡ sumOf f l + f x
+unfolding sumOf sum
+sum-last f [] x = omega arith
+sum-last f (y ∷ l) x = ap (λ n. f y + n) (sum-last f l x) ∙ omega arith
 
-  pub sum-end : (i n : ℕ) → n ≤ i → summed unit energy u i n ≡ 0
-  unfolding summed sumOf sum
-  sum-end i n h = rw (from-end n i h)
+module _ (spot energy : List ℕ) where
+  energy-next : (i q : ℕ) → unitEnergy spot energy (i + 1) q ≡ unitEnergy spot energy i q + addsTo spot energy q i
+  unfolding unitEnergy
+  energy-next i q = rw (add-one, from-last 0 i) (sum-last (addsTo spot energy q) (from 0 i) (0 + i) ∙ (let o : 0 + i ≡ i = omega arith in rw o))
+
+  adds-here : (i q : ℕ) → getD spot i 0 ≡ q → addsTo spot energy q i ≡ getD energy i 0
+  unfolding addsTo
+  adds-here i q h = rw (eq-eqb (getD spot i 0) q h)
+
+  adds-none : (i q : ℕ) → (getD spot i 0 ≡ q → ⊥) → addsTo spot energy q i ≡ 0
+  unfolding addsTo
+  adds-none i q h = rw (ne-eqb (getD spot i 0) q h)
+
+  pub added-start : (m : ℕ) → Column (unitEnergy spot energy 0) 0 m 64 (replicate 64 0)
+  unfolding unitEnergy from sumOf sum
+  added-start m = record { at = λ q h. blanks 0 64 q; behind = λ q h. blanks 0 64 q; long = length-replicate {A = ℕ} 64 0 }
+
+  module _ (m i p : ℕ) (a : List ℕ) (e : p ≡ getD spot i 0) (c : Column (unitEnergy spot energy i) 0 m 64 a) where
+    pub added-next : p < m → m ≤ 64 → Column (unitEnergy spot energy (i + 1)) 0 m 64 (set a p (getD a p 0 + getD energy i 0))
+    added-next h l = record {
+      at = λ q k. by-bool (eqb p q)
+          (λ t. let z = eqb-true p q t in
+          rw (← z) (getD-set-same a p (getD a p 0 + getD energy i 0) 0 (omega (arith, c .long)) ∙ omega (arith, c .at p h, energy-next i p, adds-here i p (sym e))))
+          (λ t. let z = eqb-false p q t in
+          getD-set-other a p q (getD a p 0 + getD energy i 0) 0 (λ y. z (sym y)) ∙ omega (arith, c .at q k, energy-next i q, adds-none i q (λ y. z (e ∙ y))));
+      behind = λ q k. getD-set-other a p q (getD a p 0 + getD energy i 0) 0 (λ y. absurd (omega arith)) ∙ c .behind q k;
+      long = length-set a p (getD a p 0 + getD energy i 0) ∙ c .long;
+    }
+
+    pub added-skip : m ≤ p → Column (unitEnergy spot energy (i + 1)) 0 m 64 a
+    added-skip h = record {
+      at = λ q k. omega (arith, c .at q k, energy-next i q, adds-none i q (λ y. absurd (omega arith)));
+      behind = c .behind;
+      long = c .long;
+    }
+
+pub added-end : (spot energy : List ℕ) (i n m : ℕ) (a : List ℕ) → i ≡ n → Column (unitEnergy spot energy i) 0 m 64 a → Column (unitEnergy spot energy n) 0 m 64 a
+added-end spot energy i n m a e c = rw (← e) c
+
+-- each is within a bound that grows
+pub bound-next : (a : List ℕ) (p e b : ℕ) → p < length a → e ≤ 99999 → ((q : ℕ) → getD a q 0 ≤ b) → (q : ℕ) → getD (set a p (getD a p 0 + e)) q 0 ≤ b + 99999
+bound-next a p e b l h f q =
+    by-bool (eqb p q)
+    (λ t. let z = eqb-true p q t in rw (← z) (omega (arith, f p, getD-set-same a p (getD a p 0 + e) 0 l)))
+    (λ t. let z = eqb-false p q t in omega (arith, f q, getD-set-other a p q (getD a p 0 + e) 0 (λ y. z (sym y))))
+
+-- the energy at a unit's place is the unit's
+placed-energy : (us : List Unit) (m : ℕ) (unit spot energy : List ℕ) (n : ℕ) → Placed us m unit spot n → (p : ℕ) → p < m → unitEnergy spot energy n p ≡ energyAtPlace us unit energy n p
+unfolding unitEnergy energyAtPlace sumOf addsTo
+placed-energy us m unit spot energy n g p h =
+    ap sum (map-all _ _ (from-all _ 0 n (λ i a b. ap (λ (t : Bool). cond t (getD energy i 0) 0) (g i p (omega arith) h))))
+
+pub placed-as : (us : List Unit) (m : ℕ) (unit spot energy : List ℕ) (n : ℕ) (r : List ℕ) → Placed us m unit spot n → Column (unitEnergy spot energy n) 0 m 64 r → Column (energyAtPlace us unit energy n) 0 m 64 r
+placed-as us m unit spot energy n r g c = column-as c (λ p h. placed-energy us m unit spot energy n g p h)
 
 -- The energy of a unit
 
@@ -181,7 +232,7 @@ pub kept-said : (us : List Unit) (n : ℕ) (h : Hour) (f : Figures) (matched exe
     → Column (energyAtPlace us (h .offers .unit) (f .matched) (h .offers .count)) 0 n 64 matched
     → Column (energyAtPlace us (h .executions .unit) (f .executed) (h .executions .count)) 0 n 64 executed
     → maxima ≡ byWay (energyOf (publishedIn (h .published) (f .maxima)))
-    → n ≤ 64 → length us ≡ 64 → length (f .market) ≡ 10 → length (f .bilateral) ≡ 10 → AtBorders h f
+    → n ≤ 64 → n ≤ length us → length (f .market) ≡ 10 → length (f .bilateral) ≡ 10 → AtBorders h f
     → record { price = f .price; market = f .market; bilateral = f .bilateral; maxima = maxima; matched = matched; executed = executed } ≡ clearedAs (figuresIn h f) (take n us)
 unfolding clearedAs figuresIn
 kept-said us n h f matched executed maxima a b c l k m x w =
@@ -189,16 +240,10 @@ kept-said us n h f matched executed maxima a b c l k m x w =
     (flows-by-way _ (f .market) m (w .market))
     (flows-by-way _ (f .bilateral) x (w .bilateral))
     c
-    (units-said us (h .offers .unit) (f .matched) (h .offers .count) n matched _ a l (omega arith) (λ u. unit-offers (h .offers) (f .offered) (f .matched) (u .number)))
-    (units-said us (h .executions .unit) (f .executed) (h .executions .count) n executed _ b l (omega arith) (λ u. unit-executions (h .executions) (f .executed) (u .number)))
+    (units-said us (h .offers .unit) (f .matched) (h .offers .count) n matched _ a l k (λ u. unit-offers (h .offers) (f .offered) (f .matched) (u .number)))
+    (units-said us (h .executions .unit) (f .executed) (h .executions .count) n executed _ b l k (λ u. unit-executions (h .executions) (f .executed) (u .number)))
 
 -- Ways out
-
-pub own-here : (u n e : ℕ) → u ≡ n → (e ≡ cond (eqb u n) e 0) × (e ≤ e)
-own-here u n e h = (rw (eq-eqb u n h), omega arith)
-
-pub own-none : (u n e : ℕ) → (u ≡ n → ⊥) → (0 ≡ cond (eqb u n) e 0) × (0 ≤ e)
-own-none u n e h = (rw (ne-eqb u n h), omega arith)
 
 module _ (flags : List Bool) (a : List ℕ) (w : ℕ) where
   pub shown-home : w < 2 → 0 ≡ shownAt flags a w

@@ -1,5 +1,6 @@
 -- An hour's figures as the session keeps them.
-use Prim.Native.Nat.{ℕ}
+use Prim.Native.Nat.{ℕ, _<_}
+use mathlib.Core.Path.{_≡_}
 use mathlib.Core.Bool.{Bool, false, cond}
 use mathlib.Core.List.{List, map}
 use lib.Dec.{ltb, eqb}
@@ -26,6 +27,10 @@ unitEnergy unit energy n u = sumOf (addsTo unit energy u) (from 0 n)
 -- that of the unit at a place
 unfoldable pub energyAtPlace : List Unit → List ℕ → List ℕ → ℕ → ℕ → ℕ
 energyAtPlace us unit energy n p = unitEnergy unit energy n (getD us p noUnit .number)
+
+-- holders are at the places of their units, among the first m units
+abbrev pub Placed : List Unit → ℕ → List ℕ → List ℕ → ℕ → Type 0
+Placed us m unit spot n = (i p : ℕ) → i < n → p < m → eqb (getD spot i 0) p ≡ eqb (getD unit i 0) (getD us p noUnit .number)
 
 -- A maximum, by way
 

@@ -4,7 +4,7 @@ use mathlib.Core.Path.{_≡_, refl, sym, _∙_}
 use mathlib.Core.List.{List, [], _∷_, _++_, append-nil, map}
 use native.Mathlib.Omega.{arith}
 use native.Mathlib.Numerals.{add-one}
-use native.Mathlib.Nat.{div-zero}
+use native.Mathlib.Nat.{div-zero, zero-div}
 use lib.ListN.{length, getD, take, drop, set, length-drop, drop-of-length-le}
 use lib.Seq.{length-take-le, drop-cons, getD-drop, take-suc-set, append-snoc}
 use Rattle.rules.specs.Lists.{sum, addEach}
@@ -18,6 +18,11 @@ use Rattle.share.specs.Next.{next}
 pub none-lost : (r g m : ℕ) → g ≡ 0 → 0 ≡ proRata r g m
 unfolding proRata
 none-lost r g m z = rw z (sym (div-zero (r * m)))
+
+-- and so does an amount of 0
+pub none-held : (r g m : ℕ) → m ≡ 0 → 0 ≡ proRata r g m
+unfolding proRata
+none-held r g m z = let o : r * 0 ≡ 0 = omega arith in rw (z, o) (sym (zero-div g))
 
 -- "R × m / G rounded down"
 pub lost : (r g m : ℕ) {x : ℕ} → x ≡ (r * m + 0) / g → x ≡ proRata r g m

@@ -8,11 +8,14 @@ ghost use Rattle.rules.specs.Share.{proRata, handOut, share as shareOf};
 ghost use Rattle.arrays.specs.Places.{vals};
 ghost use Rattle.share.specs.Next.{next};
 
-// "each loses R × m / G rounded down"; "G 0 loses nothing".
+// "each loses R × m / G rounded down"; "G 0 loses nothing". Most amounts are 0, and those need no division.
 fn pro_rata(r: u32, g: u32, m: u32) -> u32
     requires { ⌜ r ≤ g ⌝ }
     ensures { λ x. ⌜ x ≡ proRata r g m ⌝ }
 {
+    if m == 0 {
+        return 0;
+    }
     if g == 0 {
         return 0;
     }

@@ -80,7 +80,7 @@ pub fn withdraw(
     let mut steps: u32 = 0;
     let mut volume = first;
     while 0 < left {
-        let market = borders::flows(false, n, &o.border, &o.purchase, &o.legacy, matched);
+        let market = borders::abroad(n, &o.border, &o.purchase, matched);
         let over = borders::excesses(published, maxima, &market);
         if !borders::passed(&over) {
             return Ended { steps, volume };

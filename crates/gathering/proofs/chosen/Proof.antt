@@ -10,12 +10,12 @@ use Rattle.gathering.proofs.chosen.Statement.{statement}
 use Rattle.gathering.proofs.chosen.Tie as tie
 
 abbrev Inv-loop : tie.InvT-loop
-Inv-loop n execution verdicts lodgements energy at₀ count₀ next₀ at count next =
+Inv-loop wanted energy n k at₀ count₀ next₀ at count next =
     (next ≤ n) × (count ≤ next) × (length at ≡ 128)
-    × (chosenSo (countsIn verdicts lodgements energy execution) at count next n ≡ keep (countsIn verdicts lodgements energy execution) (from 0 n))
+    × (chosenSo (countsIn wanted energy k) at count next n ≡ keep (countsIn wanted energy k) (from 0 n))
 
 abbrev μ-loop : tie.MeasureT-loop
-μ-loop n execution verdicts lodgements energy at₀ count₀ next₀ at count next = n - next
+μ-loop wanted energy n k at₀ count₀ next₀ at count next = n - next
 
 loop-holds : tie.Need-loop-holds Inv-loop μ-loop
 loop-holds c = (omega arith, omega arith, omega arith, chosen-start _ _ _)
@@ -23,23 +23,20 @@ loop-holds c = (omega arith, omega arith, omega arith, chosen-start _ _ _)
 add-next : tie.Need-add-next Inv-loop μ-loop
 add-next c = search needs
 
-mul-v : tie.Need-mul-v Inv-loop μ-loop
-mul-v c = search needs
-
-array-copy-out-v : tie.Need-array-copy-out-v Inv-loop μ-loop
-array-copy-out-v c = search needs
-
-mul-l : tie.Need-mul-l Inv-loop μ-loop
-mul-l c = search needs
-
-array-copy-out-l : tie.Need-array-copy-out-l Inv-loop μ-loop
-array-copy-out-l c = search needs
+element-copy-out-counts : tie.Need-element-copy-out-counts Inv-loop μ-loop
+element-copy-out-counts c = search needs
 
 mul-counts : tie.Need-mul-counts Inv-loop μ-loop
 mul-counts c = search needs
 
-array-read-counts : tie.Need-array-read-counts Inv-loop μ-loop
-array-read-counts c = search needs
+add-counts : tie.Need-add-counts Inv-loop μ-loop
+add-counts c = search needs
+
+mul-counts-2 : tie.Need-mul-counts-2 Inv-loop μ-loop
+mul-counts-2 c = search needs
+
+element-copy-out-counts-2 : tie.Need-element-copy-out-counts-2 Inv-loop μ-loop
+element-copy-out-counts-2 c = search needs
 
 counts-requires : tie.Need-counts-requires Inv-loop μ-loop
 counts-requires c κs = search needs
@@ -80,12 +77,11 @@ chosen-spec =
     μ-loop
     loop-holds
     add-next
-    mul-v
-    array-copy-out-v
-    mul-l
-    array-copy-out-l
+    element-copy-out-counts
     mul-counts
-    array-read-counts
+    add-counts
+    mul-counts-2
+    element-copy-out-counts-2
     counts-requires
     mul-at
     array-write-at

@@ -3,41 +3,33 @@ use mathlib.Core.Path.{refl}
 use mathlib.Core.Bool.{false}
 use native.Mathlib.Omega.{arith}
 use Rattle.gathering.specs.Columns.{Column}
-use Rattle.gathering.specs.Built.{numberAt, unitAt, borderAt, sideAt, legacyAt}
+use Rattle.gathering.specs.Built.{numberOn, unitOn, borderOn, sideOn, legacyOn}
 use Rattle.gathering.proofs.ColumnLaws.{column-start, column-next, column-end}
 use borrow.Author.Needs.{needs}
 use Rattle.gathering.proofs.held.Statement.{statement}
 use Rattle.gathering.proofs.held.Tie as tie
 
 abbrev Inv-loop : tie.InvT-loop
-Inv-loop lodgements units at count number₀ unit₀ border₀ purchase₀ legacy₀ i₀ number unit border purchase legacy i =
-    (i ≤ count) × Column (numberAt lodgements at) 0 i 128 number × Column (unitAt units at) 0 i 128 unit × Column (borderAt units at) 0 i 128 border
-    × Column (sideAt units at) false i 128 purchase × Column (legacyAt units at) false i 128 legacy
+Inv-loop n lodgements units number₀ unit₀ border₀ purchase₀ legacy₀ i₀ number unit border purchase legacy i =
+    (i ≤ n) × Column (numberOn lodgements) 0 i 128 number × Column (unitOn units) 0 i 128 unit × Column (borderOn units) 0 i 128 border × Column (sideOn units) false i 128 purchase × Column (legacyOn units) false i 128 legacy
 
 abbrev μ-loop : tie.MeasureT-loop
-μ-loop lodgements units at count number₀ unit₀ border₀ purchase₀ legacy₀ i₀ number unit border purchase legacy i =
-    count - i
+μ-loop n lodgements units number₀ unit₀ border₀ purchase₀ legacy₀ i₀ number unit border purchase legacy i = n - i
 
 loop-holds : tie.Need-loop-holds Inv-loop μ-loop
 loop-holds c = (omega arith, column-start _ _ _, column-start _ _ _, column-start _ _ _, column-start _ _ _, column-start _ _ _)
 
-mul-j : tie.Need-mul-j Inv-loop μ-loop
-mul-j c = search needs
-
-array-read-j : tie.Need-array-read-j Inv-loop μ-loop
-array-read-j c = search needs
-
 mul-l : tie.Need-mul-l Inv-loop μ-loop
-mul-l c = omega (arith, c .before .before .before .pre .inside (c .before .loop .i) (omega arith))
+mul-l c = search needs
 
 array-copy-out-l : tie.Need-array-copy-out-l Inv-loop μ-loop
-array-copy-out-l c = omega (arith, c .before .before .before .pre .inside (c .before .loop .i) (omega arith))
+array-copy-out-l c = search needs
 
 mul-u : tie.Need-mul-u Inv-loop μ-loop
-mul-u c = omega (arith, c .before .before .before .before .pre .inside (c .before .before .loop .i) (omega arith))
+mul-u c = search needs
 
 array-copy-out-u : tie.Need-array-copy-out-u Inv-loop μ-loop
-array-copy-out-u c = omega (arith, c .before .before .before .before .pre .inside (c .before .before .loop .i) (omega arith))
+array-copy-out-u c = search needs
 
 mul-number : tie.Need-mul-number Inv-loop μ-loop
 mul-number c = search needs
@@ -70,7 +62,7 @@ loop-less : tie.Need-loop-less Inv-loop μ-loop
 loop-less c = search needs
 
 loop-again : tie.Need-loop-again Inv-loop μ-loop
-unfolding numberAt unitAt borderAt sideAt legacyAt
+unfolding numberOn unitOn borderOn sideOn legacyOn
 loop-again c = let v = c .before .before .before .loop .inv in (
   omega arith,
   column-next _ _ _ _ _ _ (v .1) (omega arith) refl,
@@ -99,8 +91,6 @@ held-spec =
     Inv-loop
     μ-loop
     loop-holds
-    mul-j
-    array-read-j
     mul-l
     array-copy-out-l
     mul-u

@@ -2,35 +2,29 @@ use Prim.Native.Nat.{_≤_, _-_}
 use native.Mathlib.Omega.{arith}
 use Rattle.session.specs.Image.{noUnit}
 use Rattle.gathering.specs.Columns.{Column}
-use Rattle.gathering.specs.Built.{holderIn}
-use Rattle.gathering.proofs.ColumnLaws.{column-start, column-next, column-end}
+use Rattle.gathering.proofs.ColumnLaws.{column-start, column-next, column-skip, column-as, column-end}
+use Rattle.gathering.proofs.PlaceLaws.{unitBy, unit-here, unit-none, unit-found}
 use borrow.Author.Needs.{needs}
 use Rattle.gathering.proofs.holders.Statement.{statement}
 use Rattle.gathering.proofs.holders.Tie as tie
 
 abbrev Inv-loop : tie.InvT-loop
-Inv-loop units enrolled lodgements n found₀ i₀ found i = (i ≤ n) × Column (holderIn units enrolled lodgements) noUnit i 128 found
+Inv-loop spot units enrolled n found₀ i₀ found i = (i ≤ n) × Column (unitBy units enrolled spot) noUnit i 128 found
 
 abbrev μ-loop : tie.MeasureT-loop
-μ-loop units enrolled lodgements n found₀ i₀ found i = n - i
+μ-loop spot units enrolled n found₀ i₀ found i = n - i
 
 loop-holds : tie.Need-loop-holds Inv-loop μ-loop
 loop-holds c = (omega arith, column-start _ _ _)
 
-mul-l : tie.Need-mul-l Inv-loop μ-loop
-mul-l c = search needs
+mul-index : tie.Need-mul-index Inv-loop μ-loop
+mul-index c = search needs
 
-array-copy-out-l : tie.Need-array-copy-out-l Inv-loop μ-loop
-array-copy-out-l c = search needs
+element-copy-out-index : tie.Need-element-copy-out-index Inv-loop μ-loop
+element-copy-out-index c = search needs
 
-unit-among-requires : tie.Need-unit-among-requires Inv-loop μ-loop
-unit-among-requires c κs = search needs
-
-mul-found : tie.Need-mul-found Inv-loop μ-loop
-mul-found c = search needs
-
-array-set-from-found : tie.Need-array-set-from-found Inv-loop μ-loop
-array-set-from-found c = search needs
+index-requires : tie.Need-index-requires Inv-loop μ-loop
+index-requires c κs = search needs
 
 add-i : tie.Need-add-i Inv-loop μ-loop
 add-i c = search needs
@@ -39,11 +33,31 @@ loop-less : tie.Need-loop-less Inv-loop μ-loop
 loop-less c = search needs
 
 loop-again : tie.Need-loop-again Inv-loop μ-loop
-unfolding holderIn
-loop-again c = (omega arith, column-next _ _ _ _ _ _ (c .before .before .before .loop .inv .1) (omega arith) (c .unit-among .ensures))
+loop-again c = (omega arith, column-skip _ _ _ _ _ (c .before .before .before .before .loop .inv .1) (unit-none _ _ _ _ (c .before .index .ensures) (c .if1 .taken)))
+
+mul-u : tie.Need-mul-u Inv-loop μ-loop
+mul-u c = search needs
+
+array-copy-out-u : tie.Need-array-copy-out-u Inv-loop μ-loop
+array-copy-out-u c = search needs
+
+mul-found : tie.Need-mul-found Inv-loop μ-loop
+mul-found c = search needs
+
+array-set-from-found : tie.Need-array-set-from-found Inv-loop μ-loop
+array-set-from-found c = search needs
+
+add-i-2 : tie.Need-add-i-2 Inv-loop μ-loop
+add-i-2 c = search needs
+
+loop-less-2 : tie.Need-loop-less-2 Inv-loop μ-loop
+loop-less-2 c = search needs
+
+loop-again-2 : tie.Need-loop-again-2 Inv-loop μ-loop
+loop-again-2 c = (omega arith, column-next _ _ _ _ _ _ (c .before .before .before .before .before .loop .inv .1) (omega arith) (unit-here _ _ _ _ (c .before .before .index .ensures) (c .before .if1 .left)))
 
 returns : tie.Need-returns Inv-loop μ-loop
-returns c = column-end _ _ _ _ _ _ (c .before .loop .inv .1) (omega arith)
+returns c = column-as (column-end _ _ _ _ _ _ (c .before .loop .inv .1) (omega arith)) (λ i h. unit-found _ _ _ i _ (c .before .before .before .pre .1 .at i h))
 
 pub holders-spec : {M : Type 1} → statement M
 holders-spec =
@@ -52,12 +66,17 @@ holders-spec =
     Inv-loop
     μ-loop
     loop-holds
-    mul-l
-    array-copy-out-l
-    unit-among-requires
-    mul-found
-    array-set-from-found
+    mul-index
+    element-copy-out-index
+    index-requires
     add-i
     loop-less
     loop-again
+    mul-u
+    array-copy-out-u
+    mul-found
+    array-set-from-found
+    add-i-2
+    loop-less-2
+    loop-again-2
     returns)

@@ -17,20 +17,20 @@ abbrev μ-loop : tie.MeasureT-loop
 loop-holds : tie.Need-loop-holds Inv-loop μ-loop
 loop-holds c = (omega arith, column-start _ _ _)
 
-mul-found : tie.Need-mul-found Inv-loop μ-loop
-mul-found c = search needs
+mul-j : tie.Need-mul-j Inv-loop μ-loop
+mul-j c = search needs
 
-array-read-found : tie.Need-array-read-found Inv-loop μ-loop
-array-read-found c = search needs
+element-copy-out-j : tie.Need-element-copy-out-j Inv-loop μ-loop
+element-copy-out-j c = search needs
+
+mul-found : tie.Need-mul-found Inv-loop μ-loop
+mul-found c = omega (arith, c .before .before .before .pre .inside (c .before .before .loop .i) (omega arith))
+
+element-copy-out-found : tie.Need-element-copy-out-found Inv-loop μ-loop
+element-copy-out-found c = omega (arith, c .before .before .before .pre .inside (c .before .before .loop .i) (omega arith))
 
 mul-found-2 : tie.Need-mul-found-2 Inv-loop μ-loop
-mul-found-2 c = omega (arith, c .before .before .before .pre .inside (c .before .loop .i) (omega arith))
-
-array-read-found-2 : tie.Need-array-read-found-2 Inv-loop μ-loop
-array-read-found-2 c = c .before .before .before .pre .inside (c .before .loop .i) (omega arith)
-
-mul-found-3 : tie.Need-mul-found-3 Inv-loop μ-loop
-mul-found-3 c = search needs
+mul-found-2 c = search needs
 
 array-write-found : tie.Need-array-write-found Inv-loop μ-loop
 array-write-found c = search needs
@@ -43,7 +43,7 @@ loop-less c = search needs
 
 loop-again : tie.Need-loop-again Inv-loop μ-loop
 unfolding pickedAt
-loop-again c = (omega arith, column-next _ _ _ _ _ _ (c .before .loop .inv .1) (omega arith) refl)
+loop-again c = (omega arith, column-next _ _ _ _ _ _ (c .before .before .before .loop .inv .1) (omega arith) refl)
 
 returns : tie.Need-returns Inv-loop μ-loop
 returns c = column-end _ _ _ _ _ _ (c .before .loop .inv .1) (omega arith)
@@ -55,11 +55,11 @@ picked-spec =
     Inv-loop
     μ-loop
     loop-holds
+    mul-j
+    element-copy-out-j
     mul-found
-    array-read-found
+    element-copy-out-found
     mul-found-2
-    array-read-found-2
-    mul-found-3
     array-write-found
     add-i
     loop-less
