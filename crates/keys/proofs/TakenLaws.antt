@@ -5,7 +5,7 @@ use mathlib.Core.Bool.{Bool, true, false, not, _&&_, Bool·beq, false≢true}
 use mathlib.Core.List.{List, [], _∷_, _++_, map}
 use native.Mathlib.Omega.{arith}
 use lib.Dec.{eqb, ltb}
-use lib.ListN.{length, take, set, replicate, length-map}
+use lib.ListN.{length, set, replicate, length-map}
 use lib.Seq.{set-set}
 use borrow.Author.Tests.{eqb-true, lt-ltb, le-ltb, ltb-true, ltb-false}
 use Rattle.rules.specs.Lists.{All, none, more, Pairwise, empty, ahead, keep, any}

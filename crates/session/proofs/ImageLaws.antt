@@ -19,8 +19,6 @@ use Rattle.session.specs.Parts.{Within, within, numberIs, placeOf}
 use Rattle.session.specs.declared.Session.{Session}
 use Rattle.session.specs.declared.Unit.{Unit}
 use Rattle.session.specs.declared.Notice.{Notice}
-use Rattle.session.specs.declared.Lodgement.{Lodgement}
-use Rattle.session.specs.declared.Energies.{Energies}
 use Rattle.session.proofs.LaidLaws.{take-pad, any-map}
 use Rattle.session.proofs.PlaceLaws.{place-first, place-any, place-map, getD-map}
 
