@@ -1,7 +1,7 @@
 -- Annulling: each way out.
 use Prim.Native.Nat.{ℕ, _≤_, _<_}
 use mathlib.Core.Path.{_≡_, refl, sym, _∙_}
-use mathlib.Core.Bool.{Bool, true, false}
+use mathlib.Core.Bool.{Bool, true, false, false≢true}
 use native.Mathlib.Omega.{arith}
 use borrow.Author.Tests.{lt-ltb, le-ltb}
 use Rattle.rules.specs.Refusals.{row, firstRow}
@@ -65,4 +65,4 @@ module _ (s : Session) (k : Key) where
 
 -- its places are places of the array
 pub struck-placed : (s : Session) (p : ℕ) → s .standing ≤ 128 → p < s .standing → Placed (struckAt s p .change)
-struck-placed s p w h = let l = left-in (s .standing) p h in record { forward = omega arith; to = omega arith; at = omega arith }
+struck-placed s p w h = let l = left-in (s .standing) p h in record { forward = omega arith; to = omega arith; at = omega arith; still = λ e. absurd (false≢true (sym e)) }

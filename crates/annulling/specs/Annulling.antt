@@ -1,4 +1,5 @@
 -- What annulling changes.
+use mathlib.Core.Bool.{true}
 use Prim.Native.Nat.{ℕ}
 use Rattle.session.specs.Image.{noLodgement, noEnergies}
 use Rattle.session.specs.declared.Session.{Session}
@@ -11,6 +12,6 @@ abbrev pub struckAt : Session → ℕ → StandingTurn
 struckAt s p =
     let m = leftOf (s .standing) p in
     record {
-      change = record { from = p; to = m; at = m; lodgement = noLodgement; energies = noEnergies; standing = m; last = s .last };
+      change = record { from = p; to = m; at = m; lodgement = noLodgement; energies = noEnergies; standing = m; last = s .last; changed = true };
       answer = Done;
     }

@@ -65,6 +65,7 @@ fn strike(s: Session, at: usize) -> StandingTurn
         energies: blank,
         standing: left,
         last: s.last,
+        changed: true,
     };
     StandingTurn {
         change: change,

@@ -99,7 +99,7 @@ hours-fit b = hours-most (b .date)
 
 pub capacity-entered : (s : Session) (ps : List Published) (ns : List Notice) (d : Unit) (x : Notice) → ns ≡ map directionAs ps
     → Entered s (D.capacity (capacitiesIn ps))
-    (registryTurn s (record { change = record { enrolled = s .enrolled; at = 0; unit = getD (s .units) 0 d; notice = getD (s .notices) 0 x; capacities = ns }; answer = Done }))
+    (registryTurn s (record { change = record { enrolled = s .enrolled; at = 0; unit = getD (s .units) 0 d; notice = getD (s .notices) 0 x; capacities = ns; changed = true }; answer = Done }))
 unfolding said isRefusal D.reply D.rowsOf
 capacity-entered s ps ns d x q = record {
   book = λ b sound o e.

@@ -128,6 +128,7 @@ fn note_capacity(s: Session, directions: [Published; 8]) -> RegistryTurn
         unit: unit,
         notice: notice,
         capacities: kept,
+        changed: true,
     };
     RegistryTurn {
         change: change,

@@ -176,7 +176,7 @@ module _ (s : Session) (k : Key) (p m : ℕ) (at : p ≡ keyPlace s k) (left : m
   left-book = left ∙ ap (λ n. leftOf n p) (sym (standing-as s b e))
 
   -- an empty place behind those left
-  pub taken-image : standingWith s (record { from = p; to = m; at = m; lodgement = noLodgement; energies = noEnergies; standing = m; last = s .last }) ≡ image (D.withStanding b kept (b .last))
+  pub taken-image : standingWith s (record { from = p; to = m; at = m; lodgement = noLodgement; energies = noEnergies; standing = m; last = s .last; changed = true }) ≡ image (D.withStanding b kept (b .last))
   unfolding image verdictsIn hoursIn D.withStanding L.without B.hours
   taken-image =
       rw (
@@ -190,7 +190,7 @@ module _ (s : Session) (k : Key) (p m : ℕ) (at : p ≡ keyPlace s k) (left : m
 
   -- a lodgement behind those left
   pub entered-image : (l : L.Lodgement) (last : ℕ)
-      → standingWith s (record { from = p; to = m; at = m; lodgement = lodgementAs l; energies = energiesAs l; standing = m + 1; last = last }) ≡ image (D.withStanding b (kept ++ (l ∷ [])) last)
+      → standingWith s (record { from = p; to = m; at = m; lodgement = lodgementAs l; energies = energiesAs l; standing = m + 1; last = last; changed = true }) ≡ image (D.withStanding b (kept ++ (l ∷ [])) last)
   unfolding image verdictsIn hoursIn D.withStanding L.without B.hours
   entered-image l last =
       rw (

@@ -9,17 +9,18 @@ use response::Registered;
 use response::Response;
 use session::Session;
 
-// Units and notices: all capacities, the count, one unit and its notice. The capacities come first: a copy of what stands there
-// is then seen to change nothing, and the compiler leaves it out.
+// Units and notices: all capacities, the count, one unit and its notice.
 pub fn settle_registry(s: &mut Session, t: Registered) -> Response
     requires { ⌜ t .change .at < 64 ⌝ }
     ensures { λ r. ⌜ (now (s .exit) ≡ registryWith (now (s .entry)) (t .change)) × (r ≡ t .response) ⌝ }
 {
-    s.capacities = t.change.capacities;
-    s.enrolled = t.change.enrolled;
-    let at = t.change.at;
-    s.units[at] = t.change.unit;
-    s.notices[at] = t.change.notice;
+    if t.change.changed {
+        s.capacities = t.change.capacities;
+        s.enrolled = t.change.enrolled;
+        let at = t.change.at;
+        s.units[at] = t.change.unit;
+        s.notices[at] = t.change.notice;
+    }
     t.response
 }
 
@@ -35,11 +36,13 @@ pub fn settle_standing(s: &mut Session, t: Lodged) -> Response
         s.energies[i] = s.energies[j];
         i = j;
     }
-    let at = t.change.at;
-    s.lodgements[at] = t.change.lodgement;
-    s.energies[at] = t.change.energies;
-    s.standing = t.change.standing;
-    s.last = t.change.last;
+    if t.change.changed {
+        let at = t.change.at;
+        s.lodgements[at] = t.change.lodgement;
+        s.energies[at] = t.change.energies;
+        s.standing = t.change.standing;
+        s.last = t.change.last;
+    }
     t.response
 }
 

@@ -1,6 +1,7 @@
 -- The session with a message's lodgement entered.
 use Prim.Native.Nat.{ℕ, suc, _+_, _≤_, _<_}
-use mathlib.Core.Path.{_≡_, refl, ap, _∙_}
+use mathlib.Core.Path.{_≡_, refl, sym, ap, _∙_}
+use mathlib.Core.Bool.{true, false≢true}
 use native.Mathlib.Omega.{arith}
 use Rattle.rules.specs.Lodging as L
 use Rattle.rules.specs.DayBook as D
@@ -29,6 +30,7 @@ entering k f p m number = record {
     energies = record { energies = f .energies; prices = f .prices };
     standing = m + 1;
     last = number;
+    changed = true;
   };
   answer = Numbered number;
 }
@@ -44,7 +46,7 @@ module _ (s : Session) (f : Fields) (k : Key) (p m : ℕ) (same : k ≡ keyFor f
   pub entering-placed : p ≤ s .standing → (number : ℕ) → Placed (entering k f p m number .change)
   entering-placed h number =
       let b = left-behind (s .standing) p h in
-      record { forward = omega arith; to = room-left; at = room-left }
+      record { forward = omega arith; to = room-left; at = room-left; still = λ e. absurd (false≢true (sym e)) }
 
   pub entered : EnteredFields s f (standingTurn s (entering k f p m (s .last + 1)))
   unfolding said isRefusal D.entry L.keyOf

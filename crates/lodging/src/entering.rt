@@ -45,6 +45,7 @@ pub fn enter(s: Session, m: Fields) -> StandingTurn
         energies: named,
         standing: standing,
         last: number,
+        changed: true,
     };
     StandingTurn {
         change: change,

@@ -107,6 +107,7 @@ fn note_available(
         unit: unit,
         notice: notice,
         capacities: capacities,
+        changed: true,
     };
     RegistryTurn {
         change: change,

@@ -120,6 +120,7 @@ fn enrol(s: Session, u: Unit) -> RegistryTurn
         unit: u,
         notice: notice,
         capacities: capacities,
+        changed: true,
     };
     RegistryTurn {
         change: change,

@@ -1,19 +1,17 @@
--- What calls change: a change of nothing, and elements moved forward.
+-- What calls change: elements moved forward, and a session with or without what a turn changes.
 use Prim.Native.Nat.{ℕ, zero, suc, _+_, _≤_, _<_}
 use mathlib.Core.Path.{_≡_, refl, ap, _∙_}
+use mathlib.Core.Bool.{true, false}
 use mathlib.Core.List.{List, [], _∷_}
 use native.Mathlib.Omega.{arith}
 use native.Mathlib.Numerals.{add-one}
 use lib.ListN.{length, getD, set}
-use lib.Seq.{set-getD}
-use Rattle.session.specs.Parts.{refusedWith}
-use Rattle.session.specs.Changes.{withLodgements, moved, movedIn, registryTurn, standingTurn}
-use Rattle.session.specs.declared.Unit.{Unit}
-use Rattle.session.specs.declared.Notice.{Notice}
+use Rattle.session.specs.Changes.{withLodgements, withRegistry, moved, movedIn, registryTurn, standingTurn}
 use Rattle.session.specs.declared.Lodgement.{Lodgement}
 use Rattle.session.specs.declared.Energies.{Energies}
 use Rattle.session.specs.declared.Session.{Session}
-use Rattle.session.specs.declared.Answer.the-variants.{Refused}
+use Rattle.session.specs.declared.RegistryTurn.{RegistryTurn}
+use Rattle.session.specs.declared.StandingTurn.{StandingTurn}
 
 -- Elements moved forward
 
@@ -64,14 +62,19 @@ module _ (s t : Session) (f i : ℕ) (e : t ≡ movedIn s f i) (h : f ≤ i) (k 
       let b = moved-more x f i (s .energies) (t .energies) h (omega (arith, moved-long f i (s .energies) (t .energies) q)) q in
       rw (a, b, e)
 
--- A change of nothing
+-- A turn by whether it changes anything
 
-module _ (s : Session) (n h : ℕ) where
-  pub registry-kept : (d : Unit) (x : Notice)
-      → registryTurn s (record { change = record { enrolled = s .enrolled; at = 0; unit = getD (s .units) 0 d; notice = getD (s .notices) 0 x; capacities = s .capacities }; answer = Refused n h }) ≡ refusedWith s n h
-  registry-kept d x = rw (set-getD (s .units) 0 d, set-getD (s .notices) 0 x)
+module _ (s : Session) where
+  pub registry-still : (t : RegistryTurn) → t .change .changed ≡ false → record { session = s; answer = t .answer } ≡ registryTurn s t
+  registry-still t e = rw e
 
-  pub standing-kept : (d : Lodgement) (x : Energies)
-      → standingTurn s (record { change = record { from = 0; to = 0; at = 0; lodgement = getD (s .lodgements) 0 d; energies = getD (s .energies) 0 x; standing = s .standing; last = s .last }; answer = Refused n h }) ≡ refusedWith s n h
-  standing-kept d x =
-      rw (moved-none 0 (s .lodgements), moved-none 0 (s .energies), set-getD (s .lodgements) 0 d, set-getD (s .energies) 0 x)
+  pub registry-changed : (t : RegistryTurn) → t .change .changed ≡ true
+      → record { session = withRegistry s (t .change .enrolled) (set (s .units) (t .change .at) (t .change .unit)) (set (s .notices) (t .change .at) (t .change .notice)) (t .change .capacities); answer = t .answer } ≡ registryTurn s t
+  registry-changed t e = rw e
+
+  pub standing-still : (t : StandingTurn) → t .change .changed ≡ false → record { session = s; answer = t .answer } ≡ standingTurn s t
+  standing-still t e = rw e
+
+  pub standing-changed : (t : StandingTurn) (m : Session) → m ≡ movedIn s (t .change .from) (t .change .to) → t .change .changed ≡ true
+      → record { session = withLodgements m (t .change .standing) (set (m .lodgements) (t .change .at) (t .change .lodgement)) (set (m .energies) (t .change .at) (t .change .energies)) (t .change .last); answer = t .answer } ≡ standingTurn s t
+  standing-changed t m q e = rw (q, e)

@@ -1,6 +1,7 @@
 -- What calls change of a session.
 use Prim.Native.Nat.{ℕ, zero, suc, _≤_, _<_}
-use mathlib.Core.Bool.{Bool}
+use mathlib.Core.Path.{_≡_}
+use mathlib.Core.Bool.{Bool, false, cond}
 use mathlib.Core.List.{List, [], _∷_}
 use lib.ListN.{set}
 use Rattle.session.specs.declared.Notice.{Notice}
@@ -95,7 +96,7 @@ withFigures s cleared fs = record {
 -- Units and notices
 
 abbrev pub registryWith : Session → RegistryChange → Session
-registryWith s c = withRegistry s (c .enrolled) (set (s .units) (c .at) (c .unit)) (set (s .notices) (c .at) (c .notice)) (c .capacities)
+registryWith s c = cond (c .changed) (withRegistry s (c .enrolled) (set (s .units) (c .at) (c .unit)) (set (s .notices) (c .at) (c .notice)) (c .capacities)) s
 
 abbrev pub registryTurn : Session → RegistryTurn → Turn
 registryTurn s t = record { session = registryWith s (t .change); answer = t .answer }
@@ -117,17 +118,20 @@ movedIn s from to = withLodgements s (s .standing) (moved from to (s .lodgements
 
 abbrev pub standingWith : Session → StandingChange → Session
 standingWith s c =
-    withLodgements s (c .standing) (set (moved (c .from) (c .to) (s .lodgements)) (c .at) (c .lodgement))
-    (set (moved (c .from) (c .to) (s .energies)) (c .at) (c .energies)) (c .last)
+    cond (c .changed)
+    (withLodgements s (c .standing) (set (moved (c .from) (c .to) (s .lodgements)) (c .at) (c .lodgement))
+    (set (moved (c .from) (c .to) (s .energies)) (c .at) (c .energies)) (c .last))
+    s
 
 abbrev pub standingTurn : Session → StandingTurn → Turn
 standingTurn s t = record { session = standingWith s (t .change); answer = t .answer }
 
--- its places are places of the array
+-- its places are places of the array, and where nothing changes, none goes forward
 pub record Placed (c : StandingChange) : Type 0 where
   pub forward : c .from ≤ c .to
   pub to : c .to < 128
   pub at : c .at < 128
+  pub still : c .changed ≡ false → c .from ≡ c .to
 
 -- Verdicts and figures
 

@@ -12,21 +12,25 @@ use crate::Session;
 use crate::StandingChange;
 use crate::StandingTurn;
 use crate::Turn;
+use crate::no_energies;
+use crate::no_lodgement;
+use crate::no_notice;
+use crate::no_unit;
 
 // A refused call leaves every part as it was.
 
 pub fn registry_refused(s: Session, number: u32, hour: u32) -> RegistryTurn
     ensures { λ r. ⌜ (registryTurn s r ≡ refusedWith s number hour) × (r .change .at < 64) ⌝ }
 {
-    let unit = s.units[0];
-    let notice = s.notices[0];
-    let capacities = s.capacities;
+    let unit = no_unit();
+    let notice = no_notice();
     let change = RegistryChange {
-        enrolled: s.enrolled,
+        enrolled: 0,
         at: 0,
         unit: unit,
         notice: notice,
-        capacities: capacities,
+        capacities: [notice; 8],
+        changed: false,
     };
     RegistryTurn {
         change: change,
@@ -37,16 +41,17 @@ pub fn registry_refused(s: Session, number: u32, hour: u32) -> RegistryTurn
 pub fn standing_refused(s: Session, number: u32, hour: u32) -> StandingTurn
     ensures { λ r. ⌜ (standingTurn s r ≡ refusedWith s number hour) × Placed (r .change) ⌝ }
 {
-    let lodgement = s.lodgements[0];
-    let energies = s.energies[0];
+    let lodgement = no_lodgement();
+    let energies = no_energies();
     let change = StandingChange {
         from: 0,
         to: 0,
         at: 0,
         lodgement: lodgement,
         energies: energies,
-        standing: s.standing,
-        last: s.last,
+        standing: 0,
+        last: 0,
+        changed: false,
     };
     StandingTurn {
         change: change,
@@ -83,12 +88,18 @@ pub fn with_registry(s: Session, t: RegistryTurn) -> Turn
     ensures { λ r. ⌜ r ≡ registryTurn s t ⌝ }
 {
     let c = t.change;
+    let answer = t.answer;
+    let mut next = s;
+    if !c.changed {
+        return Turn {
+            session: next,
+            answer: answer,
+        };
+    }
     let at = c.at;
     let unit = c.unit;
     let notice = c.notice;
     let capacities = c.capacities;
-    let answer = t.answer;
-    let mut next = s;
     next.enrolled = c.enrolled;
     next.units[at] = unit;
     next.notices[at] = notice;
@@ -122,10 +133,17 @@ pub fn with_standing(s: Session, t: StandingTurn) -> Turn
     ensures { λ r. ⌜ r ≡ standingTurn s t ⌝ }
 {
     let c = t.change;
+    let answer = t.answer;
+    if !c.changed {
+        let session = s;
+        return Turn {
+            session: session,
+            answer: answer,
+        };
+    }
     let at = c.at;
     let lodgement = c.lodgement;
     let energies = c.energies;
-    let answer = t.answer;
     let mut next = moved_forward(s, c.from, c.to);
     next.lodgements[at] = lodgement;
     next.energies[at] = energies;

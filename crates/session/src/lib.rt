@@ -121,8 +121,8 @@ pub struct Opened {
     pub session: Session,
 }
 
-// What a call leaves of the parts that it changes, so that a lent session is changed in place and not copied. What a call does
-// not change of a part is what stood there.
+// What a call changes, so that a lent session is changed in place and not copied. A refused call changes nothing: `changed` is
+// false, and the rest is blank.
 
 // Units and notices: a unit and its notice at a place, the count, all capacities.
 pub struct RegistryChange {
@@ -131,6 +131,7 @@ pub struct RegistryChange {
     pub unit: Unit,
     pub notice: Notice,
     pub capacities: [Notice; 8],
+    pub changed: bool,
 }
 
 pub struct RegistryTurn {
@@ -147,6 +148,7 @@ pub struct StandingChange {
     pub energies: Energies,
     pub standing: usize,
     pub last: u32,
+    pub changed: bool,
 }
 
 pub struct StandingTurn {

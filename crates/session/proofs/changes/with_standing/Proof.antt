@@ -1,7 +1,11 @@
-use mathlib.Core.Path.{refl}
+use borrow.Author.Tests.{not-true, not-false}
+use Rattle.session.proofs.ChangeLaws.{standing-still, standing-changed}
 use borrow.Author.Needs.{needs}
 use Rattle.session.proofs.changes.with_standing.Statement.{statement}
 use Rattle.session.proofs.changes.with_standing.Tie as tie
+
+returns : tie.Need-returns
+returns c = standing-still _ (c .before .before .before .args .t) (not-true _ (c .if1 .taken))
 
 moved-forward-requires : tie.Need-moved-forward-requires
 moved-forward-requires c κs = search needs
@@ -18,16 +22,17 @@ mul-energies c = search needs
 element-set-from-energies : tie.Need-element-set-from-energies
 element-set-from-energies c = search needs
 
-returns : tie.Need-returns
-returns c = rw (c .moved-forward .ensures) refl
+returns-2 : tie.Need-returns-2
+returns-2 c = standing-changed (c .before .before .before .before .before .before .args .s) (c .before .before .before .before .before .before .args .t) _ (c .moved-forward .ensures) (not-false _ (c .before .before .before .if1 .left))
 
 pub with-standing-spec : {M : Type 1} → statement M
 with-standing-spec =
     tie.close
     (tie.spec
+    returns
     moved-forward-requires
     mul-lodgement
     element-set-from-lodgement
     mul-energies
     element-set-from-energies
-    returns)
+    returns-2)
