@@ -1,4 +1,5 @@
 pub mod Elements
 pub mod ArrayLaws
+pub mod Outcomes
 pub mod Cell
 pub mod SessionCell
