@@ -26,7 +26,7 @@ mod turns;
 
 // The verdicts of the standing lodgements: "normal executions, default executions, offers". It is all that closing changes
 // beside the mark.
-pub fn verdicts(s: Session) -> [Verdict; 128]
+fn verdicts(s: Session) -> [Verdict; 128]
     requires { ⌜ Within s ⌝ }
     ensures { λ r. ⌜ Entered s close (closedTurn s r) ⌝ }
 {
