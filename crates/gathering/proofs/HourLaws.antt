@@ -33,8 +33,8 @@ use Rattle.session.specs.Laid.{pad}
 use Rattle.session.specs.Image as I
 use Rattle.session.proofs.PlaceLaws.{getD-map}
 use Rattle.session.proofs.ImageLaws.{capacities-as}
-use Rattle.gathering.specs.declared.Places.{Places}
-use Rattle.gathering.specs.declared.Published.{Published}
+use Rattle.loads.specs.declared.Places.{Places}
+use Rattle.gathering.specs.declared.HourCapacities.{HourCapacities}
 use Rattle.gathering.specs.Columns.{Column}
 use Rattle.gathering.specs.Built.{Holders, Held, holdersIn, numberAt, unitAt, borderAt, sideAt, legacyAt, energyOn, priceOn, energyAt, priceAt, noticeAt, givenAt, capacityAt, bareNotice, Given, Built}
 use Rattle.gathering.proofs.ListLaws.{flat, kept-flat, eight}
@@ -75,7 +75,7 @@ module _ (s : Session) (b : B.Book) (e : s ≡ I.image b) (eight-long : length (
   notice-as w h l =
       rw (le-ltb w 2 h, capacities-as s b e) (getD-map I.noticeAs nothing bareNotice (b .capacities) (w - 2) (omega arith))
 
-  module _ (r : Published) (c : Given (s .capacities) k r) where
+  module _ (r : HourCapacities) (c : Given (s .capacities) k r) where
     way-as : (w : ℕ) → 2 ≤ w → w < 10
         → cond (getD (r .flags) w false) (directed (r .energies) w ∷ []) [] ≡ R.published (suc k) (w / 2) (eqb (w % 2) 0) (getD (b .capacities) (w - 2) nothing)
     unfolding directed givenAt capacityAt

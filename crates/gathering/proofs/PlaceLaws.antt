@@ -1,54 +1,37 @@
--- The unit of a number, the lodgements that count in an hour and their places, the notice at a way.
+-- The unit of a lodgement, the lodgements that count in an hour and their places, the notice at a way.
 use Prim.Native.Nat.{ℕ, _+_, _*_, _-_, _≤_, _<_}
 use mathlib.Core.Path.{_≡_, refl, sym, ap, _∙_}
 use mathlib.Core.Bool.{Bool, true, false, cond, _&&_, Bool·beq}
-use mathlib.Core.List.{List, [], _∷_, _++_, map, map-map, append-assoc, append-nil}
+use mathlib.Core.List.{List, [], _∷_, _++_, append-assoc, append-nil}
 use native.Mathlib.Omega.{arith}
 use native.Mathlib.Numerals.{add-one}
 use lib.Dec.{eqb, ltb}
 use lib.ListN.{getD, set, take, length, length-take, List·getD-eq-default}
-use lib.Seq.{getD-take, take-suc-set, getD-set-same, getD-set-other}
+use lib.Seq.{getD-take, take-suc-set}
 use borrow.Author.Tests.{lt-ltb, le-ltb, eqb-true, eqb-false, ltb-true, ltb-false}
 use Rattle.rules.proofs.BoolLaws.{by-bool}
 use Rattle.rules.specs.Lists.{All, keep, from}
 use Rattle.rules.proofs.ListLaws.{all-keep, all-at, keep-same}
-use Rattle.arrays.proofs.PlaceLaws.{from-next, from-end, from-all, none-off, map-all}
+use Rattle.arrays.proofs.PlaceLaws.{from-next, from-end, from-all, none-off}
 use Rattle.session.specs.declared.Session.{Session}
 use Rattle.session.specs.declared.Unit.{Unit}
 use Rattle.session.specs.declared.Notice.{Notice}
 use Rattle.session.specs.declared.Lodgement.{Lodgement}
 use Rattle.session.specs.declared.Verdict.{Verdict}
 use Rattle.session.specs.Image.{noUnit, noNotice, noLodgement, noVerdict}
-use Rattle.session.specs.Parts.{numberIs, placeOf}
-use Rattle.session.proofs.PlaceLaws.{place-first, place-map}
-use Rattle.gathering.specs.declared.Places.{Places}
+use Rattle.session.proofs.PlaceLaws.{place-first}
+use Rattle.loads.specs.Loads.{PutAt}
+use Rattle.holders.specs.Holders.{holderAt}
+use Rattle.loads.specs.declared.Places.{Places}
 use Rattle.gathering.specs.declared.Day.{Day}
 use Rattle.gathering.specs.declared.Gathered.{Gathered}
 use Rattle.borders.specs.declared.Executions.{Executions}
 use Rattle.hour.specs.declared.Hour.{Hour}
 use Rattle.gathering.specs.Columns.{Column}
-use Rattle.gathering.specs.Built.{isNumber, spotIn, unitAmong, holderIn, energyOn, PutAt, Rows, isAccepted, acceptedAt, counts, countsIn, countsAt, Selected, Chosen, Inside, pickedAt, markedAt, slotAt, energyAt, priceAt, numberAt, unitAt, borderAt, sideAt, legacyAt, numberOn, unitOn, borderOn, sideOn, legacyOn, Held, Picked, DayOf, noticeAt, bareNotice, Given, holdersIn, Gather}
+use Rattle.gathering.specs.Built.{unitAmong, holderIn, energyOn, Rows, isAccepted, acceptedAt, counts, countsIn, countsAt, Selected, Chosen, Inside, pickedAt, markedAt, slotAt, energyAt, priceAt, numberAt, unitAt, borderAt, sideAt, legacyAt, numberOn, unitOn, borderOn, sideOn, legacyOn, Held, Picked, DayOf, noticeAt, bareNotice, Given, holdersIn, Gather}
 use Rattle.gathering.proofs.ColumnLaws.{below, column-as}
-use Rattle.gathering.proofs.ListLaws.{front-places}
 
--- The unit of a number
-
--- a search among the numbers of units is one among the units
-pub numbers-place : (us : List Unit) (n m : ℕ) (numbers : List ℕ) → Column (unitOn us) 0 n 64 numbers → n ≤ 64 → n ≤ length us → placeOf (isNumber m) (take n numbers) ≡ placeOf (numberIs m) (take n us)
-unfolding unitOn
-numbers-place us n m numbers c h l =
-    ap (placeOf (isNumber m)) (sym (front-places 0 numbers n (omega (arith, c .long)))
-    ∙ (map-all _ (λ p. getD us p noUnit .number) (from-all _ 0 n (λ p a b. c .at p (omega arith)))
-    ∙ (sym (map-map (λ (u : Unit). u .number) (λ p. getD us p noUnit) (from 0 n)) ∙ ap (map (λ (u : Unit). u .number)) (front-places noUnit us n l))))
-    ∙ place-map (λ (u : Unit). u .number) (isNumber m) (take n us)
-
-unfoldable pub spotAmong : List ℕ → ℕ → List Lodgement → ℕ → ℕ
-spotAmong numbers n ls i = placeOf (isNumber (getD ls i noLodgement .key .unit)) (take n numbers)
-
-pub spots-as : (us : List Unit) (n : ℕ) (ls : List Lodgement) (m : ℕ) (numbers r : List ℕ) → Column (unitOn us) 0 n 64 numbers → n ≤ 64 → n ≤ length us
-    → Column (spotAmong numbers n ls) 0 m 128 r → Column (spotIn us n ls) 0 m 128 r
-unfolding spotAmong spotIn
-spots-as us n ls m numbers r c h l d = column-as d (λ i k. numbers-place us n (getD ls i noLodgement .key .unit) numbers c h l)
+-- The unit of a lodgement
 
 -- the unit at a place of its own
 unfoldable pub unitBy : List Unit → ℕ → List ℕ → ℕ → Unit
@@ -63,8 +46,8 @@ module _ (us : List Unit) (n : ℕ) (spot : List ℕ) (i : ℕ) where
   unfolding unitBy
   unit-none e h = rw (le-ltb (getD spot i 0) n (omega arith))
 
-  pub unit-found : (ls : List Lodgement) → getD spot i 0 ≡ spotIn us n ls i → unitBy us n spot i ≡ holderIn us n ls i
-  unfolding holderIn spotIn unitAmong
+  pub unit-found : (ls : List Lodgement) → getD spot i 0 ≡ holderAt us n ls i → unitBy us n spot i ≡ holderIn us n ls i
+  unfolding holderIn holderAt unitAmong
   unit-found ls e =
       let p = getD spot i 0 in
       let g : holderIn us n ls i ≡ getD (take n us) p noUnit = place-first _ noUnit (take n us) ∙ ap (λ k. getD (take n us) k noUnit) (sym e) in
@@ -133,32 +116,6 @@ pub chosen-inside : {p : ℕ → Bool} {n : ℕ} {r : Places} → Selected p n r
 chosen-inside c h = record { few = omega (arith, c .few); inside = λ i l. omega (arith, c .inside i l) }
 
 -- What the lodgements have in all hours
-
--- the first k hours of a place
-unfoldable pub PutTo : ℕ → List ℕ → List ℕ → List ℕ → ℕ → Type 0
-PutTo i row before after k =
-    ((h : ℕ) → h < k → getD after (i * 25 + h) 0 ≡ getD row h 0)
-    × ((j : ℕ) → j < i * 25 → getD after j 0 ≡ getD before j 0)
-
-pub put-start : (i : ℕ) (row before : List ℕ) → PutTo i row before before 0
-unfolding PutTo
-put-start i row before = (λ h m. absurd (omega arith), λ j m. refl)
-
-pub put-next : (i : ℕ) (row before after : List ℕ) (k : ℕ) → i * 25 + k < length after → PutTo i row before after k → PutTo i row before (set after (i * 25 + k) (getD row k 0)) (k + 1)
-unfolding PutTo
-put-next i row before after k l p = (
-  λ h m. by-bool (eqb k h)
-      (λ t. let q = eqb-true k h t in rw (← q) (getD-set-same after (i * 25 + k) (getD row k 0) 0 l))
-      (λ t. let q = eqb-false k h t in other (i * 25 + h) (λ z. q (omega arith)) ∙ p .0 h (below k h m q)),
-  λ j m. other j (λ z. absurd (omega arith)) ∙ p .1 j m,
-)
-  where
-    other : (j : ℕ) → (j ≡ i * 25 + k → ⊥) → getD (set after (i * 25 + k) (getD row k 0)) j 0 ≡ getD after j 0
-    other j q = getD-set-other after (i * 25 + k) j (getD row k 0) 0 q
-
-pub put-end : (i k : ℕ) (row before after : List ℕ) → k ≡ 25 → PutTo i row before after k → PutAt i row before after
-unfolding PutTo PutAt
-put-end i k row before after e p = rw e at p
 
 module _ (f : ℕ → ℕ → ℕ) where
   pub rows-start : (a : List ℕ) → Rows f 0 a

@@ -1,8 +1,8 @@
 -- The places of the lodgements' units, in the session that stands for a sound book: each unit has a place of its own.
-use Prim.Native.Nat.{ℕ, _≤_, _<_}
-use mathlib.Core.Path.{_≡_, refl, sym, ap, _∙_}
+use Prim.Native.Nat.{ℕ, _<_}
+use mathlib.Core.Path.{_≡_, sym, ap, _∙_}
 use mathlib.Core.Logic.{⊎-elim}
-use mathlib.Core.Bool.{Bool, true, false, false≢true}
+use mathlib.Core.Bool.{Bool, true, false≢true}
 use mathlib.Core.List.{List, [], _∷_, map}
 use native.Mathlib.Omega.{arith}
 use native.Mathlib.Nat.{eq-or-lt-of-le}
@@ -22,7 +22,8 @@ use Rattle.session.specs.Image as I
 use Rattle.session.specs.Parts.{numberIs, placeOf}
 use Rattle.session.proofs.PlaceLaws.{placed, place-first, place-map, getD-map}
 use Rattle.session.proofs.ImageLaws.{units-as, standing-as, enrolled-as}
-use Rattle.gathering.specs.Built.{spotIn, Spots, Holders}
+use Rattle.gathering.specs.Built.{Spots, Holders}
+use Rattle.holders.specs.Holders.{holderAt}
 use Rattle.gathering.proofs.ListLaws.{all-places, pairwise-at}
 use Rattle.gathering.proofs.DayLaws.{blank, standing, lodgement-at, holder-at}
 
@@ -67,7 +68,7 @@ module _ (s : Session) (b : B.Book) (e : s ≡ I.image b) (sound : I.Sound b) wh
 
   pub spot-placed : (spot : List ℕ) (hs : List Unit) → Spots s spot → Holders s hs → (i p : ℕ) → i < s .standing → p < s .enrolled
       → eqb (getD spot i 0) p ≡ eqb (getD hs i I.noUnit .number) (getD (s .units) p I.noUnit .number)
-  unfolding spotIn U.unitOf U.hasNumber
+  unfolding holderAt U.unitOf U.hasNumber
   spot-placed spot hs c h i p l k =
       let key = standing b i .key .unit in
       let inside : i < length (b .standing) = omega (arith, standing-as s b e) in

@@ -3,7 +3,7 @@ use Prim.Native.Nat.{ℕ, _+_, _*_, _≤_, _<_, _-_}
 use mathlib.Core.Path.{_≡_}
 use mathlib.Core.Bool.{Bool, true, false, cond, _&&_, Bool·beq}
 use mathlib.Core.List.{List, []}
-use lib.Dec.{eqb, ltb}
+use lib.Dec.{ltb}
 use lib.ListN.{getD, take, length}
 use Rattle.rules.specs.Lists.{keep, first, from}
 use Rattle.session.specs.declared.Unit.{Unit}
@@ -13,15 +13,16 @@ use Rattle.session.specs.declared.Energies.{Energies}
 use Rattle.session.specs.declared.Verdict.{Verdict}
 use Rattle.session.specs.declared.Session.{Session}
 use Rattle.session.specs.Image.{noUnit, noNotice, noLodgement, noVerdict}
-use Rattle.session.specs.Parts.{numberIs, placeOf}
+use Rattle.session.specs.Parts.{numberIs}
+use Rattle.holders.specs.Holders.{holderAt}
 use Rattle.matching.specs.declared.Offers.{Offers}
 use Rattle.borders.specs.declared.Executions.{Executions}
 use Rattle.hour.specs.declared.Hour.{Hour}
-use Rattle.gathering.specs.declared.Places.{Places}
+use Rattle.loads.specs.declared.Places.{Places}
 use Rattle.gathering.specs.declared.Slots.{Slots}
 use Rattle.gathering.specs.declared.Day.{Day}
 use Rattle.gathering.specs.declared.Gathered.{Gathered}
-use Rattle.gathering.specs.declared.Published.{Published}
+use Rattle.gathering.specs.declared.HourCapacities.{HourCapacities}
 use Rattle.gathering.specs.Columns.{Column}
 
 -- what is read beyond an array
@@ -37,16 +38,9 @@ bareNotice = record { given = false; energies = [] }
 unfoldable pub unitAmong : List Unit → ℕ → Unit
 unitAmong us n = first (numberIs n) noUnit us
 
--- the place of a number among some, or behind the last
-abbrev pub isNumber : ℕ → ℕ → Bool
-isNumber n m = eqb m n
-
--- the place of the unit of the lodgement at a place
-unfoldable pub spotIn : List Unit → ℕ → List Lodgement → ℕ → ℕ
-spotIn us n ls i = placeOf (numberIs (getD ls i noLodgement .key .unit)) (take n us)
-
+-- the places of the units of a session's lodgements, by place
 abbrev pub Spots : Session → List ℕ → Type 0
-Spots s r = Column (spotIn (s .units) (s .enrolled) (s .lodgements)) 0 (s .standing) 128 r
+Spots s r = Column (holderAt (s .units) (s .enrolled) (s .lodgements)) 0 (s .standing) 128 r
 
 -- the unit of the lodgement at a place
 unfoldable pub holderIn : List Unit → ℕ → List Lodgement → ℕ → Unit
@@ -64,12 +58,6 @@ energyOn es k i = getD (getD es i bareEnergies .energies) k 0
 
 unfoldable pub priceOn : List Energies → ℕ → ℕ → ℕ
 priceOn es k i = getD (getD es i bareEnergies .prices) k 0
-
--- 25 numbers of a place are these, and the others as before
-unfoldable pub PutAt : ℕ → List ℕ → List ℕ → List ℕ → Type 0
-PutAt i row before after =
-    ((k : ℕ) → k < 25 → getD after (i * 25 + k) 0 ≡ getD row k 0)
-    × ((j : ℕ) → j < i * 25 → getD after j 0 ≡ getD before j 0)
 
 -- an array has f of each hour at each of its first n places, 25 for each place
 unfoldable pub Rows : (ℕ → ℕ → ℕ) → ℕ → List ℕ → Type 0
@@ -224,7 +212,7 @@ givenAt cs w = noticeAt cs w .given
 unfoldable pub capacityAt : List Notice → ℕ → ℕ → ℕ
 capacityAt cs k w = getD (noticeAt cs w .energies) k 0
 
-pub record Given (cs : List Notice) (k : ℕ) (r : Published) : Type 0 where
+pub record Given (cs : List Notice) (k : ℕ) (r : HourCapacities) : Type 0 where
   pub flags : Column (givenAt cs) false 10 10 (r .flags)
   pub energies : Column (capacityAt cs k) 0 10 10 (r .energies)
 

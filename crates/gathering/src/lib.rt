@@ -4,15 +4,14 @@ ghost use mathlib.Core.Bool.{false, _&&_};
 ghost use mathlib.Core.List.{List};
 ghost use Prim.Native.Nat.{_≤_, _<_};
 ghost use lib.Dec.{ltb};
-ghost use lib.ListN.{take, length};
 ghost use Rattle.session.specs.declared.Session.{Session};
 ghost use Rattle.session.specs.declared.Unit.{Unit};
-ghost use Rattle.session.specs.Parts.{Within, placeOf};
+ghost use Rattle.session.specs.Parts.{Within};
 ghost use Rattle.gathering.specs.Columns.{Column};
-ghost use Rattle.gathering.specs.Built.{isNumber};
-ghost use Rattle.gathering.specs.Built.{Spots, Holders, unitOn, PutAt, Slotted, isAccepted, acceptedAt, HeldBy, DayOf, dayIn, countsIn, Selected, Inside, pickedAt, markedAt, slotAt, Picked, noticeAt, Given, offersAt, Gather};
+ghost use Rattle.gathering.specs.Built.{Spots, Holders, Slotted, isAccepted, acceptedAt, HeldBy, DayOf, dayIn, countsIn, Selected, Inside, pickedAt, markedAt, slotAt, Picked, noticeAt, Given, offersAt, Gather};
 use borders::Executions;
 use hour::Hour;
+use loads::Places;
 use matching::Offers;
 use session::Energies;
 use session::Lodgement;
@@ -20,12 +19,6 @@ use session::Notice;
 use session::Session;
 use session::Unit;
 use session::Verdict;
-
-// The places of some of the session's lodgements, in the order of their numbers.
-pub struct Places {
-    pub count: usize,
-    pub at: [usize; 128],
-}
 
 // What the standing lodgements have in all hours, 25 for each place.
 pub struct Slots {
@@ -55,35 +48,9 @@ pub struct Gathered {
 }
 
 // Capacities of an hour by direction (`borders::way`): whether published, and the energy.
-pub struct Published {
+pub struct HourCapacities {
     pub flags: [bool; 10],
     pub energies: [u32; 10],
-}
-
-// The numbers of the first n units.
-fn unit_numbers(units: [Unit; 64], n: usize) -> [u32; 64]
-    requires { ⌜ n ≤ 64 ⌝ }
-    ensures { λ r. ⌜ (n ≤ length units) × Column (unitOn units) 0 n 64 r ⌝ }
-{
-    let mut found = [0u32; 64];
-    for i in 0..n {
-        let u = units[i];
-        found[i] = u.number;
-    }
-    found
-}
-
-// The place of a number among the first n, or n.
-fn place_of(numbers: &[u32; 64], n: usize, number: u32) -> usize
-    requires { ⌜ (n ≤ 64) × (length (now numbers) ≡ 64) ⌝ }
-    ensures { λ r. ⌜ (r ≡ placeOf (isNumber number) (take n (now (numbers .entry)))) × (r ≤ n) ⌝ }
-{
-    for i in 0..n {
-        if numbers[i] == number {
-            return i;
-        }
-    }
-    n
 }
 
 // The places of the units of the standing lodgements, by place; of a unit that is not registered, the place behind the last.
@@ -92,15 +59,12 @@ pub fn spots(s: Session) -> [u32; 128]
     ensures { λ r. ⌜ Spots s r ⌝ }
 {
     let units = s.units;
-    let enrolled = s.enrolled;
     let lodgements = s.lodgements;
     let n = s.standing;
-    let numbers = unit_numbers(units, enrolled);
+    let at = holders::holders_of(units, s.enrolled, lodgements, n);
     let mut found = [0u32; 128];
     for i in 0..n {
-        let l = lodgements[i];
-        let p = place_of(&numbers, enrolled, l.key.unit);
-        found[i] = p as u32;
+        found[i] = at[i] as u32;
     }
     found
 }
@@ -140,16 +104,6 @@ pub fn holders(s: Session, spot: &[u32; 128]) -> [Unit; 128]
     found
 }
 
-// A lodgement's numbers by hour, at its place.
-fn put(all: &mut [u32; 3200], i: usize, row: [u32; 25])
-    requires { ⌜ (i < 128) × (length (now all) ≡ 3200) ⌝ }
-    ensures { λ _. ⌜ (length (now (all .exit)) ≡ 3200) × PutAt i row (now (all .entry)) (now (all .exit)) ⌝ }
-{
-    for k in 0..25 {
-        all[i * 25 + k] = row[k];
-    }
-}
-
 // What the first n lodgements have in all hours.
 fn slots_of(energies: [Energies; 128], n: usize) -> Slots
     requires { ⌜ n ≤ 128 ⌝ }
@@ -160,9 +114,9 @@ fn slots_of(energies: [Energies; 128], n: usize) -> Slots
     for i in 0..n {
         let e = energies[i];
         let a = e.energies;
-        put(&mut energy, i, a);
+        loads::put(&mut energy, i, a);
         let b = e.prices;
-        put(&mut price, i, b);
+        loads::put(&mut price, i, b);
     }
     Slots { energy, price }
 }
@@ -370,7 +324,7 @@ fn notice_at(capacities: [Notice; 8], w: usize) -> Notice
 }
 
 // The capacities of the hour at place k, by way. "Absent means no maximum": its flag is false.
-fn capacities_at(capacities: [Notice; 8], k: usize) -> Published
+fn capacities_at(capacities: [Notice; 8], k: usize) -> HourCapacities
     requires { ⌜ k < 25 ⌝ }
     ensures { λ r. ⌜ Given capacities k r ⌝ }
 {
@@ -381,7 +335,7 @@ fn capacities_at(capacities: [Notice; 8], k: usize) -> Published
         flags[w] = c.given;
         energies[w] = c.energies[k];
     }
-    Published { flags, energies }
+    HourCapacities { flags, energies }
 }
 
 // Offers of some holders at some prices.

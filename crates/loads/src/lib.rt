@@ -35,13 +35,13 @@ pub fn counted_places(counted: &[bool; 128], n: usize) -> Places
     }
 }
 
-// A lodgement's energies by hour, at its place.
-fn put(loads: &mut [u32; 3200], l: usize, e: Energies)
-    requires { ⌜ (l < 128) × (length (now loads) ≡ 3200) ⌝ }
-    ensures { λ _. ⌜ (length (now (loads .exit)) ≡ 3200) × PutAt l (e .energies) (now (loads .entry)) (now (loads .exit)) ⌝ }
+// A lodgement's numbers by hour, at its place.
+pub fn put(all: &mut [u32; 3200], l: usize, row: [u32; 25])
+    requires { ⌜ (l < 128) × (length (now all) ≡ 3200) ⌝ }
+    ensures { λ _. ⌜ (length (now (all .exit)) ≡ 3200) × PutAt l row (now (all .entry)) (now (all .exit)) ⌝ }
 {
     for h in 0..25 {
-        loads[l * 25 + h] = e.energies[h];
+        all[l * 25 + h] = row[h];
     }
 }
 
@@ -58,7 +58,8 @@ pub fn loads_of(wanted: &[bool; 128], n: usize, energies: [Energies; 128]) -> [u
             continue;
         }
         let e = energies[l];
-        put(&mut loads, l, e);
+        let row = e.energies;
+        put(&mut loads, l, row);
     }
     loads
 }

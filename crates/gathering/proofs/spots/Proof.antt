@@ -1,38 +1,36 @@
 use Prim.Native.Nat.{_≤_, _-_}
+use mathlib.Core.Path.{refl}
 use native.Mathlib.Omega.{arith}
+use lib.ListN.{getD}
 use Rattle.gathering.specs.Columns.{Column}
-use Rattle.gathering.proofs.ColumnLaws.{column-start, column-next, column-end}
-use Rattle.gathering.proofs.PlaceLaws.{spotAmong, spots-as}
+use Rattle.gathering.proofs.ColumnLaws.{column-start, column-next, column-as, column-end}
 use borrow.Author.Needs.{needs}
 use Rattle.gathering.proofs.spots.Statement.{statement}
 use Rattle.gathering.proofs.spots.Tie as tie
 
 abbrev Inv-loop : tie.InvT-loop
-Inv-loop enrolled lodgements n numbers found₀ i₀ found i = (i ≤ n) × Column (spotAmong numbers enrolled lodgements) 0 i 128 found
+Inv-loop n at found₀ i₀ found i = (i ≤ n) × Column (λ j. getD at j 0) 0 i 128 found
 
 abbrev μ-loop : tie.MeasureT-loop
-μ-loop enrolled lodgements n numbers found₀ i₀ found i = n - i
+μ-loop n at found₀ i₀ found i = n - i
 
-unit-numbers-requires : tie.Need-unit-numbers-requires Inv-loop μ-loop
-unit-numbers-requires c κs = search needs
+holders-of-requires : tie.Need-holders-of-requires Inv-loop μ-loop
+holders-of-requires c κs = search needs
 
 loop-holds : tie.Need-loop-holds Inv-loop μ-loop
 loop-holds c = (omega arith, column-start _ _ _)
 
-mul-l : tie.Need-mul-l Inv-loop μ-loop
-mul-l c = search needs
-
-array-copy-out-l : tie.Need-array-copy-out-l Inv-loop μ-loop
-array-copy-out-l c = search needs
-
-place-of-requires : tie.Need-place-of-requires Inv-loop μ-loop
-place-of-requires c κs = (c .before .before .before .before .before .before .before .pre .enrolled, c .before .before .before .before .unit-numbers .ensures .1 .long)
-
-cast-found : tie.Need-cast-found Inv-loop μ-loop
-cast-found c = omega (arith, c .before .before .before .before .before .before .before .before .pre .enrolled, c .place-of .ensures .1)
-
 mul-found : tie.Need-mul-found Inv-loop μ-loop
 mul-found c = search needs
+
+array-read-found : tie.Need-array-read-found Inv-loop μ-loop
+array-read-found c = search needs
+
+cast-found : tie.Need-cast-found Inv-loop μ-loop
+cast-found c = omega (arith, c .before .before .before .before .before .pre .enrolled, c .before .before .holders-of .ensures .1 (c .before .loop .i))
+
+mul-found-2 : tie.Need-mul-found-2 Inv-loop μ-loop
+mul-found-2 c = search needs
 
 array-write-found : tie.Need-array-write-found Inv-loop μ-loop
 array-write-found c = search needs
@@ -44,11 +42,10 @@ loop-less : tie.Need-loop-less Inv-loop μ-loop
 loop-less c = search needs
 
 loop-again : tie.Need-loop-again Inv-loop μ-loop
-unfolding spotAmong
-loop-again c = (omega arith, column-next _ _ _ _ _ _ (c .before .before .before .before .loop .inv .1) (omega arith) (c .place-of .ensures .0))
+loop-again c = (omega arith, column-next _ _ _ _ _ _ (c .before .loop .inv .1) (omega (arith, c .before .before .before .before .before .pre .standing)) refl)
 
 returns : tie.Need-returns Inv-loop μ-loop
-returns c = spots-as _ _ _ _ _ _ (c .before .before .unit-numbers .ensures .1) (c .before .before .before .before .before .pre .enrolled) (c .before .before .unit-numbers .ensures .0) (column-end _ _ _ _ _ _ (c .before .loop .inv .1) (omega arith))
+returns c = column-as (column-end _ _ _ _ _ _ (c .before .loop .inv .1) (omega arith)) (c .before .before .holders-of .ensures .0)
 
 pub spots-spec : {M : Type 1} → statement M
 spots-spec =
@@ -56,13 +53,12 @@ spots-spec =
     (tie.spec
     Inv-loop
     μ-loop
-    unit-numbers-requires
+    holders-of-requires
     loop-holds
-    mul-l
-    array-copy-out-l
-    place-of-requires
-    cast-found
     mul-found
+    array-read-found
+    cast-found
+    mul-found-2
     array-write-found
     add-i
     loop-less

@@ -1,16 +1,13 @@
 use Prim.Native.Nat.{_-_, _≤_}
-use mathlib.Core.Path.{_≡_, refl, sym, _∙_}
+use mathlib.Core.Path.{_≡_, refl}
 use native.Mathlib.Omega.{arith}
 use lib.ListN.{length, take}
-use borrow.Author.Tests.{not-true, not-false}
+use borrow.Author.Tests.{not-true}
 use Rattle.loads.specs.Loads.{LoadsOf}
 use Rattle.loads.proofs.LoadLaws.{loads-start, loads-put, loads-passed}
 use borrow.Author.Needs.{needs}
 use Rattle.loads.proofs.loads_of.Statement.{statement}
 use Rattle.loads.proofs.loads_of.Tie as tie
-use Rattle.loads.proofs.loads_of.Reads as reads
-use Rattle.loads.proofs.loads_of.Lts as lts
-use Rattle.loads.proofs.put.Reads as put-reads
 
 abbrev Inv-loop : tie.InvT-loop
 Inv-loop wanted n energies loads₀ l₀ loads l = (l ≤ n) × (length loads ≡ 3200) × LoadsOf wanted (take l energies) loads
@@ -64,8 +61,8 @@ loop-less-2 c = search needs
 -- src/lib.rt:74:5
 loop-again-2 : tie.Need-loop-again-2 Inv-loop μ-loop
 loop-again-2 c =
-    let s = c .before .before .before .before .before .before .loop in
-    let a = c .before .before .before .before .before .before .before .args in
+    let s = c .before .before .before .before .before .before .before .loop in
+    let a = c .before .before .before .before .before .before .before .before .args in
     (omega arith, c .put .ensures .0, loads-put (a .wanted .now) (a .t3) (s .l) (omega arith) (s .loads) _ (c .put .ensures .1) (s .inv .2))
 
 -- src/lib.rt:69:1
