@@ -1,13 +1,14 @@
 -- Judging a message's fields: each way out.
-use Prim.Native.Nat.{ℕ, _≤_, _<_}
+use Prim.Native.Nat.{ℕ, zero, suc, _≤_, _<_}
 use mathlib.Core.Path.{_≡_, refl, sym, ap, _∙_}
-use mathlib.Core.Bool.{Bool, true, false, not, _&&_, _||_}
-use mathlib.Core.List.{List, map}
+use mathlib.Core.Bool.{Bool, true, false, not, _&&_, _||_, true≢false}
+use mathlib.Core.List.{List, [], _∷_, map}
 use lib.Dec.{leb}
 use native.Mathlib.Omega.{arith}
-use lib.ListN.{take, getD, length-take}
+use lib.ListN.{take, getD, length, length-take}
+use lib.Seq.{length-take-le}
 use borrow.Author.Tests.{leb-false, le-leb, lt-leb, not-false}
-use Rattle.rules.specs.Lists.{any}
+use Rattle.rules.specs.Lists.{any, from}
 use Rattle.rules.specs.Refusals.{row, firstRow}
 use Rattle.rules.specs.Units as U
 use Rattle.rules.specs.Message.{badMap, badFields}
@@ -20,6 +21,7 @@ use Rattle.message.specs.declared.Fields.{Fields}
 use Rattle.session.specs.Image.{image, keyIn}
 use Rattle.session.specs.Parts.{Within, told, numberIs, placeOf}
 use Rattle.session.specs.declared.Session.{Session}
+use Rattle.session.specs.declared.Energies.{Energies}
 use Rattle.session.specs.declared.Unit.{Unit}
 use Rattle.session.specs.declared.Notice.{Notice}
 use Rattle.session.specs.declared.Key.{Key}
@@ -28,7 +30,7 @@ use Rattle.session.specs.declared.Judged.{Judged}
 use Rattle.session.specs.declared.Judged.the-variants.{No}
 use Rattle.session.proofs.PlaceLaws.{placed}
 use Rattle.session.proofs.ImageLaws.{hours-as, last-as, standing-as, capacities-as, unit-as, notice-as}
-use Rattle.loads.specs.Loads.{loadIn}
+use Rattle.loads.specs.Loads.{marked, loadIn, LoadsOf}
 use Rattle.limits.specs.Limits.{judgedIn}
 use Rattle.limits.proofs.NoticeLaws.{judged-by}
 use Rattle.keys.specs.Keys.{keyFor, ofKey, keyPlace, Enrolled}
@@ -90,6 +92,25 @@ module _ (s : Session) (k : Key) where
       let number = leb-false 65535 (s .last) (parts .1) in
       by-bool (leb 128 (s .standing)) (λ t. room-key w (not-false (any (ofKey k) left) (rw t at (parts .0))) number)
       (λ t. room-free w (leb-false 128 (s .standing) t) number)
+
+-- Where none is counted, any array has the energies of those that are
+
+none-marked : (bs : List Bool) (i n l : ℕ) → length (marked bs (from i n)) ≡ 0 → l < n → getD bs l false ≡ true → ⊥
+unfolding marked from
+none-marked [] i n l e h t = true≢false (sym t)
+none-marked (b ∷ bs) i zero l e h t = omega arith
+none-marked (true ∷ bs) i (suc n) l e h t = omega arith
+none-marked (false ∷ bs) i (suc n) zero e h t = true≢false (sym t)
+none-marked (false ∷ bs) i (suc n) (suc l) e h t = none-marked bs (suc i) n l e (omega arith) t
+
+module _ (bs : List Bool) (n : ℕ) (es : List Energies) where
+  pub loads-none : (loads : List ℕ) → n ≤ length es → length (marked bs (from 0 n)) ≡ 0 → LoadsOf bs (take n es) loads
+  unfolding LoadsOf
+  loads-none loads b e l h i t m = absurd (none-marked bs 0 n l e (omega (arith, length-take-le n es b)) t)
+
+-- as many are counted as places are found
+pub places-counted : (count n : ℕ) (ps : List ℕ) (bs : List Bool) → count ≤ n → n ≤ 128 → length ps ≡ 128 → take count ps ≡ marked bs (from 0 n) → count ≡ length (marked bs (from 0 n))
+places-counted count n ps bs h m k e = rw (← e) (sym (length-take-le count ps (omega arith)))
 
 -- The limits
 

@@ -2,12 +2,14 @@
 ghost use mathlib.Core.Path.{_≡_};
 ghost use mathlib.Core.Bool.{_||_};
 ghost use Prim.Native.Nat.{_≤_};
-ghost use lib.ListN.{take};
+ghost use lib.ListN.{take, length};
+ghost use Rattle.rules.specs.Lists.{from};
 ghost use Rattle.rules.specs.Message.{badMap};
 ghost use Rattle.rules.specs.Lodging.{namesBeyond};
 ghost use Rattle.message.specs.View.{fieldsIn};
 ghost use Rattle.session.specs.Parts.{Within};
 ghost use Rattle.keys.specs.Keys.{keyFor, Enrolled};
+ghost use Rattle.loads.specs.Loads.{marked, LoadsOf};
 ghost use Rattle.admission.specs.Judging.{Room, fullIn, JudgesFields, JudgesLimits};
 use beside::beside_marks;
 use keys::bad_holder;
@@ -62,6 +64,20 @@ fn is_full(lodgements: [Lodgement; 128], n: usize, last: u32, key: Key) -> bool
     !is_standing(lodgements, n, key)
 }
 
+// The energies by hour of those that are counted, each at its place. Mostly none is counted, and then none is looked at: the
+// session's energies would be copied for nothing.
+fn others_loads(s: Session, counted: &[bool; 128], count: usize) -> [u32; 3200]
+    requires { ⌜ (s .standing ≤ 128) × (count ≡ length (marked (now counted) (from 0 (s .standing)))) ⌝ }
+    ensures { λ r. ⌜ (s .standing ≤ length (s .energies)) × LoadsOf (now (counted .entry)) (take (s .standing) (s .energies)) r ⌝ }
+{
+    if count == 0 {
+        let none = [0u32; 3200];
+        return none;
+    }
+    let energies = s.energies;
+    loads_of(counted, s.standing, energies)
+}
+
 // Rows 10 to 12, for a unit that is registered.
 fn judge_limits(s: Session, m: Fields) -> Judged
     requires { ⌜ Within s × Enrolled s (m .unit) ⌝ }
@@ -78,9 +94,8 @@ fn judge_limits(s: Session, m: Fields) -> Judged
     let n = s.standing;
     let counted = beside_marks(lodgements, n, key);
     let own = m.energies;
-    let energies = s.energies;
-    let loads = loads_of(&counted, n, energies);
     let found = counted_places(&counted, n);
+    let loads = others_loads(s, &counted, found.count);
     let others = found.at;
     let hours = s.hours as usize;
     judge_energy(
