@@ -1,13 +1,14 @@
 -- Judging a message's fields: each way out.
-use Prim.Native.Nat.{ℕ, _≤_, _<_}
+use Prim.Native.Nat.{ℕ, zero, suc, _≤_, _<_}
 use mathlib.Core.Path.{_≡_, refl, sym, ap, _∙_}
-use mathlib.Core.Bool.{Bool, true, false, not, _&&_, _||_}
-use mathlib.Core.List.{List, map}
-use lib.Dec.{leb}
+use mathlib.Core.Bool.{Bool, true, false, not, _&&_, _||_, true≢false}
+use mathlib.Core.List.{List, [], _∷_, map}
+use lib.Dec.{leb, ltb}
 use native.Mathlib.Omega.{arith}
-use lib.ListN.{take, getD, length-take}
-use borrow.Author.Tests.{leb-false, le-leb, lt-leb, not-false}
-use Rattle.rules.specs.Lists.{any}
+use lib.ListN.{take, getD, length}
+use lib.Seq.{length-take-le}
+use borrow.Author.Tests.{leb-false, ltb-true, ltb-false, le-leb, lt-leb}
+use Rattle.rules.specs.Lists.{from}
 use Rattle.rules.specs.Refusals.{row, firstRow}
 use Rattle.rules.specs.Units as U
 use Rattle.rules.specs.Message.{badMap, badFields}
@@ -20,23 +21,22 @@ use Rattle.message.specs.declared.Fields.{Fields}
 use Rattle.session.specs.Image.{image, keyIn}
 use Rattle.session.specs.Parts.{Within, told, numberIs, placeOf}
 use Rattle.session.specs.declared.Session.{Session}
+use Rattle.session.specs.declared.Energies.{Energies}
 use Rattle.session.specs.declared.Unit.{Unit}
 use Rattle.session.specs.declared.Notice.{Notice}
 use Rattle.session.specs.declared.Key.{Key}
-use Rattle.session.specs.declared.Lodgement.{Lodgement}
 use Rattle.session.specs.declared.Judged.{Judged}
 use Rattle.session.specs.declared.Judged.the-variants.{No}
-use Rattle.session.proofs.PlaceLaws.{placed}
 use Rattle.session.proofs.ImageLaws.{hours-as, last-as, standing-as, capacities-as, unit-as, notice-as}
-use Rattle.loads.specs.Loads.{loadIn}
+use Rattle.loads.specs.Loads.{marked, loadIn, LoadsOf}
 use Rattle.limits.specs.Limits.{judgedIn}
 use Rattle.limits.proofs.NoticeLaws.{judged-by}
-use Rattle.keys.specs.Keys.{keyFor, ofKey, keyPlace, Enrolled}
-use Rattle.keys.proofs.KeyLaws.{stands-as}
+use Rattle.keys.specs.Keys.{keyFor, keyPlace, Enrolled}
+use Rattle.keys.proofs.KeyLaws.{stands-at}
 use Rattle.keys.proofs.TakenLaws.{left-in, left-most}
 use Rattle.beside.specs.Beside.{besideMarks}
 use Rattle.beside.proofs.BesideLaws.{load-as}
-use Rattle.admission.specs.Judging.{Room, fullIn, lastRows, fieldRows, JudgesFields, JudgesLimits}
+use Rattle.admission.specs.Judging.{Room, fullAt, lastRows, fieldRows, JudgesFields, JudgesLimits}
 
 -- Row 9
 
@@ -48,48 +48,68 @@ or-false : (t : Bool) → t ≡ (t || false)
 or-false true = refl
 or-false false = refl
 
-module _ (ls : List Lodgement) (n last : ℕ) (k : Key) where
-  pub full-number : 65535 ≤ last → true ≡ fullIn ls n last k
-  unfolding fullIn
-  full-number h = rw (le-leb 65535 last h) (or-true (leb 128 n && not (any (ofKey k) ls)))
+module _ (n last p : ℕ) where
+  pub full-number : 65535 ≤ last → true ≡ fullAt n last p
+  unfolding fullAt
+  full-number h = rw (le-leb 65535 last h) (or-true (leb 128 n && leb n p))
 
-  pub full-free : last < 65535 → n < 128 → false ≡ fullIn ls n last k
-  unfolding fullIn
+  pub full-free : last < 65535 → n < 128 → false ≡ fullAt n last p
+  unfolding fullAt
   full-free h m = rw (lt-leb 65535 last h, lt-leb 128 n m)
 
-  pub full-place : last < 65535 → 128 ≤ n → not (any (ofKey k) ls) ≡ fullIn ls n last k
-  unfolding fullIn
-  full-place h m = rw (lt-leb 65535 last h, le-leb 128 n m) (or-false (not (any (ofKey k) ls)))
+  pub full-place : last < 65535 → 128 ≤ n → leb n p ≡ fullAt n last p
+  unfolding fullAt
+  full-place h m = rw (lt-leb 65535 last h, le-leb 128 n m) (or-false (leb n p))
 
-module _ (s : Session) (k : Key) where
-  abbrev left : List Lodgement
-  left = take (s .standing) (s .lodgements)
+  -- none of the key stands where its place is behind all
+  not-below : not (ltb p n) ≡ leb n p
+  not-below = by-bool (ltb p n) (λ t. rw (t, lt-leb n p (ltb-true p n t))) (λ t. rw (t, le-leb n p (ltb-false p n t)))
 
+module _ (s : Session) (k : Key) (p : ℕ) (at : p ≡ keyPlace s k) where
   -- a place is free
   room-free : Within s → s .standing < 128 → s .last < 65535 → Room s k
   room-free w f l = record { within = w; place = omega (arith, left-most (s .standing) (keyPlace s k)); number = l }
 
   -- or the key's lodgement leaves one
-  room-key : Within s → any (ofKey k) left ≡ true → s .last < 65535 → Room s k
+  room-key : Within s → p < s .standing → s .last < 65535 → Room s k
   room-key w f l =
-      let h : keyPlace s k < s .standing = omega (arith, placed (ofKey k) left f, length-take (s .standing) (s .lodgements)) in
-      record { within = w; place = omega (arith, left-in (s .standing) (keyPlace s k) h); number = l }
+      let h : keyPlace s k < s .standing = rw at at f in
+      record { within = w; place = omega (arith, left-in (s .standing) (keyPlace s k) h, w .standing); number = l }
 
   abbrev pub isFull : Bool
-  isFull = fullIn left (s .standing) (s .last) k
+  isFull = fullAt (s .standing) (s .last) p
 
   pub full-as : (b : Book) → s ≡ image b → D.full b (keyIn k) ≡ isFull
-  unfolding D.full fullIn
-  full-as b e = rw (stands-as s b e k, standing-as s b e, last-as s b e)
+  unfolding D.full fullAt
+  full-as b e = rw (stands-at s b e k p at, standing-as s b e, last-as s b e, not-below (s .standing) (s .last) p)
 
   -- a place and a number are free
-  room : Within s → isFull ≡ false → Room s k
-  unfolding fullIn
+  pub room : Within s → isFull ≡ false → Room s k
+  unfolding fullAt
   room w h =
-      let parts = neither (leb 128 (s .standing) && not (any (ofKey k) left)) (leb 65535 (s .last)) h in
+      let parts = neither (leb 128 (s .standing) && leb (s .standing) p) (leb 65535 (s .last)) h in
       let number = leb-false 65535 (s .last) (parts .1) in
-      by-bool (leb 128 (s .standing)) (λ t. room-key w (not-false (any (ofKey k) left) (rw t at (parts .0))) number)
+      by-bool (leb 128 (s .standing)) (λ t. room-key w (leb-false (s .standing) p (rw t at (parts .0))) number)
       (λ t. room-free w (leb-false 128 (s .standing) t) number)
+
+-- Where none is counted, any array has the energies of those that are
+
+none-marked : (bs : List Bool) (i n l : ℕ) → length (marked bs (from i n)) ≡ 0 → l < n → getD bs l false ≡ true → ⊥
+unfolding marked from
+none-marked [] i n l e h t = true≢false (sym t)
+none-marked (b ∷ bs) i zero l e h t = omega arith
+none-marked (true ∷ bs) i (suc n) l e h t = omega arith
+none-marked (false ∷ bs) i (suc n) zero e h t = true≢false (sym t)
+none-marked (false ∷ bs) i (suc n) (suc l) e h t = none-marked bs (suc i) n l e (omega arith) t
+
+module _ (bs : List Bool) (n : ℕ) (es : List Energies) where
+  pub loads-none : (loads : List ℕ) → n ≤ length es → length (marked bs (from 0 n)) ≡ 0 → LoadsOf bs (take n es) loads
+  unfolding LoadsOf
+  loads-none loads b e l h i t m = absurd (none-marked bs 0 n l e (omega (arith, length-take-le n es b)) t)
+
+-- as many are counted as places are found
+pub places-counted : (count n : ℕ) (ps : List ℕ) (bs : List Bool) → count ≤ n → n ≤ 128 → length ps ≡ 128 → take count ps ≡ marked bs (from 0 n) → count ≡ length (marked bs (from 0 n))
+places-counted count n ps bs h m k e = rw (← e) (sym (length-take-le count ps (omega arith)))
 
 -- The limits
 
@@ -130,23 +150,18 @@ module _ (s : Session) (m : Fields) where
     held : (b : Book) → s ≡ image b → D.badHolder b (keyIn (keyFor m)) ≡ t
     held b e = ap (λ x. D.badHolder b (keyIn x)) (sym q) ∙ sym (u b e)
 
-    filled : (b : Book) → s ≡ image b → D.full b (keyIn (keyFor m)) ≡ isFull s k
-    filled b e = ap (λ x. D.full b (keyIn x)) (sym q) ∙ full-as s k b e
-
     pub fields-6 : t ≡ true → JudgesFields s (fieldsIn m) (No 6 0)
     unfolding fieldRows row firstRow L.keyOf
     fields-6 x b e = rw (hours-as s b e, h, f, held b e, x)
 
-    pub fields-9 : t ≡ false → isFull s k ≡ true → JudgesFields s (fieldsIn m) (No 9 0)
-    unfolding fieldRows row firstRow L.keyOf
-    fields-9 x y b e = rw (hours-as s b e, h, f, held b e, x, filled b e, y)
+    module _ (p : ℕ) (at : p ≡ keyPlace s (keyFor m)) where
+      pub fields-9 : t ≡ false → isFull s (keyFor m) p at ≡ true → JudgesFields s (fieldsIn m) (No 9 0)
+      unfolding fieldRows row firstRow L.keyOf
+      fields-9 x y b e = rw (hours-as s b e, h, f, held b e, x, full-as s (keyFor m) p at b e, y)
 
-    pub fields-limits : t ≡ false → isFull s k ≡ false → (j : Judged) → JudgesLimits s (fieldsIn m) j → JudgesFields s (fieldsIn m) j
-    unfolding fieldRows row firstRow L.keyOf
-    fields-limits x y j l b e = rw (hours-as s b e, h, f, held b e, x, filled b e, y) (l b e)
-
-  pub room-for : (k : Key) → k ≡ keyFor m → Within s → isFull s k ≡ false → Room s (keyFor m)
-  room-for k q w h = room s (keyFor m) w (ap (isFull s) (sym q) ∙ h)
+      pub fields-limits : t ≡ false → isFull s (keyFor m) p at ≡ false → (j : Judged) → JudgesLimits s (fieldsIn m) j → JudgesFields s (fieldsIn m) j
+      unfolding fieldRows row firstRow L.keyOf
+      fields-limits x y j l b e = rw (hours-as s b e, h, f, held b e, x, full-as s (keyFor m) p at b e, y) (l b e)
 
   pub enrolled-for : (k : Key) → k ≡ keyFor m → Enrolled s (k .unit) → Enrolled s (m .unit)
   enrolled-for k q h = rw (ap (λ (x : Key). x .unit) q) at h

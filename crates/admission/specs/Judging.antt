@@ -1,10 +1,9 @@
 -- The rows that a message's fields are judged by, and the room that a message not refused by them finds.
 use Prim.Native.Nat.{ℕ, _<_}
 use mathlib.Core.Path.{_≡_}
-use mathlib.Core.Bool.{Bool, not, _&&_, _||_}
+use mathlib.Core.Bool.{Bool, _&&_, _||_}
 use mathlib.Core.List.{List, _∷_}
 use lib.Dec.{leb}
-use Rattle.rules.specs.Lists.{any}
 use Rattle.rules.specs.Refusals.{Row, row, firstRow}
 use Rattle.rules.specs.Units as U
 use Rattle.rules.specs.Message.{Fields, badMap, badFields}
@@ -14,10 +13,9 @@ use Rattle.rules.specs.DayBook.{badHolder, full}
 use Rattle.session.specs.Image.{image}
 use Rattle.session.specs.Parts.{Within, told}
 use Rattle.session.specs.declared.Key.{Key}
-use Rattle.session.specs.declared.Lodgement.{Lodgement}
 use Rattle.session.specs.declared.Session.{Session}
 use Rattle.session.specs.declared.Judged.{Judged}
-use Rattle.keys.specs.Keys.{ofKey, keyPlace, leftOf}
+use Rattle.keys.specs.Keys.{keyPlace, leftOf}
 
 -- a place and a number are free once the key's lodgement is dropped
 pub record Room (s : Session) (k : Key) : Type 0 where
@@ -25,9 +23,9 @@ pub record Room (s : Session) (k : Key) : Type 0 where
   pub place : leftOf (s .standing) (keyPlace s k) < 128
   pub number : s .last < 65535
 
--- "128 lodgements and none of this key; 65,535 accepted"
-unfoldable pub fullIn : List Lodgement → ℕ → ℕ → Key → Bool
-fullIn ls n last k = (leb 128 n && not (any (ofKey k) ls)) || leb 65535 last
+-- "128 lodgements and none of this key; 65,535 accepted", by the place of the key's lodgement
+unfoldable pub fullAt : ℕ → ℕ → ℕ → Bool
+fullAt n last p = (leb 128 n && leb n p) || leb 65535 last
 
 -- limits 10 to 12
 unfoldable pub lastRows : Book → Fields → List Row

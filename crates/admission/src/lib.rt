@@ -2,16 +2,17 @@
 ghost use mathlib.Core.Path.{_≡_};
 ghost use mathlib.Core.Bool.{_||_};
 ghost use Prim.Native.Nat.{_≤_};
-ghost use lib.ListN.{take};
+ghost use lib.ListN.{take, length};
+ghost use Rattle.rules.specs.Lists.{from};
 ghost use Rattle.rules.specs.Message.{badMap};
 ghost use Rattle.rules.specs.Lodging.{namesBeyond};
 ghost use Rattle.message.specs.View.{fieldsIn};
 ghost use Rattle.session.specs.Parts.{Within};
-ghost use Rattle.keys.specs.Keys.{keyFor, Enrolled};
-ghost use Rattle.admission.specs.Judging.{Room, fullIn, JudgesFields, JudgesLimits};
+ghost use Rattle.keys.specs.Keys.{keyFor, keyPlace, Enrolled};
+ghost use Rattle.loads.specs.Loads.{marked, LoadsOf};
+ghost use Rattle.admission.specs.Judging.{Room, fullAt, JudgesFields, JudgesLimits};
 use beside::beside_marks;
 use keys::bad_holder;
-use keys::is_standing;
 use keys::key_of;
 use limits::judge_energy;
 use loads::counted_places;
@@ -22,8 +23,6 @@ use message::judge::bad_map;
 use session::FULL;
 use session::HOUR;
 use session::Judged;
-use session::Key;
-use session::Lodgement;
 use session::NO_UNIT;
 use session::RANGE;
 use session::Session;
@@ -48,10 +47,9 @@ fn bad_hours(hours: u32, map: u32) -> bool
     names_beyond(hours, map)
 }
 
-// Row 9: "128 lodgements and none of this key; 65,535 accepted".
-fn is_full(lodgements: [Lodgement; 128], n: usize, last: u32, key: Key) -> bool
-    requires { ⌜ n ≤ 128 ⌝ }
-    ensures { λ r. ⌜ r ≡ fullIn (take n lodgements) n last key ⌝ }
+// Row 9: "128 lodgements and none of this key; 65,535 accepted". The key's lodgement stands at place `at`, n being none.
+fn is_full(n: usize, last: u32, at: usize) -> bool
+    ensures { λ r. ⌜ r ≡ fullAt n last at ⌝ }
 {
     if Session::MAX_NUMBER <= last {
         return true;
@@ -59,7 +57,21 @@ fn is_full(lodgements: [Lodgement; 128], n: usize, last: u32, key: Key) -> bool
     if n < Session::MAX_LODGEMENTS {
         return false;
     }
-    !is_standing(lodgements, n, key)
+    n <= at
+}
+
+// The energies by hour of those that are counted, each at its place. Mostly none is counted, and then none is looked at: the
+// session's energies would be copied for nothing.
+fn others_loads(s: Session, counted: &[bool; 128], count: usize) -> [u32; 3200]
+    requires { ⌜ (s .standing ≤ 128) × (count ≡ length (marked (now counted) (from 0 (s .standing)))) ⌝ }
+    ensures { λ r. ⌜ (s .standing ≤ length (s .energies)) × LoadsOf (now (counted .entry)) (take (s .standing) (s .energies)) r ⌝ }
+{
+    if count == 0 {
+        let none = [0u32; 3200];
+        return none;
+    }
+    let energies = s.energies;
+    loads_of(counted, s.standing, energies)
 }
 
 // Rows 10 to 12, for a unit that is registered.
@@ -78,9 +90,8 @@ fn judge_limits(s: Session, m: Fields) -> Judged
     let n = s.standing;
     let counted = beside_marks(lodgements, n, key);
     let own = m.energies;
-    let energies = s.energies;
-    let loads = loads_of(&counted, n, energies);
     let found = counted_places(&counted, n);
+    let loads = others_loads(s, &counted, found.count);
     let others = found.at;
     let hours = s.hours as usize;
     judge_energy(
@@ -96,9 +107,9 @@ fn judge_limits(s: Session, m: Fields) -> Judged
     )
 }
 
-// The refusal that applies to a message's fields, in the table's order.
-pub fn judge_fields(s: Session, m: Fields) -> Judged
-    requires { ⌜ Within s ⌝ }
+// The refusal that applies to a message's fields, in the table's order; `at` is the place of the key's lodgement.
+pub fn judge_fields(s: Session, m: Fields, at: usize) -> Judged
+    requires { ⌜ Within s × (at ≡ keyPlace s (keyFor m)) ⌝ }
     ensures { λ r. ⌜ JudgesFields s (fieldsIn m) r × (r ≡ Judged.Clear → Room s (keyFor m)) ⌝ }
 {
     if bad_hours(s.hours, m.map) {
@@ -111,8 +122,7 @@ pub fn judge_fields(s: Session, m: Fields) -> Judged
     if bad_holder(s, key) {
         return Judged::No(NO_UNIT, 0);
     }
-    let lodgements = s.lodgements;
-    if is_full(lodgements, s.standing, s.last, key) {
+    if is_full(s.standing, s.last, at) {
         return Judged::No(FULL, 0);
     }
     judge_limits(s, m)

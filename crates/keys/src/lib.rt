@@ -81,14 +81,6 @@ pub fn key_place(lodgements: [Lodgement; 128], n: usize, key: Key) -> usize
     n
 }
 
-// Whether one of the first n lodgements is of this key.
-pub fn is_standing(lodgements: [Lodgement; 128], n: usize, key: Key) -> bool
-    requires { ⌜ n ≤ 128 ⌝ }
-    ensures { λ r. ⌜ r ≡ any (ofKey key) (take n lodgements) ⌝ }
-{
-    key_place(lodgements, n, key) < n
-}
-
 // How many of n lodgements are left without the one at place p, if p is one of their places.
 pub fn left_of(n: usize, p: usize) -> usize
     ensures { λ r. ⌜ r ≡ leftOf n p ⌝ }

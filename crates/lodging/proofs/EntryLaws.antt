@@ -1,6 +1,6 @@
 -- The session with a message's lodgement entered.
 use Prim.Native.Nat.{ℕ, suc, _+_, _≤_, _<_}
-use mathlib.Core.Path.{_≡_, refl, sym, ap, _∙_}
+use mathlib.Core.Path.{_≡_, refl, sym}
 use mathlib.Core.Bool.{true, false≢true}
 use native.Mathlib.Omega.{arith}
 use Rattle.rules.specs.Lodging as L
@@ -35,13 +35,10 @@ entering k f p m number = record {
   answer = Numbered number;
 }
 
-module _ (s : Session) (f : Fields) (k : Key) (p m : ℕ) (same : k ≡ keyFor f) (at : p ≡ keyPlace s k) (left : m ≡ leftOf (s .standing) p) (r : Room s (keyFor f)) where
-  own : p ≡ keyPlace s (keyFor f)
-  own = at ∙ ap (keyPlace s) same
-
+module _ (s : Session) (f : Fields) (k : Key) (p m : ℕ) (same : k ≡ keyFor f) (at : p ≡ keyPlace s (keyFor f)) (left : m ≡ leftOf (s .standing) p) (r : Room s (keyFor f)) where
   -- the place behind those left is free
   pub room-left : m < 128
-  room-left = rw (left, own) (r .place)
+  room-left = rw (left, at) (r .place)
 
   pub entering-placed : p ≤ s .standing → (number : ℕ) → Placed (entering k f p m number .change)
   entering-placed h number =
@@ -55,7 +52,7 @@ module _ (s : Session) (f : Fields) (k : Key) (p m : ℕ) (same : k ≡ keyFor f
         let n : s .last + 1 ≡ suc (b .last) = omega (arith, last-as s b e) in
         record {
           answer = rw n;
-          session = rw (same, n) (entered-image s (keyFor f) p m own left room-left b sound h e (D.entry (fieldsIn f) (suc (b .last))) (suc (b .last)));
+          session = rw (same, n) (entered-image s (keyFor f) p m at left room-left b sound h e (D.entry (fieldsIn f) (suc (b .last))) (suc (b .last)));
         };
     fine = refl;
   }

@@ -1,6 +1,9 @@
 // Entering a message that no row refuses.
+ghost use mathlib.Core.Path.{_≡_};
+ghost use Prim.Native.Nat.{_≤_};
+ghost use Rattle.session.specs.Parts.{Within};
 ghost use Rattle.session.specs.Changes.{Placed, standingTurn};
-ghost use Rattle.keys.specs.Keys.{keyFor};
+ghost use Rattle.keys.specs.Keys.{keyFor, keyPlace};
 ghost use Rattle.admission.specs.Judging.{Room};
 ghost use Rattle.lodging.specs.Entries.{EnteredFields};
 use keys::key_of;
@@ -14,20 +17,27 @@ use session::Session;
 use session::StandingChange;
 use session::StandingTurn;
 
+// The place of the lodgement that a message replaces, behind the last where there is none: found once, for judging and entering.
+pub fn replaced_place(s: Session, m: Fields) -> usize
+    requires { ⌜ Within s ⌝ }
+    ensures { λ r. ⌜ (r ≡ keyPlace s (keyFor m)) × (r ≤ s .standing) ⌝ }
+{
+    let key = key_of(m);
+    let lodgements = s.lodgements;
+    key_place(lodgements, s.standing, key)
+}
+
 // "A lodgement replaces the one with its key, and takes and answers the next lodging number": those behind the replaced one's
 // place go forward, and the new one stands behind them.
-pub fn enter(s: Session, m: Fields) -> StandingTurn
-    requires { ⌜ Room s (keyFor m) ⌝ }
+pub fn enter(s: Session, m: Fields, from: usize) -> StandingTurn
+    requires { ⌜ Room s (keyFor m) × (from ≡ keyPlace s (keyFor m)) × (from ≤ s .standing) ⌝ }
     ensures { λ r. ⌜ EnteredFields s m (standingTurn s r) × Placed (r .change) ⌝ }
 {
     let key = key_of(m);
     let number = s.last + 1;
     let energies = m.energies;
     let prices = m.prices;
-    let lodgements = s.lodgements;
-    let n = s.standing;
-    let from = key_place(lodgements, n, key);
-    let to = left_of(n, from);
+    let to = left_of(s.standing, from);
     let standing = to + 1;
     let lodgement = Lodgement {
         key: key,

@@ -1,9 +1,9 @@
 // Lodging: "takes a message's bytes".
-ghost use mathlib.Core.Path.{_≡_};
 ghost use Rattle.rules.specs.DayBook.{lodge};
 ghost use Rattle.session.specs.Changes.{Placed, standingTurn};
 ghost use Rattle.session.specs.Steps.{Met};
 use crate::entering::enter;
+use crate::entering::replaced_place;
 use admission::judge_fields;
 use reader::bad_form;
 use reader::fields_of;
@@ -32,10 +32,11 @@ pub fn lodge_change(s: Session, message: &[u8]) -> StandingTurn
         return standing_refused(s, FORM, 0);
     }
     let m = fields_of(message);
-    let j = judge_fields(s, m);
+    let at = replaced_place(s, m);
+    let j = judge_fields(s, m, at);
     match j {
         Judged::No(row, hour) => standing_refused(s, row, hour),
-        Judged::Clear => enter(s, m),
+        Judged::Clear => enter(s, m, at),
     }
 }
 

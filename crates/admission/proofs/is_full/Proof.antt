@@ -1,20 +1,16 @@
 use native.Mathlib.Omega.{arith}
-use borrow.Author.Needs.{needs}
 use Rattle.admission.proofs.JudgeLaws.{full-number, full-free, full-place}
 use Rattle.admission.proofs.is_full.Statement.{statement}
 use Rattle.admission.proofs.is_full.Tie as tie
 
 returns : tie.Need-returns
-returns c = full-number _ _ _ _ (omega arith)
+returns c = full-number _ _ _ (omega arith)
 
 returns-2 : tie.Need-returns-2
-returns-2 c = full-free _ _ _ _ (omega arith) (omega arith)
-
-is-standing-requires : tie.Need-is-standing-requires
-is-standing-requires c κs = search needs
+returns-2 c = full-free _ _ _ (omega arith) (omega arith)
 
 returns-3 : tie.Need-returns-3
-returns-3 c = rw (c .is-standing .ensures) (full-place _ _ _ _ (omega arith) (omega arith))
+returns-3 c = full-place _ _ _ (omega arith) (omega arith)
 
 pub is-full-spec : {M : Type 1} → statement M
-is-full-spec = tie.close (tie.spec returns returns-2 is-standing-requires returns-3)
+is-full-spec = tie.close (tie.spec returns returns-2 returns-3)

@@ -1,6 +1,7 @@
 use mathlib.Core.Path.{sym, _∙_}
 use Rattle.session.proofs.StepLaws.{not-clear}
-use Rattle.admission.proofs.JudgeLaws.{fields-4, fields-5, fields-6, fields-9, fields-limits, room-for, enrolled-for}
+use Rattle.admission.proofs.JudgeLaws.{fields-4, fields-5, fields-6, fields-9, fields-limits, room, enrolled-for}
+use Rattle.keys.specs.Keys.{keyFor}
 use borrow.Author.Needs.{needs}
 use Rattle.admission.proofs.judge_fields.Statement.{statement}
 use Rattle.admission.proofs.judge_fields.Tie as tie
@@ -30,13 +31,16 @@ is-full-requires : tie.Need-is-full-requires
 is-full-requires c κs = search needs
 
 returns-4 : tie.Need-returns-4
-returns-4 c = (fields-9 _ _ _ (c .before .before .before .before .before .key-of .ensures) (sym (c .before .before .before .before .before .before .before .before .before .bad-hours .ensures) ∙ c .before .before .before .before .before .before .before .before .if1 .left) (sym (c .before .before .before .before .before .before .before .bad-fields .ensures) ∙ c .before .before .before .before .before .before .if2 .left) _ (c .before .before .before .before .bad-holder .ensures .0) (c .before .before .before .if3 .left) (sym (c .before .is-full .ensures) ∙ c .if4 .taken), not-clear _ _)
+returns-4 c = (fields-9 _ _ _ (c .before .before .before .before .key-of .ensures) (sym (c .before .before .before .before .before .before .before .before .bad-hours .ensures) ∙ c .before .before .before .before .before .before .before .if1 .left) (sym (c .before .before .before .before .before .before .bad-fields .ensures) ∙ c .before .before .before .before .before .if2 .left) _ (c .before .before .before .bad-holder .ensures .0) _ (c .before .before .before .before .before .before .before .before .before .pre .1) (c .before .before .if3 .left) (sym (c .before .is-full .ensures) ∙ c .if4 .taken), not-clear _ _)
 
 judge-limits-requires : tie.Need-judge-limits-requires
-judge-limits-requires c κs = (c .before .before .before .before .before .before .before .before .before .before .pre, enrolled-for _ (c .before .before .before .before .before .before .before .before .before .before .args .m) _ (c .before .before .before .before .before .key-of .ensures) (c .before .before .before .before .bad-holder .ensures .1 (c .before .before .before .if3 .left)))
+judge-limits-requires c κs = (c .before .before .before .before .before .before .before .before .before .pre .0, enrolled-for _ (c .before .before .before .before .before .before .before .before .before .args .m) _ (c .before .before .before .before .key-of .ensures) (c .before .before .before .bad-holder .ensures .1 (c .before .before .if3 .left)))
 
 returns-5 : tie.Need-returns-5
-returns-5 c = (fields-limits _ _ _ (c .before .before .before .before .before .before .key-of .ensures) (sym (c .before .before .before .before .before .before .before .before .before .before .bad-hours .ensures) ∙ c .before .before .before .before .before .before .before .before .before .if1 .left) (sym (c .before .before .before .before .before .before .before .before .bad-fields .ensures) ∙ c .before .before .before .before .before .before .before .if2 .left) _ (c .before .before .before .before .before .bad-holder .ensures .0) (c .before .before .before .before .if3 .left) (sym (c .before .before .is-full .ensures) ∙ c .before .if4 .left) _ (c .judge-limits .ensures), λ q. room-for _ (c .before .before .before .before .before .before .before .before .before .before .before .args .m) _ (c .before .before .before .before .before .before .key-of .ensures) (c .before .before .before .before .before .before .before .before .before .before .before .pre) (sym (c .before .before .is-full .ensures) ∙ c .before .if4 .left))
+returns-5 c = (
+  fields-limits _ _ _ (c .before .before .before .before .before .key-of .ensures) (sym (c .before .before .before .before .before .before .before .before .before .bad-hours .ensures) ∙ c .before .before .before .before .before .before .before .before .if1 .left) (sym (c .before .before .before .before .before .before .before .bad-fields .ensures) ∙ c .before .before .before .before .before .before .if2 .left) _ (c .before .before .before .before .bad-holder .ensures .0) _ (c .before .before .before .before .before .before .before .before .before .before .pre .1) (c .before .before .before .if3 .left) (sym (c .before .before .is-full .ensures) ∙ c .before .if4 .left) _ (c .judge-limits .ensures),
+  λ q. room _ (keyFor (c .before .before .before .before .before .before .before .before .before .before .args .m)) _ (c .before .before .before .before .before .before .before .before .before .before .pre .1) (c .before .before .before .before .before .before .before .before .before .before .pre .0) (sym (c .before .before .is-full .ensures) ∙ c .before .if4 .left),
+)
 
 pub judge-fields-spec : {M : Type 1} → statement M
 judge-fields-spec =

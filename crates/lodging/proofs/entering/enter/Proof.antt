@@ -10,19 +10,17 @@ key-of-requires c κs = search needs
 add-number : tie.Need-add-number
 add-number c = search needs
 
-key-place-requires : tie.Need-key-place-requires
-key-place-requires c κs = search needs
-
 left-of-requires : tie.Need-left-of-requires
 left-of-requires c κs = search needs
 
 add-standing : tie.Need-add-standing
-add-standing c = omega (arith, room-left (c .before .before .before .before .before .before .before .args .s) (c .before .before .before .before .before .before .before .args .m) _ _ _ (c .before .before .before .before .before .before .key-of .ensures) (c .before .key-place .ensures .0) (c .left-of .ensures) (c .before .before .before .before .before .before .before .pre))
+add-standing c = omega (arith, room-left (c .before .before .before .before .before .args .s) (c .before .before .before .before .before .args .m) _ _ _ (c .before .before .before .before .key-of .ensures) (c .before .before .before .before .before .pre .1) (c .left-of .ensures) (c .before .before .before .before .before .pre .0))
 
 returns : tie.Need-returns
-returns c = (entered _ _ _ _ _ (c .before .before .before .before .before .before .key-of .ensures) (c .before .key-place .ensures .0) (c .left-of .ensures) (c .before .before .before .before .before .before .before .pre), entering-placed _ (c .before .before .before .before .before .before .before .args .m) _ _ _ (c .before .before .before .before .before .before .key-of .ensures) (c .before .key-place .ensures .0) (c .left-of .ensures) (c .before .before .before .before .before .before .before .pre) (c .before .key-place .ensures .1) _)
+returns c = (
+  entered _ _ _ _ _ (c .before .before .before .before .key-of .ensures) (c .before .before .before .before .before .pre .1) (c .left-of .ensures) (c .before .before .before .before .before .pre .0),
+  entering-placed _ (c .before .before .before .before .before .args .m) _ _ _ (c .before .before .before .before .key-of .ensures) (c .before .before .before .before .before .pre .1) (c .left-of .ensures) (c .before .before .before .before .before .pre .0) (c .before .before .before .before .before .pre .2) _,
+)
 
 pub enter-spec : {M : Type 1} → statement M
-enter-spec =
-    tie.close
-    (tie.spec key-of-requires add-number key-place-requires left-of-requires add-standing returns)
+enter-spec = tie.close (tie.spec key-of-requires add-number left-of-requires add-standing returns)
