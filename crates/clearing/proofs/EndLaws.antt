@@ -46,8 +46,8 @@ use Rattle.borders.specs.declared.Executions.{Executions}
 use Rattle.loads.specs.declared.Places.{Places}
 use Rattle.gathering.specs.declared.Gathered.{Gathered}
 use Rattle.gathering.specs.Columns.{Column}
-use Rattle.gathering.specs.Built.{Spots, Holders, Held, holdersIn, pickedAt, unitAt, Gather}
-use Rattle.gathering.proofs.SpotLaws.{spot-placed}
+use Rattle.gathering.specs.Built.{UnitPlaces, Holders, Held, holdersIn, pickedAt, unitAt, Gather}
+use Rattle.gathering.proofs.UnitLaws.{unit-placed}
 use Rattle.results.specs.Shown.{Placed, clearedAs}
 use Rattle.clearing.specs.Hours.{HourAs, HoursAs}
 use Rattle.results.proofs.FigureLaws.{length-from, from-last, sum-last}
@@ -72,14 +72,14 @@ figures-as b h =
     (sym (map-map (λ (u : Unit). sumOf (λ (x : Execution). x .energy) (keep (λ x. eqb (x .holder .unit) (u .number)) (R.figuresAt b h .executions))) I.unitOf (b .units)))
 
 -- the holders of an hour are at the places of their units
-module _ (s : Session) (b : B.Book) (e : s ≡ I.image b) (sound : I.Sound b) (spot : List ℕ) (hs : List Unit) (spots : Spots s spot) (holders : Holders s hs) (p : Places) (inside : (i : ℕ) → i < p .count → getD (p .at) i 0 < s .standing) where
-  all-placed : (x : Executions) (r : List ℕ) → Held (s .lodgements) hs p x → Column (pickedAt spot (p .at)) 0 (p .count) 128 r → Placed (s .units) (s .enrolled) (x .unit) r (x .count)
+module _ (s : Session) (b : B.Book) (e : s ≡ I.image b) (sound : I.Sound b) (place : List ℕ) (hs : List Unit) (unit-places : UnitPlaces s place) (holders : Holders s hs) (p : Places) (inside : (i : ℕ) → i < p .count → getD (p .at) i 0 < s .standing) where
+  all-placed : (x : Executions) (r : List ℕ) → Held (s .lodgements) hs p x → Column (pickedAt place (p .at)) 0 (p .count) 128 r → Placed (s .units) (s .enrolled) (x .unit) r (x .count)
   unfolding pickedAt unitAt
   all-placed x r h c i q l m =
       let n : i < p .count = omega (arith, h .count) in
-      rw (c .at i n, h .units .at i n) (spot-placed s b e sound spot hs spots holders (getD (p .at) i 0) q (inside i n) m)
+      rw (c .at i n, h .units .at i n) (unit-placed s b e sound place hs unit-places holders (getD (p .at) i 0) q (inside i n) m)
 
-pub hour-told : (s : Session) (spot : List ℕ) (hs : List Unit) (k : ℕ) (g : Gathered) (f : Figures) (r : Cleared) → Spots s spot → Holders s hs → Gather s hs spot k g
+pub hour-told : (s : Session) (place : List ℕ) (hs : List Unit) (k : ℕ) (g : Gathered) (f : Figures) (r : Cleared) → UnitPlaces s place → Holders s hs → Gather s hs place k g
     → (isReady (g .hour) ≡ true → (figuresIn (g .hour) f ≡ R.clearHour (hourIn (g .hour))) × AtBorders (g .hour) f)
     → ((us : List Unit) → s .enrolled ≤ length us
     → Placed us (s .enrolled) (g .hour .offers .unit) (g .offering) (g .hour .offers .count)
@@ -87,7 +87,7 @@ pub hour-told : (s : Session) (spot : List ℕ) (hs : List Unit) (k : ℕ) (g : 
     → AtBorders (g .hour) f → r ≡ clearedAs (figuresIn (g .hour) f) (take (s .enrolled) us))
     → HourAs s k (record { steps = f .steps; figures = r })
 unfolding figuresIn R.figuresAt
-hour-told s spot hs k x f r spots holders t q p b sound closed e =
+hour-told s place hs k x f r unit-places holders t q p b sound closed e =
     let h : Hour = x .hour in
     let g = q (ready-told h (hour-ready s b e sound closed hs holders k h (t .built))) in
     let a : figuresIn h f ≡ R.figuresAt b (suc k) = g .0 ∙ figured in
@@ -108,8 +108,8 @@ hour-told s spot hs k x f r spots holders t q p b sound closed e =
     kept =
         let y = t .built in
         p (s .units) long
-        (all-placed s b e sound spot hs spots holders (y .places) (y .chosen .inside) (holdersIn (x .hour .offers)) (x .offering) (y .holders) (t .offering))
-        (all-placed s b e sound spot hs spots holders (y .places′) (y .chosen′ .inside) (x .hour .executions) (x .executing) (y .holders′) (t .executing))
+        (all-placed s b e sound place hs unit-places holders (y .places) (y .chosen .inside) (holdersIn (x .hour .offers)) (x .offering) (y .holders) (t .offering))
+        (all-placed s b e sound place hs unit-places holders (y .places′) (y .chosen′ .inside) (x .hour .executions) (x .executing) (y .holders′) (t .executing))
 
 -- energies in range, whether the hour was ready or not
 pub figures-small : (h : Hour) (f : Figures) → (isReady h ≡ true → (figuresIn h f ≡ R.clearHour (hourIn h)) × AtBorders h f) → (isReady h ≡ false → f ≡ noFigures)

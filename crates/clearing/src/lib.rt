@@ -6,7 +6,7 @@ ghost use Rattle.session.specs.Parts.{Within, Judges, Entered};
 ghost use Rattle.session.specs.Changes.{clearingTurn};
 ghost use mathlib.Core.List.{List};
 ghost use Rattle.session.specs.declared.Unit.{Unit};
-ghost use Rattle.gathering.specs.Built.{Spots, Holders, DayOf, dayIn};
+ghost use Rattle.gathering.specs.Built.{UnitPlaces, Holders, DayOf, dayIn};
 ghost use Rattle.clearing.specs.Hours.{HourAs, HoursAs};
 use session::Answer;
 use session::Cleared;
@@ -35,7 +35,7 @@ pub struct DayEnd {
 fn clear_hour<'a>(
     s: Session,
     k: usize,
-    spot: &'a [u32; 128],
+    place: &'a [u32; 128],
     number: &'a [u32; 128],
     unit: &'a [u32; 128],
     border: &'a [u32; 128],
@@ -47,7 +47,7 @@ fn clear_hour<'a>(
     price: &'a [u32; 3200],
 ) -> HourEnd
     requires { ⌜ Within s × (k < 25) ⌝ }
-    ensures { λ r. ⌜ ((hs : List Unit) → Spots s (now (spot .entry)) → Holders s hs
+    ensures { λ r. ⌜ ((hs : List Unit) → UnitPlaces s (now (place .entry)) → Holders s hs
         → DayOf s hs (dayIn (now (number .entry)) (now (unit .entry)) (now (border .entry)) (now (purchase .entry)) (now (legacy .entry)) (now (offer .entry)) (now (execution .entry)) (now (energy .entry)) (now (price .entry)))
         → HourAs s k r) ⌝ }
 {
@@ -55,7 +55,7 @@ fn clear_hour<'a>(
     let g = gathering::hour_at(
         s.standing,
         k,
-        spot,
+        place,
         number,
         unit,
         border,
@@ -82,8 +82,8 @@ fn clear_hours(s: Session) -> DayEnd
     requires { ⌜ Within s ⌝ }
     ensures { λ r. ⌜ HoursAs s (s .hours) (r .figures) (r .steps) ⌝ }
 {
-    let spot = gathering::spots(s);
-    let holders = gathering::holders(s, &spot);
+    let place = gathering::unit_places(s);
+    let holders = gathering::holders(s, &place);
     let d = gathering::day_of(s, holders);
     let none = session::no_figures();
     let n = s.hours as usize;
@@ -93,7 +93,7 @@ fn clear_hours(s: Session) -> DayEnd
         let e = clear_hour(
             s,
             k,
-            &spot,
+            &place,
             &d.number,
             &d.unit,
             &d.border,

@@ -4,4 +4,4 @@ pub mod ListLaws
 pub mod DayLaws
 pub mod HourLaws
 pub mod ReadyLaws
-pub mod SpotLaws
+pub mod UnitLaws

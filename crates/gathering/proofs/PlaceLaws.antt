@@ -35,21 +35,21 @@ use Rattle.gathering.proofs.ColumnLaws.{below, column-as}
 
 -- the unit at a place of its own
 unfoldable pub unitBy : List Unit → ℕ → List ℕ → ℕ → Unit
-unitBy us n spot i = cond (ltb (getD spot i 0) n) (getD us (getD spot i 0) noUnit) noUnit
+unitBy us n place i = cond (ltb (getD place i 0) n) (getD us (getD place i 0) noUnit) noUnit
 
-module _ (us : List Unit) (n : ℕ) (spot : List ℕ) (i : ℕ) where
-  pub unit-here : {p : ℕ} → p ≡ getD spot i 0 → p < n → getD us p noUnit ≡ unitBy us n spot i
+module _ (us : List Unit) (n : ℕ) (place : List ℕ) (i : ℕ) where
+  pub unit-here : {p : ℕ} → p ≡ getD place i 0 → p < n → getD us p noUnit ≡ unitBy us n place i
   unfolding unitBy
-  unit-here e h = rw (e, lt-ltb (getD spot i 0) n (omega arith))
+  unit-here e h = rw (e, lt-ltb (getD place i 0) n (omega arith))
 
-  pub unit-none : {p : ℕ} → p ≡ getD spot i 0 → n ≤ p → noUnit ≡ unitBy us n spot i
+  pub unit-none : {p : ℕ} → p ≡ getD place i 0 → n ≤ p → noUnit ≡ unitBy us n place i
   unfolding unitBy
-  unit-none e h = rw (le-ltb (getD spot i 0) n (omega arith))
+  unit-none e h = rw (le-ltb (getD place i 0) n (omega arith))
 
-  pub unit-found : (ls : List Lodgement) → getD spot i 0 ≡ holderAt us n ls i → unitBy us n spot i ≡ holderIn us n ls i
+  pub unit-found : (ls : List Lodgement) → getD place i 0 ≡ holderAt us n ls i → unitBy us n place i ≡ holderIn us n ls i
   unfolding holderIn holderAt unitAmong
   unit-found ls e =
-      let p = getD spot i 0 in
+      let p = getD place i 0 in
       let g : holderIn us n ls i ≡ getD (take n us) p noUnit = place-first _ noUnit (take n us) ∙ ap (λ k. getD (take n us) k noUnit) (sym e) in
       by-bool (ltb p n)
       (λ t. let h = ltb-true p n t in sym (unit-here refl h) ∙ sym (g ∙ getD-take n us p noUnit h))
@@ -169,7 +169,7 @@ module _ (s : Session) (hs : List Unit) (d : Day) (t : DayOf s hs d) (k : ℕ) (
         }
 
 -- what is read so is the hour
-module _ (s : Session) (hs : List Unit) (d : Day) (t : DayOf s hs d) (n k : ℕ) (all : s .standing ≡ n) (hour : k < 25) (spot : List ℕ) (r : Gathered) where
+module _ (s : Session) (hs : List Unit) (d : Day) (t : DayOf s hs d) (n k : ℕ) (all : s .standing ≡ n) (hour : k < 25) (place : List ℕ) (r : Gathered) where
   abbrev h : Hour
   h = r .hour
 
@@ -180,9 +180,9 @@ module _ (s : Session) (hs : List Unit) (d : Day) (t : DayOf s hs d) (n k : ℕ)
       → Column (slotAt (d .energy) k (p .at)) 0 (p .count) 128 (h .offered)
       → Column (slotAt (d .energy) k (q .at)) 0 (q .count) 128 (h .energy)
       → Given (s .capacities) k (record { flags = h .published; energies = h .capacity })
-      → Column (pickedAt spot (p .at)) 0 (p .count) 128 (r .offering)
-      → Column (pickedAt spot (q .at)) 0 (q .count) 128 (r .executing)
-      → Gather s hs spot k r
+      → Column (pickedAt place (p .at)) 0 (p .count) 128 (r .offering)
+      → Column (pickedAt place (q .at)) 0 (q .count) 128 (r .executing)
+      → Gather s hs place k r
   hour-built p q c f o x price offered energy given offering executing =
       let c′ : Selected (countsIn (d .offer) (d .energy) k) (s .standing) p = rw all c in
       let f′ : Selected (countsIn (d .execution) (d .energy) k) (s .standing) q = rw all f in

@@ -39,8 +39,8 @@ unfoldable pub unitAmong : List Unit → ℕ → Unit
 unitAmong us n = first (numberIs n) noUnit us
 
 -- the places of the units of a session's lodgements, by place
-abbrev pub Spots : Session → List ℕ → Type 0
-Spots s r = Column (holderAt (s .units) (s .enrolled) (s .lodgements)) 0 (s .standing) 128 r
+abbrev pub UnitPlaces : Session → List ℕ → Type 0
+UnitPlaces s r = Column (holderAt (s .units) (s .enrolled) (s .lodgements)) 0 (s .standing) 128 r
 
 -- the unit of the lodgement at a place
 unfoldable pub holderIn : List Unit → ℕ → List Lodgement → ℕ → Unit
@@ -245,7 +245,7 @@ pub record Built (s : Session) (hs : List Unit) (k : ℕ) (h : Hour) : Type 0 wh
   pub capacities : Given (s .capacities) k (record { flags = h .published; energies = h .capacity })
 
 -- with the places of the units
-pub record Gather (s : Session) (hs : List Unit) (spot : List ℕ) (k : ℕ) (r : Gathered) : Type 0 where
+pub record Gather (s : Session) (hs : List Unit) (place : List ℕ) (k : ℕ) (r : Gathered) : Type 0 where
   pub built : Built s hs k (r .hour)
-  pub offering : Column (pickedAt spot (built .places .at)) 0 (built .places .count) 128 (r .offering)
-  pub executing : Column (pickedAt spot (built .places′ .at)) 0 (built .places′ .count) 128 (r .executing)
+  pub offering : Column (pickedAt place (built .places .at)) 0 (built .places .count) 128 (r .offering)
+  pub executing : Column (pickedAt place (built .places′ .at)) 0 (built .places′ .count) 128 (r .executing)

@@ -8,7 +8,7 @@ ghost use Rattle.session.specs.declared.Session.{Session};
 ghost use Rattle.session.specs.declared.Unit.{Unit};
 ghost use Rattle.session.specs.Parts.{Within};
 ghost use Rattle.gathering.specs.Columns.{Column};
-ghost use Rattle.gathering.specs.Built.{Spots, Holders, Slotted, isAccepted, acceptedAt, HeldBy, DayOf, dayIn, countsIn, Selected, Inside, pickedAt, markedAt, slotAt, Picked, noticeAt, Given, offersAt, Gather};
+ghost use Rattle.gathering.specs.Built.{UnitPlaces, Holders, Slotted, isAccepted, acceptedAt, HeldBy, DayOf, dayIn, countsIn, Selected, Inside, pickedAt, markedAt, slotAt, Picked, noticeAt, Given, offersAt, Gather};
 use borders::Executions;
 use hour::Hour;
 use loads::Places;
@@ -53,10 +53,10 @@ pub struct HourCapacities {
     pub energies: [u32; 10],
 }
 
-// The places of the units of the standing lodgements, by place; of a unit that is not registered, the place behind the last.
-pub fn spots(s: Session) -> [u32; 128]
+// For each standing lodgement the place of its unit among those registered, behind the last where it is not registered.
+pub fn unit_places(s: Session) -> [u32; 128]
     requires { ⌜ Within s ⌝ }
-    ensures { λ r. ⌜ Spots s r ⌝ }
+    ensures { λ r. ⌜ UnitPlaces s r ⌝ }
 {
     let units = s.units;
     let lodgements = s.lodgements;
@@ -76,9 +76,9 @@ pub fn index(x: u32) -> usize
     x as usize
 }
 
-// The units of the standing lodgements, by place, `spot` being their places; of one that is not registered, a unit with nothing.
-pub fn holders(s: Session, spot: &[u32; 128]) -> [Unit; 128]
-    requires { ⌜ Within s × Spots s (now spot) ⌝ }
+// For each standing lodgement its unit, `place` being the units' places; a unit with nothing where it is not registered.
+pub fn holders(s: Session, place: &[u32; 128]) -> [Unit; 128]
+    requires { ⌜ Within s × UnitPlaces s (now place) ⌝ }
     ensures { λ r. ⌜ Holders s r ⌝ }
 {
     let units = s.units;
@@ -94,7 +94,7 @@ pub fn holders(s: Session, spot: &[u32; 128]) -> [Unit; 128]
     };
     let mut found = [none; 128];
     for i in 0..n {
-        let p = index(spot[i]);
+        let p = index(place[i]);
         if enrolled <= p {
             continue;
         }
@@ -363,7 +363,7 @@ fn offers_of(x: Executions, price: [u32; 128]) -> Offers
 pub fn hour_at<'a>(
     n: usize,
     k: usize,
-    spot: &'a [u32; 128],
+    place: &'a [u32; 128],
     number: &'a [u32; 128],
     unit: &'a [u32; 128],
     border: &'a [u32; 128],
@@ -379,7 +379,7 @@ pub fn hour_at<'a>(
     ensures { λ r. ⌜ (r .hour .offers .count ≤ 128) × (r .hour .executions .count ≤ 128) ⌝ }
     ensures { λ r. ⌜ ((s : Session) (hs : List Unit) → s .standing ≡ n → s .capacities ≡ capacities
         → DayOf s hs (dayIn (now (number .entry)) (now (unit .entry)) (now (border .entry)) (now (purchase .entry)) (now (legacy .entry)) (now (offer .entry)) (now (execution .entry)) (now (energy .entry)) (now (price .entry)))
-        → Gather s hs (now (spot .entry)) k r) ⌝ }
+        → Gather s hs (now (place .entry)) k r) ⌝ }
 {
     let p = chosen(offer, energy, n, k);
     let q = chosen(execution, energy, n, k);
@@ -392,8 +392,8 @@ pub fn hour_at<'a>(
     let offers = offers_of(o, prices);
     let published = c.flags;
     let capacity = c.energies;
-    let offering = picked(spot, &p.at, p.count);
-    let executing = picked(spot, &q.at, q.count);
+    let offering = picked(place, &p.at, p.count);
+    let executing = picked(place, &q.at, q.count);
     let hour = Hour {
         offers,
         offered,

@@ -46,7 +46,7 @@ pub fn settle_standing(s: &mut Session, t: Lodged) -> Response
     t.response
 }
 
-// Verdicts.
+// The verdicts, and whether the gate is closed.
 pub fn settle_closing(s: &mut Session, t: Closed) -> Response
     ensures { λ r. ⌜ (now (s .exit) ≡ withVerdicts (now (s .entry)) (t .closed) (t .verdicts)) × (r ≡ t .response) ⌝ }
 {
@@ -55,7 +55,7 @@ pub fn settle_closing(s: &mut Session, t: Closed) -> Response
     t.response
 }
 
-// Figures.
+// The figures, and whether the day is cleared.
 pub fn settle_clearing(s: &mut Session, t: DayCleared) -> Response
     ensures { λ r. ⌜ (now (s .exit) ≡ withFigures (now (s .entry)) (t .cleared) (t .figures)) × (r ≡ t .response) ⌝ }
 {

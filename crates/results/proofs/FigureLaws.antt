@@ -141,25 +141,25 @@ unfolding sumOf sum
 sum-last f [] x = omega arith
 sum-last f (y ∷ l) x = ap (λ n. f y + n) (sum-last f l x) ∙ omega arith
 
-module _ (spot energy : List ℕ) where
-  energy-next : (i q : ℕ) → unitEnergy spot energy (i + 1) q ≡ unitEnergy spot energy i q + addsTo spot energy q i
+module _ (place energy : List ℕ) where
+  energy-next : (i q : ℕ) → unitEnergy place energy (i + 1) q ≡ unitEnergy place energy i q + addsTo place energy q i
   unfolding unitEnergy
-  energy-next i q = rw (add-one, from-last 0 i) (sum-last (addsTo spot energy q) (from 0 i) (0 + i) ∙ (let o : 0 + i ≡ i = omega arith in rw o))
+  energy-next i q = rw (add-one, from-last 0 i) (sum-last (addsTo place energy q) (from 0 i) (0 + i) ∙ (let o : 0 + i ≡ i = omega arith in rw o))
 
-  adds-here : (i q : ℕ) → getD spot i 0 ≡ q → addsTo spot energy q i ≡ getD energy i 0
+  adds-here : (i q : ℕ) → getD place i 0 ≡ q → addsTo place energy q i ≡ getD energy i 0
   unfolding addsTo
-  adds-here i q h = rw (eq-eqb (getD spot i 0) q h)
+  adds-here i q h = rw (eq-eqb (getD place i 0) q h)
 
-  adds-none : (i q : ℕ) → (getD spot i 0 ≡ q → ⊥) → addsTo spot energy q i ≡ 0
+  adds-none : (i q : ℕ) → (getD place i 0 ≡ q → ⊥) → addsTo place energy q i ≡ 0
   unfolding addsTo
-  adds-none i q h = rw (ne-eqb (getD spot i 0) q h)
+  adds-none i q h = rw (ne-eqb (getD place i 0) q h)
 
-  pub added-start : (m : ℕ) → Column (unitEnergy spot energy 0) 0 m 64 (replicate 64 0)
+  pub added-start : (m : ℕ) → Column (unitEnergy place energy 0) 0 m 64 (replicate 64 0)
   unfolding unitEnergy from sumOf sum
   added-start m = record { at = λ q h. blanks 0 64 q; behind = λ q h. blanks 0 64 q; long = length-replicate {A = ℕ} 64 0 }
 
-  module _ (m i p : ℕ) (a : List ℕ) (e : p ≡ getD spot i 0) (c : Column (unitEnergy spot energy i) 0 m 64 a) where
-    pub added-next : p < m → m ≤ 64 → Column (unitEnergy spot energy (i + 1)) 0 m 64 (set a p (getD a p 0 + getD energy i 0))
+  module _ (m i p : ℕ) (a : List ℕ) (e : p ≡ getD place i 0) (c : Column (unitEnergy place energy i) 0 m 64 a) where
+    pub added-next : p < m → m ≤ 64 → Column (unitEnergy place energy (i + 1)) 0 m 64 (set a p (getD a p 0 + getD energy i 0))
     added-next h l = record {
       at = λ q k. by-bool (eqb p q)
           (λ t. let z = eqb-true p q t in
@@ -170,15 +170,15 @@ module _ (spot energy : List ℕ) where
       long = length-set a p (getD a p 0 + getD energy i 0) ∙ c .long;
     }
 
-    pub added-skip : m ≤ p → Column (unitEnergy spot energy (i + 1)) 0 m 64 a
+    pub added-skip : m ≤ p → Column (unitEnergy place energy (i + 1)) 0 m 64 a
     added-skip h = record {
       at = λ q k. omega (arith, c .at q k, energy-next i q, adds-none i q (λ y. absurd (omega arith)));
       behind = c .behind;
       long = c .long;
     }
 
-pub added-end : (spot energy : List ℕ) (i n m : ℕ) (a : List ℕ) → i ≡ n → Column (unitEnergy spot energy i) 0 m 64 a → Column (unitEnergy spot energy n) 0 m 64 a
-added-end spot energy i n m a e c = rw (← e) c
+pub added-end : (place energy : List ℕ) (i n m : ℕ) (a : List ℕ) → i ≡ n → Column (unitEnergy place energy i) 0 m 64 a → Column (unitEnergy place energy n) 0 m 64 a
+added-end place energy i n m a e c = rw (← e) c
 
 -- each is within a bound that grows
 pub bound-next : (a : List ℕ) (p e b : ℕ) → p < length a → e ≤ 99999 → ((q : ℕ) → getD a q 0 ≤ b) → (q : ℕ) → getD (set a p (getD a p 0 + e)) q 0 ≤ b + 99999
@@ -188,13 +188,13 @@ bound-next a p e b l h f q =
     (λ t. let z = eqb-false p q t in omega (arith, f q, getD-set-other a p q (getD a p 0 + e) 0 (λ y. z (sym y))))
 
 -- the energy at a unit's place is the unit's
-placed-energy : (us : List Unit) (m : ℕ) (unit spot energy : List ℕ) (n : ℕ) → Placed us m unit spot n → (p : ℕ) → p < m → unitEnergy spot energy n p ≡ energyAtPlace us unit energy n p
+placed-energy : (us : List Unit) (m : ℕ) (unit place energy : List ℕ) (n : ℕ) → Placed us m unit place n → (p : ℕ) → p < m → unitEnergy place energy n p ≡ energyAtPlace us unit energy n p
 unfolding unitEnergy energyAtPlace sumOf addsTo
-placed-energy us m unit spot energy n g p h =
+placed-energy us m unit place energy n g p h =
     ap sum (map-all _ _ (from-all _ 0 n (λ i a b. ap (λ (t : Bool). cond t (getD energy i 0) 0) (g i p (omega arith) h))))
 
-pub placed-as : (us : List Unit) (m : ℕ) (unit spot energy : List ℕ) (n : ℕ) (r : List ℕ) → Placed us m unit spot n → Column (unitEnergy spot energy n) 0 m 64 r → Column (energyAtPlace us unit energy n) 0 m 64 r
-placed-as us m unit spot energy n r g c = column-as c (λ p h. placed-energy us m unit spot energy n g p h)
+pub placed-as : (us : List Unit) (m : ℕ) (unit place energy : List ℕ) (n : ℕ) (r : List ℕ) → Placed us m unit place n → Column (unitEnergy place energy n) 0 m 64 r → Column (energyAtPlace us unit energy n) 0 m 64 r
+placed-as us m unit place energy n r g c = column-as c (λ p h. placed-energy us m unit place energy n g p h)
 
 -- The energy of a unit
 

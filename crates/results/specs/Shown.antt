@@ -30,7 +30,7 @@ energyAtPlace us unit energy n p = unitEnergy unit energy n (getD us p noUnit .n
 
 -- holders are at the places of their units, among the first m units
 abbrev pub Placed : List Unit → ℕ → List ℕ → List ℕ → ℕ → Type 0
-Placed us m unit spot n = (i p : ℕ) → i < n → p < m → eqb (getD spot i 0) p ≡ eqb (getD unit i 0) (getD us p noUnit .number)
+Placed us m unit place n = (i p : ℕ) → i < n → p < m → eqb (getD place i 0) p ≡ eqb (getD unit i 0) (getD us p noUnit .number)
 
 -- A maximum, by way
 

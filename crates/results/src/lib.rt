@@ -14,15 +14,15 @@ use hour::Figures;
 use hour::Hour;
 use session::Cleared;
 
-// "a unit's matched [..] and executed energy in an hour": of each of the first `enrolled` units, in its place, `spot` being the
+// "a unit's matched [..] and executed energy in an hour": of each of the first `enrolled` units, in its place, `place` being the
 // places of the holders' units.
-fn by_unit(enrolled: usize, n: usize, spot: &[u32; 128], energy: &[u32; 128]) -> [u32; 64]
+fn by_unit(enrolled: usize, n: usize, place: &[u32; 128], energy: &[u32; 128]) -> [u32; 64]
     requires { ⌜ (enrolled ≤ 64) × (n ≤ 128) × ((i : ℕ) → getD (now energy) i 0 ≤ maxEnergy) ⌝ }
-    ensures { λ r. ⌜ Column (unitEnergy (now (spot .entry)) (now (energy .entry)) n) 0 enrolled 64 r ⌝ }
+    ensures { λ r. ⌜ Column (unitEnergy (now (place .entry)) (now (energy .entry)) n) 0 enrolled 64 r ⌝ }
 {
     let mut a = [0u32; 64];
     for i in 0..n {
-        let p = gathering::index(spot[i]);
+        let p = gathering::index(place[i]);
         if enrolled <= p {
             continue;
         }

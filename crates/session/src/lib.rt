@@ -122,7 +122,7 @@ pub struct Opened {
 }
 
 // What a call changes, so that a lent session is changed in place and not copied. A refused call changes nothing: `changed` is
-// false, and the rest is blank.
+// false and the rest blank; closing and clearing give what was there.
 
 // Units and notices: a unit and its notice at a place, the count, all capacities.
 pub struct RegistryChange {

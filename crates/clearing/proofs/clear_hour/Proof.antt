@@ -24,7 +24,7 @@ returns c =
     let a = c .before .before .before .before .before .before .before .before .before .args in
     let g = c .before .before .before .before .before .before .before .hour-at in
     let f = c .before .before .before .before .before .clear in
-    λ hs spots holders t. hour-told (a .s) _ hs (a .k) (g .result) (f .result .figures) (c .kept .result) spots holders (g .ensures .1 (a .s) hs refl refl t) (f .ensures .1 .0) (c .kept .ensures)
+    λ hs unit-places holders t. hour-told (a .s) _ hs (a .k) (g .result) (f .result .figures) (c .kept .result) unit-places holders (g .ensures .1 (a .s) hs refl refl t) (f .ensures .1 .0) (c .kept .ensures)
 
 pub clear-hour-spec : {M : Type 1} → statement M
 clear-hour-spec = tie.close (tie.spec hour-at-requires clear-requires kept-requires returns)

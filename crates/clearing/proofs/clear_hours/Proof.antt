@@ -10,16 +10,16 @@ use Rattle.clearing.proofs.clear_hours.Statement.{statement}
 use Rattle.clearing.proofs.clear_hours.Tie as tie
 
 abbrev Inv-loop : tie.InvT-loop
-Inv-loop s spot d n figures₀ steps₀ k₀ figures steps k = (k ≤ n) × (n ≡ s .hours) × (length figures ≡ 25) × (steps ≤ 4294967295 * k) × HoursAs s k figures steps
+Inv-loop s place d n figures₀ steps₀ k₀ figures steps k = (k ≤ n) × (n ≡ s .hours) × (length figures ≡ 25) × (steps ≤ 4294967295 * k) × HoursAs s k figures steps
 
 abbrev μ-loop : tie.MeasureT-loop
-μ-loop s spot d n figures₀ steps₀ k₀ figures steps k = n - k
+μ-loop s place d n figures₀ steps₀ k₀ figures steps k = n - k
 
-spots-requires : tie.Need-spots-requires Inv-loop μ-loop
-spots-requires c κs = search needs
+unit-places-requires : tie.Need-unit-places-requires Inv-loop μ-loop
+unit-places-requires c κs = search needs
 
 holders-requires : tie.Need-holders-requires Inv-loop μ-loop
-holders-requires c κs = (c .before .before .pre, c .before .spots .ensures)
+holders-requires c κs = (c .before .before .pre, c .before .unit-places .ensures)
 
 day-of-requires : tie.Need-day-of-requires Inv-loop μ-loop
 day-of-requires c κs = search needs
@@ -63,7 +63,7 @@ loop-again c =
       l .inv .1,
       length-set {A = Cleared} (l .figures) (l .k) (h .result .figures) ∙ l .inv .2,
       omega (arith, l .inv .3, c .wide .ensures .1),
-      hours-next (c .before .before .before .before .before .before .before .before .before .before .before .before .before .before .before .before .before .before .before .before .before .before .args .s) (l .k) (l .figures) (l .steps) (c .wide .result) (h .result) (l .inv .4) (h .ensures _ (c .before .before .before .before .before .before .before .before .before .before .before .before .before .before .before .before .before .before .before .before .before .spots .ensures) (c .before .before .before .before .before .before .before .before .before .before .before .before .before .before .before .before .before .before .before .holders .ensures) (c .before .before .before .before .before .before .before .before .before .before .before .before .before .before .before .before .before .before .day-of .ensures)) (c .wide .ensures .0) (omega (arith, t, c .before .before .before .before .before .before .before .before .before .before .before .before .before .before .before .before .before .before .before .before .before .before .pre .hours, l .inv .1)),
+      hours-next (c .before .before .before .before .before .before .before .before .before .before .before .before .before .before .before .before .before .before .before .before .before .before .args .s) (l .k) (l .figures) (l .steps) (c .wide .result) (h .result) (l .inv .4) (h .ensures _ (c .before .before .before .before .before .before .before .before .before .before .before .before .before .before .before .before .before .before .before .before .before .unit-places .ensures) (c .before .before .before .before .before .before .before .before .before .before .before .before .before .before .before .before .before .before .before .holders .ensures) (c .before .before .before .before .before .before .before .before .before .before .before .before .before .before .before .before .before .before .day-of .ensures)) (c .wide .ensures .0) (omega (arith, t, c .before .before .before .before .before .before .before .before .before .before .before .before .before .before .before .before .before .before .before .before .before .before .pre .hours, l .inv .1)),
     )
 
 returns : tie.Need-returns Inv-loop μ-loop
@@ -75,7 +75,7 @@ clear-hours-spec =
     (tie.spec
     Inv-loop
     μ-loop
-    spots-requires
+    unit-places-requires
     holders-requires
     day-of-requires
     no-figures-requires

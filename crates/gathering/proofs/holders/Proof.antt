@@ -9,10 +9,10 @@ use Rattle.gathering.proofs.holders.Statement.{statement}
 use Rattle.gathering.proofs.holders.Tie as tie
 
 abbrev Inv-loop : tie.InvT-loop
-Inv-loop spot units enrolled n found₀ i₀ found i = (i ≤ n) × Column (unitBy units enrolled spot) noUnit i 128 found
+Inv-loop place units enrolled n found₀ i₀ found i = (i ≤ n) × Column (unitBy units enrolled place) noUnit i 128 found
 
 abbrev μ-loop : tie.MeasureT-loop
-μ-loop spot units enrolled n found₀ i₀ found i = n - i
+μ-loop place units enrolled n found₀ i₀ found i = n - i
 
 loop-holds : tie.Need-loop-holds Inv-loop μ-loop
 loop-holds c = (omega arith, column-start _ _ _)

@@ -11,10 +11,10 @@ use Rattle.results.proofs.by_unit.Statement.{statement}
 use Rattle.results.proofs.by_unit.Tie as tie
 
 abbrev Inv-loop : tie.InvT-loop
-Inv-loop enrolled n spot energy a₀ i₀ a i = (i ≤ n) × ((q : ℕ) → getD a q 0 ≤ 99999 * i) × Column (unitEnergy spot energy i) 0 enrolled 64 a
+Inv-loop enrolled n place energy a₀ i₀ a i = (i ≤ n) × ((q : ℕ) → getD a q 0 ≤ 99999 * i) × Column (unitEnergy place energy i) 0 enrolled 64 a
 
 abbrev μ-loop : tie.MeasureT-loop
-μ-loop enrolled n spot energy a₀ i₀ a i = n - i
+μ-loop enrolled n place energy a₀ i₀ a i = n - i
 
 loop-holds : tie.Need-loop-holds Inv-loop μ-loop
 loop-holds c = (omega arith, λ q. omega (arith, blanks {A = ℕ} 0 64 q), added-start _ _ _)

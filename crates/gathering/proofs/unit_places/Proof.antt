@@ -5,8 +5,8 @@ use lib.ListN.{getD}
 use Rattle.gathering.specs.Columns.{Column}
 use Rattle.gathering.proofs.ColumnLaws.{column-start, column-next, column-as, column-end}
 use borrow.Author.Needs.{needs}
-use Rattle.gathering.proofs.spots.Statement.{statement}
-use Rattle.gathering.proofs.spots.Tie as tie
+use Rattle.gathering.proofs.unit_places.Statement.{statement}
+use Rattle.gathering.proofs.unit_places.Tie as tie
 
 abbrev Inv-loop : tie.InvT-loop
 Inv-loop n at found₀ i₀ found i = (i ≤ n) × Column (λ j. getD at j 0) 0 i 128 found
@@ -47,8 +47,8 @@ loop-again c = (omega arith, column-next _ _ _ _ _ _ (c .before .loop .inv .1) (
 returns : tie.Need-returns Inv-loop μ-loop
 returns c = column-as (column-end _ _ _ _ _ _ (c .before .loop .inv .1) (omega arith)) (c .before .before .holders-of .ensures .0)
 
-pub spots-spec : {M : Type 1} → statement M
-spots-spec =
+pub unit-places-spec : {M : Type 1} → statement M
+unit-places-spec =
     tie.close
     (tie.spec
     Inv-loop

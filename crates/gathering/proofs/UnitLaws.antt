@@ -22,7 +22,7 @@ use Rattle.session.specs.Image as I
 use Rattle.session.specs.Parts.{numberIs, placeOf}
 use Rattle.session.proofs.PlaceLaws.{placed, place-first, place-map, getD-map}
 use Rattle.session.proofs.ImageLaws.{units-as, standing-as, enrolled-as}
-use Rattle.gathering.specs.Built.{Spots, Holders}
+use Rattle.gathering.specs.Built.{UnitPlaces, Holders}
 use Rattle.holders.specs.Holders.{holderAt}
 use Rattle.gathering.proofs.ListLaws.{all-places, pairwise-at}
 use Rattle.gathering.proofs.DayLaws.{blank, standing, lodgement-at, holder-at}
@@ -45,19 +45,19 @@ distinct-at us d i j h k e n =
 
 -- the place of a number that is registered is a unit's exactly where the unit has it
 module _ (us : List U.Registered) (n : ℕ) (d : Pairwise (λ r s. r .unit .number ≡ s .unit .number → ⊥) us) (r : U.isRegistered us n ≡ true) where
-  abbrev spot : ℕ
-  spot = placeOf (U.hasNumber n) us
+  abbrev place : ℕ
+  place = placeOf (U.hasNumber n) us
 
-  has-number : getD us spot U.nobody .unit .number ≡ n
+  has-number : getD us place U.nobody .unit .number ≡ n
   unfolding U.isRegistered U.hasNumber
   has-number = eqb-true _ _ (place-passes (U.hasNumber n) U.nobody us r)
 
-  own-place : (p : ℕ) → p < length us → eqb spot p ≡ eqb n (getD us p U.nobody .unit .number)
+  own-place : (p : ℕ) → p < length us → eqb place p ≡ eqb n (getD us p U.nobody .unit .number)
   unfolding U.isRegistered
   own-place p h =
-      by-bool (eqb spot p)
+      by-bool (eqb place p)
       (λ t. rw t (sym (eq-eqb _ _ (sym (ap (λ q. getD us q U.nobody .unit .number) (sym (eqb-true _ _ t)) ∙ has-number)))))
-      (λ t. rw t (sym (ne-eqb _ _ (λ z. distinct-at us d spot p (placed (U.hasNumber n) us r) h (has-number ∙ z) (eqb-false _ _ t)))))
+      (λ t. rw t (sym (ne-eqb _ _ (λ z. distinct-at us d place p (placed (U.hasNumber n) us r) h (has-number ∙ z) (eqb-false _ _ t)))))
 
 module _ (s : Session) (b : B.Book) (e : s ≡ I.image b) (sound : I.Sound b) where
   -- a unit of the session by place
@@ -66,17 +66,17 @@ module _ (s : Session) (b : B.Book) (e : s ≡ I.image b) (sound : I.Sound b) wh
       let l : length (take (s .enrolled) (s .units)) ≡ length (b .units) = ap length (units-as s b e) ∙ length-map (b .units) I.unitOf in
       ap (λ (u : Unit). u .number) (sym (getD-take (s .enrolled) (s .units) p I.noUnit (omega (arith, l, length-take (s .enrolled) (s .units)))) ∙ (ap (λ (us : List Unit). getD us p I.noUnit) (units-as s b e) ∙ getD-map I.unitOf U.nobody I.noUnit (b .units) p h))
 
-  pub spot-placed : (spot : List ℕ) (hs : List Unit) → Spots s spot → Holders s hs → (i p : ℕ) → i < s .standing → p < s .enrolled
-      → eqb (getD spot i 0) p ≡ eqb (getD hs i I.noUnit .number) (getD (s .units) p I.noUnit .number)
+  pub unit-placed : (place : List ℕ) (hs : List Unit) → UnitPlaces s place → Holders s hs → (i p : ℕ) → i < s .standing → p < s .enrolled
+      → eqb (getD place i 0) p ≡ eqb (getD hs i I.noUnit .number) (getD (s .units) p I.noUnit .number)
   unfolding holderAt U.unitOf U.hasNumber
-  spot-placed spot hs c h i p l k =
+  unit-placed place hs c h i p l k =
       let key = standing b i .key .unit in
       let inside : i < length (b .standing) = omega (arith, standing-as s b e) in
       let known : p < length (b .units) = omega (arith, enrolled-as s b e) in
       let registered = RL.all-at i blank (sound .ranges .standing .holders) inside .registered in
-      let place : getD spot i 0 ≡ placeOf (U.hasNumber key) (b .units) =
+      let found : getD place i 0 ≡ placeOf (U.hasNumber key) (b .units) =
       c .at i l ∙ (ap (λ (x : Lodgement). placeOf (numberIs (x .key .unit)) (take (s .enrolled) (s .units))) (lodgement-at s b e i inside)
       ∙ (ap (placeOf (numberIs key)) (units-as s b e) ∙ place-map I.unitOf (numberIs key) (b .units))) in
       let number : getD hs i I.noUnit .number ≡ key =
       ap (λ (u : Unit). u .number) (holder-at s b e hs h i inside) ∙ (ap (λ (r : U.Registered). r .unit .number) (place-first (U.hasNumber key) U.nobody (b .units)) ∙ has-number (b .units) key (sound .ranges .units .distinct) registered) in
-      rw (place, number, unit-at p known) (own-place (b .units) key (sound .ranges .units .distinct) registered p known)
+      rw (found, number, unit-at p known) (own-place (b .units) key (sound .ranges .units .distinct) registered p known)
