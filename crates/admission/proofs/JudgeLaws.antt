@@ -18,8 +18,8 @@ use Rattle.rules.specs.DayBook as D
 use Rattle.rules.proofs.BoolLaws.{by-bool, neither}
 use Rattle.message.specs.View.{fieldsIn}
 use Rattle.message.specs.declared.Fields.{Fields}
-use Rattle.session.specs.Image.{image, keyIn}
-use Rattle.session.specs.Parts.{Within, told, numberIs, placeOf}
+use Rattle.session.specs.Image.{image, keyIn, noUnit}
+use Rattle.session.specs.Parts.{Within, told}
 use Rattle.session.specs.declared.Session.{Session}
 use Rattle.session.specs.declared.Energies.{Energies}
 use Rattle.session.specs.declared.Unit.{Unit}
@@ -31,7 +31,8 @@ use Rattle.session.proofs.ImageLaws.{hours-as, last-as, standing-as, capacities
 use Rattle.loads.specs.Loads.{marked, loadIn, LoadsOf}
 use Rattle.limits.specs.Limits.{judgedIn}
 use Rattle.limits.proofs.NoticeLaws.{judged-by}
-use Rattle.keys.specs.Keys.{keyFor, keyPlace, Enrolled}
+use Rattle.keys.specs.Keys.{keyFor, keyPlace, Holds}
+use Rattle.keys.specs.declared.Holder.{Holder}
 use Rattle.keys.proofs.KeyLaws.{stands-at}
 use Rattle.keys.proofs.TakenLaws.{left-in, left-most}
 use Rattle.beside.specs.Beside.{besideMarks}
@@ -117,20 +118,21 @@ module _ (s : Session) (m : Fields) where
   abbrev loadOf : List Bool → ℕ → ℕ
   loadOf marks = loadIn (m .energies) marks (take (s .standing) (s .energies))
 
-  -- judged by what stands at the unit's place, with those marked
-  pub limits-judged : (p : ℕ) (u : Unit) (x : Notice) (k : Key) (marks : List Bool) {j : Judged}
-      → p ≡ placeOf (numberIs (m .unit)) (take (s .enrolled) (s .units)) → p < s .enrolled
+  -- judged by the unit and what stands at its place, with those marked
+  pub limits-judged : (holder : Holder) (x : Notice) (k : Key) (marks : List Bool) {j : Judged}
+      → Holds (s .units) (s .enrolled) (m .unit) holder → holder .at < s .enrolled
       → k ≡ keyFor m → marks ≡ besideMarks (take (s .standing) (s .lodgements)) k
-      → j ≡ judgedIn (getD (s .units) p u) (getD (s .notices) p x) (s .capacities) (m .default) (s .hours) (m .energies) (loadOf marks)
+      → j ≡ judgedIn (holder .unit) (getD (s .notices) (holder .at) x) (s .capacities) (m .default) (s .hours) (m .energies) (loadOf marks)
       → JudgesLimits s (fieldsIn m) j
   unfolding lastRows
-  limits-judged p u x k marks at in-list q r t b e =
-      let holder = U.unitOf (b .units) (m .unit) in
+  limits-judged holder x k marks held in-list q r t b e =
+      let registered = U.unitOf (b .units) (m .unit) in
+      let p = holder .at in
       let own : marks ≡ besideMarks (take (s .standing) (s .lodgements)) (keyFor m) = r ∙ ap (besideMarks (take (s .standing) (s .lodgements))) q in
       t
-      ∙ (judged-by holder (b .capacities) (s .hours) (m .energies) (loadOf marks) _ _ _ (m .default) (L.judgedAt (b .standing) (fieldsIn m))
-      (unit-as s b e (m .unit) p at in-list u) (notice-as s b e (m .unit) p at in-list x) (capacities-as s b e) (λ h low high. ap (λ ms. loadOf ms h) own ∙ load-as s b e m h)
-      ∙ ap (λ H. told (firstRow (L.limitRows H (m .energies) (L.judgedAt (b .standing) (fieldsIn m)) (L.judgedBy (b .capacities) holder (m .default))))) (sym (hours-as s b e)))
+      ∙ (judged-by registered (b .capacities) (s .hours) (m .energies) (loadOf marks) _ _ _ (m .default) (L.judgedAt (b .standing) (fieldsIn m))
+      (held .unit in-list ∙ unit-as s b e (m .unit) p (held .place) in-list noUnit) (notice-as s b e (m .unit) p (held .place) in-list x) (capacities-as s b e) (λ h low high. ap (λ ms. loadOf ms h) own ∙ load-as s b e m h)
+      ∙ ap (λ H. told (firstRow (L.limitRows H (m .energies) (L.judgedAt (b .standing) (fieldsIn m)) (L.judgedBy (b .capacities) registered (m .default))))) (sym (hours-as s b e)))
 
 -- Rows 4, 5, 6, 9 and the limits
 
@@ -163,5 +165,6 @@ module _ (s : Session) (m : Fields) where
       unfolding fieldRows row firstRow L.keyOf
       fields-limits x y j l b e = rw (hours-as s b e, h, f, held b e, x, full-as s (keyFor m) p at b e, y) (l b e)
 
-  pub enrolled-for : (k : Key) → k ≡ keyFor m → Enrolled s (k .unit) → Enrolled s (m .unit)
-  enrolled-for k q h = rw (ap (λ (x : Key). x .unit) q) at h
+-- the unit of a message is that of its key
+pub held-for : (units : List Unit) (n : ℕ) (h : Holder) (m : Fields) (k : Key) → k ≡ keyFor m → Holds units n (m .unit) h → Holds units n (k .unit) h
+held-for units n h m k q held = rw (ap (λ (x : Key). x .unit) q) held

@@ -1,17 +1,18 @@
 // What a message of the right form is refused for: 4, 5, 6, 9, and the limits 10 to 12.
 ghost use mathlib.Core.Path.{_≡_};
 ghost use mathlib.Core.Bool.{_||_};
-ghost use Prim.Native.Nat.{_≤_};
-ghost use lib.ListN.{take, length};
-ghost use Rattle.rules.specs.Lists.{from};
+ghost use Prim.Native.Nat.{_≤_, _<_};
+ghost use lib.ListN.{take};
 ghost use Rattle.rules.specs.Message.{badMap};
 ghost use Rattle.rules.specs.Lodging.{namesBeyond};
 ghost use Rattle.message.specs.View.{fieldsIn};
 ghost use Rattle.session.specs.Parts.{Within};
-ghost use Rattle.keys.specs.Keys.{keyFor, keyPlace, Enrolled};
-ghost use Rattle.loads.specs.Loads.{marked, LoadsOf};
+ghost use Rattle.keys.specs.Keys.{keyFor, keyPlace, Holds};
+ghost use Rattle.loads.specs.Loads.{loadIn};
+ghost use Rattle.limits.specs.Limits.{judgedIn};
 ghost use Rattle.admission.specs.Judging.{Room, fullAt, JudgesFields, JudgesLimits};
 use beside::beside_marks;
+use keys::Holder;
 use keys::bad_holder;
 use keys::key_of;
 use limits::judge_energy;
@@ -24,9 +25,10 @@ use session::FULL;
 use session::HOUR;
 use session::Judged;
 use session::NO_UNIT;
+use session::Notice;
 use session::RANGE;
 use session::Session;
-use session::units::place;
+use session::Unit;
 
 // The map names an hour beyond H: hour 25 is its lowest bit.
 fn names_beyond(hours: u32, map: u32) -> bool
@@ -60,40 +62,35 @@ fn is_full(n: usize, last: u32, at: usize) -> bool
     n <= at
 }
 
-// The energies by hour of those that are counted, each at its place. Mostly none is counted, and then none is looked at: the
-// session's energies would be copied for nothing.
-fn others_loads(s: Session, counted: &[bool; 128], count: usize) -> [u32; 3200]
-    requires { ⌜ (s .standing ≤ 128) × (count ≡ length (marked (now counted) (from 0 (s .standing)))) ⌝ }
-    ensures { λ r. ⌜ (s .standing ≤ length (s .energies)) × LoadsOf (now (counted .entry)) (take (s .standing) (s .energies)) r ⌝ }
+// Rows 10 to 12 by a unit and its notice, with those counted beside. Mostly there are none, and then the session's energies, which
+// would be copied, are not looked at.
+fn judge_with(s: Session, m: Fields, unit: Unit, notice: Notice, counted: &[bool; 128]) -> Judged
+    requires { ⌜ Within s ⌝ }
+    ensures { λ r. ⌜ r ≡ judgedIn unit notice (s .capacities) (m .default) (s .hours) (m .energies) (loadIn (m .energies) (now (counted .entry)) (take (s .standing) (s .energies))) ⌝ }
 {
+    let own = m.energies;
+    let capacities = s.capacities;
+    let n = s.standing;
+    let hours = s.hours as usize;
+    let found = counted_places(counted, n);
+    let count = found.count;
+    let at = found.at;
     if count == 0 {
-        let none = [0u32; 3200];
-        return none;
+        let none = [0u32; 1];
+        return judge_energy(
+            unit,
+            notice,
+            capacities,
+            m.default,
+            own,
+            &none,
+            &at,
+            count,
+            hours,
+        );
     }
     let energies = s.energies;
-    loads_of(counted, s.standing, energies)
-}
-
-// Rows 10 to 12, for a unit that is registered.
-fn judge_limits(s: Session, m: Fields) -> Judged
-    requires { ⌜ Within s × Enrolled s (m .unit) ⌝ }
-    ensures { λ r. ⌜ JudgesLimits s (fieldsIn m) r ⌝ }
-{
-    let units = s.units;
-    let notices = s.notices;
-    let at = place(units, s.enrolled, m.unit);
-    let unit = units[at];
-    let notice = notices[at];
-    let capacities = s.capacities;
-    let lodgements = s.lodgements;
-    let key = key_of(m);
-    let n = s.standing;
-    let counted = beside_marks(lodgements, n, key);
-    let own = m.energies;
-    let found = counted_places(&counted, n);
-    let loads = others_loads(s, &counted, found.count);
-    let others = found.at;
-    let hours = s.hours as usize;
+    let loads = loads_of(counted, n, energies);
     judge_energy(
         unit,
         notice,
@@ -101,15 +98,30 @@ fn judge_limits(s: Session, m: Fields) -> Judged
         m.default,
         own,
         &loads,
-        &others,
-        found.count,
+        &at,
+        count,
         hours,
     )
 }
 
-// The refusal that applies to a message's fields, in the table's order; `at` is the place of the key's lodgement.
-pub fn judge_fields(s: Session, m: Fields, at: usize) -> Judged
-    requires { ⌜ Within s × (at ≡ keyPlace s (keyFor m)) ⌝ }
+// Rows 10 to 12, for a unit that is registered.
+fn judge_limits(s: Session, m: Fields, holder: Holder) -> Judged
+    requires { ⌜ Within s × Holds (s .units) (s .enrolled) (m .unit) holder × (holder .at < s .enrolled) ⌝ }
+    ensures { λ r. ⌜ JudgesLimits s (fieldsIn m) r ⌝ }
+{
+    let unit = holder.unit;
+    let notices = s.notices;
+    let at = holder.at;
+    let notice = notices[at];
+    let lodgements = s.lodgements;
+    let key = key_of(m);
+    let counted = beside_marks(lodgements, s.standing, key);
+    judge_with(s, m, unit, notice, &counted)
+}
+
+// The refusal that applies to a message's fields, in the table's order; `at` is the place of the key's lodgement, `holder` its unit.
+pub fn judge_fields(s: Session, m: Fields, at: usize, holder: Holder) -> Judged
+    requires { ⌜ Within s × (at ≡ keyPlace s (keyFor m)) × Holds (s .units) (s .enrolled) (m .unit) holder ⌝ }
     ensures { λ r. ⌜ JudgesFields s (fieldsIn m) r × (r ≡ Judged.Clear → Room s (keyFor m)) ⌝ }
 {
     if bad_hours(s.hours, m.map) {
@@ -119,11 +131,11 @@ pub fn judge_fields(s: Session, m: Fields, at: usize) -> Judged
         return Judged::No(RANGE, 0);
     }
     let key = key_of(m);
-    if bad_holder(s, key) {
+    if bad_holder(s, key, holder) {
         return Judged::No(NO_UNIT, 0);
     }
     if is_full(s.standing, s.last, at) {
         return Judged::No(FULL, 0);
     }
-    judge_limits(s, m)
+    judge_limits(s, m, holder)
 }

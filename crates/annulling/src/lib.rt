@@ -10,6 +10,7 @@ ghost use Rattle.keys.specs.Keys.{keyPlace};
 ghost use Rattle.annulling.specs.Annulling.{struckAt};
 use keys::bad_holder;
 use keys::bad_key;
+use keys::holder_of;
 use keys::key_place;
 use keys::left_of;
 use session::Answer;
@@ -41,7 +42,9 @@ fn judge_annul(s: Session, at: usize, key: Key) -> Judged
     if bad_key(key) {
         return Judged::No(RANGE, 0);
     }
-    if bad_holder(s, key) {
+    let units = s.units;
+    let holder = holder_of(units, s.enrolled, key.unit);
+    if bad_holder(s, key, holder) {
         return Judged::No(NO_UNIT, 0);
     }
     if s.standing <= at {

@@ -20,7 +20,7 @@ use Rattle.session.specs.declared.Session.{Session}
 use Rattle.session.proofs.LaidLaws.{any-map}
 use Rattle.session.proofs.PlaceLaws.{place-any}
 use Rattle.session.proofs.ImageLaws.{lodgements-as, registered-at, unit-as}
-use Rattle.keys.specs.Keys.{ofKey, keyPlace, hiding, Enrolled}
+use Rattle.keys.specs.Keys.{ofKey, keyPlace, hiding}
 
 module _ (s : Session) (b : B.Book) (e : s ≡ image b) where
   -- a lodgement of the key stands
@@ -56,13 +56,3 @@ module _ (s : Session) (b : B.Book) (e : s ≡ image b) where
     pub holds-execution : p < s .enrolled → k .execution ≡ true → eqb (getD (s .units) p noUnit .border) 0 ≡ D.badHolder b (keyIn k)
     unfolding D.badHolder D.unregistered L.domesticExecution U.domestic
     holds-execution h x = rw (registered-at s b e (k .unit) p at, lt-ltb p (s .enrolled) h, x, unit-as s b e (k .unit) p at h noUnit)
-
--- the unit of a key that passes row 6 is enrolled
-module _ (s : Session) (n p : ℕ) (at : p ≡ placeOf (numberIs n) (take (s .enrolled) (s .units))) where
-  pub enrolled-at : p < s .enrolled → Enrolled s n
-  unfolding Enrolled
-  enrolled-at h = rw at at h
-
-  pub place-enrolled : Enrolled s n → p < s .enrolled
-  unfolding Enrolled
-  place-enrolled h = rw at h

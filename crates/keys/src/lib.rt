@@ -1,7 +1,7 @@
 // Keys: a message's key, which lodgements are of a key, which hide those of it, and what a key is refused for.
 ghost use mathlib.Core.Path.{_≡_};
 ghost use mathlib.Core.Bool.{false};
-ghost use Prim.Native.Nat.{_≤_};
+ghost use Prim.Native.Nat.{_≤_, _<_};
 ghost use lib.ListN.{take};
 ghost use Rattle.rules.specs.Lists.{any};
 ghost use Rattle.rules.specs.Lodging.{sameButDefault, sameKey, hides, badKey};
@@ -9,14 +9,15 @@ ghost use Rattle.rules.specs.Book.{Book};
 ghost use Rattle.rules.specs.DayBook.{badHolder};
 ghost use Rattle.session.specs.Image.{image, keyIn};
 ghost use Rattle.session.specs.Parts.{Within, placeOf};
-ghost use Rattle.keys.specs.Keys.{keyFor, ofKey, leftOf, hiding, Enrolled};
+ghost use Rattle.keys.specs.Keys.{keyFor, ofKey, leftOf, hiding, Holds};
 use message::Fields;
 use message::judge::bad_contract;
 use session::Key;
 use session::Lodgement;
 use session::Session;
+use session::Unit;
+use session::no_unit;
 use session::units::bad_number;
-use session::units::place;
 
 // The key of a message.
 pub fn key_of(m: Fields) -> Key
@@ -116,20 +117,43 @@ pub fn bad_key(key: Key) -> bool
     bad_contract(key.execution, key.contract)
 }
 
-// Row 6, of a key: "unregistered, or domestic for an execution".
-pub fn bad_holder(s: Session, key: Key) -> bool
-    requires { ⌜ Within s ⌝ }
-    ensures { λ r. ⌜ ((b : Book) → s ≡ image b → r ≡ badHolder b (keyIn key)) × (r ≡ false → Enrolled s (key .unit)) ⌝ }
+// The unit of a number, found once for all that ask about it: its place, behind the last where there is none, and what stands there.
+pub struct Holder {
+    pub at: usize,
+    pub unit: Unit,
+}
+
+// Of the first n units.
+pub fn holder_of(units: [Unit; 64], n: usize, number: u32) -> Holder
+    requires { ⌜ n ≤ 64 ⌝ }
+    ensures { λ r. ⌜ Holds units n number r ⌝ }
 {
-    let units = s.units;
-    let n = s.enrolled;
-    let at = place(units, n, key.unit);
-    if n <= at {
+    for i in 0..n {
+        let u = units[i];
+        if u.number == number {
+            return Holder {
+                at: i,
+                unit: u,
+            };
+        }
+    }
+    let unit = no_unit();
+    Holder {
+        at: n,
+        unit: unit,
+    }
+}
+
+// Row 6, of a key, by its unit: "unregistered, or domestic for an execution".
+pub fn bad_holder(s: Session, key: Key, holder: Holder) -> bool
+    requires { ⌜ Holds (s .units) (s .enrolled) (key .unit) holder ⌝ }
+    ensures { λ r. ⌜ ((b : Book) → s ≡ image b → r ≡ badHolder b (keyIn key)) × (r ≡ false → holder .at < s .enrolled) ⌝ }
+{
+    if s.enrolled <= holder.at {
         return true;
     }
     if key.execution {
-        let u = units[at];
-        return u.border == 0;
+        return holder.unit.border == 0;
     }
     false
 }

@@ -65,16 +65,17 @@ pub fn loads_of(wanted: &[bool; 128], n: usize, energies: [Energies; 128]) -> [u
 }
 
 // "the lowest hour in which that limit is passed", 0 where there is none: in an hour that is named, by a lodgement's own
-// energy and that of the others that are counted, at `count` places. The sum only grows, so it is left where it first passes.
+// energy and that of the others that are counted, at `count` places; where there are none, no loads need be there. The sum only grows,
+// so it is left where it first passes.
 pub fn lowest_hour(
     own: [u32; 25],
-    loads: &[u32; 3200],
+    loads: &[u32],
     at: &[usize; 128],
     count: usize,
     hours: usize,
     limit: [u64; 25],
 ) -> u32
-    requires { ⌜ (count ≤ 128) × (hours ≤ 25) × (length (now at) ≡ 128) × ((l : ℕ) → l < count → getD (now at) l 0 < 128) ⌝ }
+    requires { ⌜ (count ≤ 128) × (hours ≤ 25) × (length (now at) ≡ 128) × ((l : ℕ) → l < count → getD (now at) l 0 < 128) × (0 < count → 3200 ≤ length (now loads)) ⌝ }
     ensures { λ r. ⌜ r ≡ lowest (passedAt own (loadBy own (now (loads .entry)) (take count (now (at .entry)))) (laid limit)) hours ⌝ }
 {
     let mut passed: u32 = 0;

@@ -5,6 +5,7 @@ ghost use Rattle.session.specs.Steps.{Met};
 use crate::entering::enter;
 use crate::entering::replaced_place;
 use admission::judge_fields;
+use keys::holder_of;
 use reader::bad_form;
 use reader::fields_of;
 use session::GATE;
@@ -33,7 +34,9 @@ pub fn lodge_change(s: Session, message: &[u8]) -> StandingTurn
     }
     let m = fields_of(message);
     let at = replaced_place(s, m);
-    let j = judge_fields(s, m, at);
+    let units = s.units;
+    let holder = holder_of(units, s.enrolled, m.unit);
+    let j = judge_fields(s, m, at, holder);
     match j {
         Judged::No(row, hour) => standing_refused(s, row, hour),
         Judged::Clear => enter(s, m, at),

@@ -188,7 +188,7 @@ pub const SECOND: u32 = 8;
 pub const FULL: u32 = 9;
 
 // What stands in an empty place.
-fn no_unit() -> Unit
+pub fn no_unit() -> Unit
     ensures { λ r. ⌜ r ≡ noUnit ⌝ }
 {
     Unit {

@@ -1,6 +1,6 @@
 use mathlib.Core.Path.{sym, _∙_}
 use Rattle.session.proofs.StepLaws.{not-clear}
-use Rattle.admission.proofs.JudgeLaws.{fields-4, fields-5, fields-6, fields-9, fields-limits, room, enrolled-for}
+use Rattle.admission.proofs.JudgeLaws.{fields-4, fields-5, fields-6, fields-9, fields-limits, room, held-for}
 use Rattle.keys.specs.Keys.{keyFor}
 use borrow.Author.Needs.{needs}
 use Rattle.admission.proofs.judge_fields.Statement.{statement}
@@ -22,7 +22,7 @@ key-of-requires : tie.Need-key-of-requires
 key-of-requires c κs = search needs
 
 bad-holder-requires : tie.Need-bad-holder-requires
-bad-holder-requires c κs = search needs
+bad-holder-requires c κs = held-for _ _ _ (c .before .before .before .before .before .args .m) _ (c .key-of .ensures) (c .before .before .before .before .before .pre .2)
 
 returns-3 : tie.Need-returns-3
 returns-3 c = (fields-6 _ _ _ (c .before .before .key-of .ensures) (sym (c .before .before .before .before .before .before .bad-hours .ensures) ∙ c .before .before .before .before .before .if1 .left) (sym (c .before .before .before .before .bad-fields .ensures) ∙ c .before .before .before .if2 .left) _ (c .before .bad-holder .ensures .0) (c .if3 .taken), not-clear _ _)
@@ -34,7 +34,7 @@ returns-4 : tie.Need-returns-4
 returns-4 c = (fields-9 _ _ _ (c .before .before .before .before .key-of .ensures) (sym (c .before .before .before .before .before .before .before .before .bad-hours .ensures) ∙ c .before .before .before .before .before .before .before .if1 .left) (sym (c .before .before .before .before .before .before .bad-fields .ensures) ∙ c .before .before .before .before .before .if2 .left) _ (c .before .before .before .bad-holder .ensures .0) _ (c .before .before .before .before .before .before .before .before .before .pre .1) (c .before .before .if3 .left) (sym (c .before .is-full .ensures) ∙ c .if4 .taken), not-clear _ _)
 
 judge-limits-requires : tie.Need-judge-limits-requires
-judge-limits-requires c κs = (c .before .before .before .before .before .before .before .before .before .pre .0, enrolled-for _ (c .before .before .before .before .before .before .before .before .before .args .m) _ (c .before .before .before .before .key-of .ensures) (c .before .before .before .bad-holder .ensures .1 (c .before .before .if3 .left)))
+judge-limits-requires c κs = (c .before .before .before .before .before .before .before .before .before .pre .0, c .before .before .before .before .before .before .before .before .before .pre .2, c .before .before .before .bad-holder .ensures .1 (c .before .before .if3 .left))
 
 returns-5 : tie.Need-returns-5
 returns-5 c = (

@@ -1,28 +1,24 @@
+use mathlib.Core.Path.{_≡_, ap, _∙_}
 use mathlib.Core.Bool.{true≢false}
 use native.Mathlib.Omega.{arith}
-use Rattle.keys.proofs.KeyLaws.{no-holder, holds-offer, holds-execution, enrolled-at}
-use borrow.Author.Needs.{needs}
+use lib.Dec.{eqb}
+use Rattle.session.specs.declared.Unit.{Unit}
+use Rattle.keys.proofs.KeyLaws.{no-holder, holds-offer, holds-execution}
 use Rattle.keys.proofs.bad_holder.Statement.{statement}
 use Rattle.keys.proofs.bad_holder.Tie as tie
 
-place-requires : tie.Need-place-requires
-place-requires c κs = search needs
-
 returns : tie.Need-returns
-returns c = (λ b e. no-holder _ b e _ _ (c .before .place .ensures .0) (omega arith), λ q. absurd (true≢false q))
-
-mul-u : tie.Need-mul-u
-mul-u c = search needs
-
-array-copy-out-u : tie.Need-array-copy-out-u
-array-copy-out-u c = search needs
+returns c = (λ b e. no-holder _ b e _ _ (c .before .before .before .pre .place) (omega arith), λ q. absurd (true≢false q))
 
 returns-2 : tie.Need-returns-2
-returns-2 c = (λ b e. holds-execution _ b e _ _ (c .before .before .before .before .place .ensures .0) (omega arith) (c .before .before .if2 .taken), λ q. enrolled-at _ _ _ (c .before .before .before .before .place .ensures .0) (omega arith))
+returns-2 c =
+    let held = c .before .before .before .before .before .pre in (
+      λ b e. ap (λ (u : Unit). eqb (u .border) 0) (held .unit (omega arith)) ∙ holds-execution _ b e _ _ (held .place) (omega arith) (c .before .if2 .taken),
+      λ q. omega arith,
+    )
 
 returns-3 : tie.Need-returns-3
-returns-3 c = (λ b e. holds-offer _ b e _ _ (c .before .before .place .ensures .0) (omega arith) (c .if2 .left), λ q. enrolled-at _ _ _ (c .before .before .place .ensures .0) (omega arith))
+returns-3 c = (λ b e. holds-offer _ b e _ _ (c .before .before .before .before .pre .place) (omega arith) (c .if2 .left), λ q. omega arith)
 
 pub bad-holder-spec : {M : Type 1} → statement M
-bad-holder-spec =
-    tie.close (tie.spec place-requires returns mul-u array-copy-out-u returns-2 returns-3)
+bad-holder-spec = tie.close (tie.spec returns returns-2 returns-3)

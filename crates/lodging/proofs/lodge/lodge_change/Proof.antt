@@ -37,8 +37,11 @@ fields-of-requires c κs = sym (c .before .bad-form .ensures) ∙ c .if3 .left
 replaced-place-requires : tie.Need-replaced-place-requires
 replaced-place-requires c κs = guarded _ (sym (c .before .before .before .before .before .sound .ensures) ∙ not-false _ (c .before .before .before .before .if1 .left))
 
+holder-of-requires : tie.Need-holder-of-requires
+holder-of-requires c κs = guarded (c .before .before .before .before .before .before .before .before .before .args .s) (sym (c .before .before .before .before .before .before .before .sound .ensures) ∙ not-false _ (c .before .before .before .before .before .before .if1 .left)) .enrolled
+
 judge-fields-requires : tie.Need-judge-fields-requires
-judge-fields-requires c κs = (guarded _ (sym (c .before .before .before .before .before .before .sound .ensures) ∙ not-false _ (c .before .before .before .before .before .if1 .left)), c .replaced-place .ensures .0)
+judge-fields-requires c κs = (guarded _ (sym (c .before .before .before .before .before .before .before .before .sound .ensures) ∙ not-false _ (c .before .before .before .before .before .before .before .if1 .left)), c .before .before .replaced-place .ensures .0, c .holder-of .ensures)
 
 enum-known-j : tie.Need-enum-known-j
 enum-known-j c = search needs
@@ -50,13 +53,13 @@ enum-told : tie.Need-enum-told
 enum-told c = search needs
 
 enter-requires : tie.Need-enter-requires
-enter-requires c κs = (c .before .before .judge-fields .ensures .1 (c .enum-told .given .1), c .before .before .before .replaced-place .ensures .0, c .before .before .before .replaced-place .ensures .1)
+enter-requires c κs = (c .before .before .judge-fields .ensures .1 (c .enum-told .given .1), c .before .before .before .before .before .replaced-place .ensures .0, c .before .before .before .before .before .replaced-place .ensures .1)
 
 returns-4 : tie.Need-returns-4
-returns-4 c = (out-refused _ _ _ _ _ (c .standing-refused4 .ensures .0) (lodge-judged _ _ _ (c .before .before .before .before .before .before .fields-of .ensures) (c .before .before .before .before .before .before .before .before .before .if2 .left) (sym (c .before .before .before .before .before .before .before .before .bad-form .ensures) ∙ c .before .before .before .before .before .before .before .if3 .left) _ (λ b e. sym (c .before .before .j .given .1) ∙ c .before .before .before .before .judge-fields .ensures .0 b e)), c .standing-refused4 .ensures .1)
+returns-4 c = (out-refused _ _ _ _ _ (c .standing-refused4 .ensures .0) (lodge-judged _ _ _ (c .before .before .before .before .before .before .before .before .fields-of .ensures) (c .before .before .before .before .before .before .before .before .before .before .before .if2 .left) (sym (c .before .before .before .before .before .before .before .before .before .before .bad-form .ensures) ∙ c .before .before .before .before .before .before .before .before .before .if3 .left) _ (λ b e. sym (c .before .before .j .given .1) ∙ c .before .before .before .before .judge-fields .ensures .0 b e)), c .standing-refused4 .ensures .1)
 
 returns-5 : tie.Need-returns-5
-returns-5 c = (out-entered _ _ _ (lodge-judged _ _ _ (c .before .before .before .before .before .fields-of .ensures) (c .before .before .before .before .before .before .before .before .if2 .left) (sym (c .before .before .before .before .before .before .before .bad-form .ensures) ∙ c .before .before .before .before .before .before .if3 .left) _ (λ b e. sym (c .before .enum-told .given .1) ∙ c .before .before .before .judge-fields .ensures .0 b e)) (lodge-entered _ _ _ (c .before .before .before .before .before .fields-of .ensures) _ (c .enter .ensures .0)), c .enter .ensures .1)
+returns-5 c = (out-entered _ _ _ (lodge-judged _ _ _ (c .before .before .before .before .before .before .before .fields-of .ensures) (c .before .before .before .before .before .before .before .before .before .before .if2 .left) (sym (c .before .before .before .before .before .before .before .before .before .bad-form .ensures) ∙ c .before .before .before .before .before .before .before .before .if3 .left) _ (λ b e. sym (c .before .enum-told .given .1) ∙ c .before .before .before .judge-fields .ensures .0 b e)) (lodge-entered _ _ _ (c .before .before .before .before .before .before .before .fields-of .ensures) _ (c .enter .ensures .0)), c .enter .ensures .1)
 
 pub lodge-change-spec : {M : Type 1} → statement M
 lodge-change-spec =
@@ -72,6 +75,7 @@ lodge-change-spec =
     returns-3
     fields-of-requires
     replaced-place-requires
+    holder-of-requires
     judge-fields-requires
     enum-known-j
     standing-refused-requires-4
