@@ -8,7 +8,7 @@ use native.Mathlib.Omega.{arith}
 use lib.ListN.{take, getD, length}
 use lib.Seq.{length-take-le}
 use borrow.Author.Tests.{leb-false, ltb-true, ltb-false, le-leb, lt-leb}
-use Rattle.rules.specs.Lists.{from}
+use Rattle.rules.specs.Lists.{any, sum, sumOf, hourly}
 use Rattle.rules.specs.Refusals.{row, firstRow}
 use Rattle.rules.specs.Units as U
 use Rattle.rules.specs.Message.{badMap, badFields}
@@ -28,15 +28,15 @@ use Rattle.session.specs.declared.Key.{Key}
 use Rattle.session.specs.declared.Judged.{Judged}
 use Rattle.session.specs.declared.Judged.the-variants.{No}
 use Rattle.session.proofs.ImageLaws.{hours-as, last-as, standing-as, capacities-as, unit-as, notice-as}
-use Rattle.loads.specs.Loads.{marked, loadIn, LoadsOf}
+use Rattle.loads.specs.Loads.{loadIn, loadBy}
 use Rattle.limits.specs.Limits.{judgedIn}
 use Rattle.limits.proofs.NoticeLaws.{judged-by}
 use Rattle.keys.specs.Keys.{keyFor, keyPlace, Holds}
 use Rattle.keys.specs.declared.Holder.{Holder}
 use Rattle.keys.proofs.KeyLaws.{stands-at}
 use Rattle.keys.proofs.TakenLaws.{left-in, left-most}
-use Rattle.beside.specs.Beside.{besideMarks}
-use Rattle.beside.proofs.BesideLaws.{load-as}
+use Rattle.beside.specs.Beside.{same, besideMarks}
+use Rattle.beside.proofs.BesideLaws.{none-marked, load-as}
 use Rattle.admission.specs.Judging.{Room, fullAt, lastRows, fieldRows, JudgesFields, JudgesLimits}
 
 -- Row 9
@@ -93,26 +93,16 @@ module _ (s : Session) (k : Key) (p : ℕ) (at : p ≡ keyPlace s k) where
       by-bool (leb 128 (s .standing)) (λ t. room-key w (leb-false (s .standing) p (rw t at (parts .0))) number)
       (λ t. room-free w (leb-false 128 (s .standing) t) number)
 
--- Where none is counted, any array has the energies of those that are
-
-none-marked : (bs : List Bool) (i n l : ℕ) → length (marked bs (from i n)) ≡ 0 → l < n → getD bs l false ≡ true → ⊥
-unfolding marked from
-none-marked [] i n l e h t = true≢false (sym t)
-none-marked (b ∷ bs) i zero l e h t = omega arith
-none-marked (true ∷ bs) i (suc n) l e h t = omega arith
-none-marked (false ∷ bs) i (suc n) zero e h t = true≢false (sym t)
-none-marked (false ∷ bs) i (suc n) (suc l) e h t = none-marked bs (suc i) n l e (omega arith) t
-
-module _ (bs : List Bool) (n : ℕ) (es : List Energies) where
-  pub loads-none : (loads : List ℕ) → n ≤ length es → length (marked bs (from 0 n)) ≡ 0 → LoadsOf bs (take n es) loads
-  unfolding LoadsOf
-  loads-none loads b e l h i t m = absurd (none-marked bs 0 n l e (omega (arith, length-take-le n es b)) t)
-
--- as many are counted as places are found
-pub places-counted : (count n : ℕ) (ps : List ℕ) (bs : List Bool) → count ≤ n → n ≤ 128 → length ps ≡ 128 → take count ps ≡ marked bs (from 0 n) → count ≡ length (marked bs (from 0 n))
-places-counted count n ps bs h m k e = rw (← e) (sym (length-take-le count ps (omega arith)))
-
 -- The limits
+
+-- with no others a lodgement's load is its own energy
+pub load-alone : (own loads ps : List ℕ) (h : ℕ) → loadBy own loads (take 0 ps) h ≡ hourly own h
+unfolding loadBy sumOf sum
+load-alone own loads ps h = omega arith
+
+pub load-unmarked : (own : List ℕ) (marks : List Bool) (es : List Energies) (h : ℕ) → any same marks ≡ false → hourly own h ≡ loadIn own marks es h
+unfolding loadIn sumOf sum
+load-unmarked own marks es h e = rw (none-marked marks es e) (omega arith)
 
 module _ (s : Session) (m : Fields) where
   abbrev loadOf : List Bool → ℕ → ℕ

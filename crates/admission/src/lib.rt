@@ -3,6 +3,7 @@ ghost use mathlib.Core.Path.{_≡_};
 ghost use mathlib.Core.Bool.{_||_};
 ghost use Prim.Native.Nat.{_≤_, _<_};
 ghost use lib.ListN.{take};
+ghost use Rattle.rules.specs.Lists.{hourly};
 ghost use Rattle.rules.specs.Message.{badMap};
 ghost use Rattle.rules.specs.Lodging.{namesBeyond};
 ghost use Rattle.message.specs.View.{fieldsIn};
@@ -62,35 +63,41 @@ fn is_full(n: usize, last: u32, at: usize) -> bool
     n <= at
 }
 
-// Rows 10 to 12 by a unit and its notice, with those counted beside. Mostly there are none, and then the session's energies, which
-// would be copied, are not looked at.
-fn judge_with(s: Session, m: Fields, unit: Unit, notice: Notice, counted: &[bool; 128]) -> Judged
+// Rows 10 to 12 by a unit and its notice, where no other lodgement is counted.
+fn judge_alone(s: Session, m: Fields, unit: Unit, notice: Notice) -> Judged
+    requires { ⌜ s .hours ≤ 25 ⌝ }
+    ensures { λ r. ⌜ r ≡ judgedIn unit notice (s .capacities) (m .default) (s .hours) (m .energies) (hourly (m .energies)) ⌝ }
+{
+    let own = m.energies;
+    let capacities = s.capacities;
+    let hours = s.hours as usize;
+    let none = [0u32; 1];
+    let nobody = [0usize; 1];
+    judge_energy(
+        unit,
+        notice,
+        capacities,
+        m.default,
+        own,
+        &none,
+        &nobody,
+        0,
+        hours,
+    )
+}
+
+// The same with the energies of those that are marked.
+fn judge_beside(s: Session, m: Fields, unit: Unit, notice: Notice, marks: &[bool; 128]) -> Judged
     requires { ⌜ Within s ⌝ }
-    ensures { λ r. ⌜ r ≡ judgedIn unit notice (s .capacities) (m .default) (s .hours) (m .energies) (loadIn (m .energies) (now (counted .entry)) (take (s .standing) (s .energies))) ⌝ }
+    ensures { λ r. ⌜ r ≡ judgedIn unit notice (s .capacities) (m .default) (s .hours) (m .energies) (loadIn (m .energies) (now (marks .entry)) (take (s .standing) (s .energies))) ⌝ }
 {
     let own = m.energies;
     let capacities = s.capacities;
     let n = s.standing;
     let hours = s.hours as usize;
-    let found = counted_places(counted, n);
-    let count = found.count;
-    let at = found.at;
-    if count == 0 {
-        let none = [0u32; 1];
-        return judge_energy(
-            unit,
-            notice,
-            capacities,
-            m.default,
-            own,
-            &none,
-            &at,
-            count,
-            hours,
-        );
-    }
+    let found = counted_places(marks, n);
     let energies = s.energies;
-    let loads = loads_of(counted, n, energies);
+    let loads = loads_of(marks, n, energies);
     judge_energy(
         unit,
         notice,
@@ -98,13 +105,14 @@ fn judge_with(s: Session, m: Fields, unit: Unit, notice: Notice, counted: &[bool
         m.default,
         own,
         &loads,
-        &at,
-        count,
+        &found.at,
+        found.count,
         hours,
     )
 }
 
-// Rows 10 to 12, for a unit that is registered.
+// Rows 10 to 12, for a unit that is registered. Mostly none is counted beside, and then the session's energies, which would be
+// copied, are not looked at.
 fn judge_limits(s: Session, m: Fields, holder: Holder) -> Judged
     requires { ⌜ Within s × Holds (s .units) (s .enrolled) (m .unit) holder × (holder .at < s .enrolled) ⌝ }
     ensures { λ r. ⌜ JudgesLimits s (fieldsIn m) r ⌝ }
@@ -115,8 +123,11 @@ fn judge_limits(s: Session, m: Fields, holder: Holder) -> Judged
     let notice = notices[at];
     let lodgements = s.lodgements;
     let key = key_of(m);
-    let counted = beside_marks(lodgements, s.standing, key);
-    judge_with(s, m, unit, notice, &counted)
+    let marks = beside_marks(lodgements, s.standing, key);
+    if !marks.some {
+        return judge_alone(s, m, unit, notice);
+    }
+    judge_beside(s, m, unit, notice, &marks.at)
 }
 
 // The refusal that applies to a message's fields, in the table's order; `at` is the place of the key's lodgement, `holder` its unit.

@@ -2,7 +2,8 @@
 ghost use mathlib.Core.Path.{_≡_};
 ghost use Prim.Native.Nat.{_≤_};
 ghost use lib.ListN.{take};
-ghost use Rattle.beside.specs.Beside.{counts, besideMarks};
+ghost use Rattle.rules.specs.Lists.{any};
+ghost use Rattle.beside.specs.Beside.{same, counts, besideMarks};
 use keys::is_hidden;
 use session::Key;
 use session::Lodgement;
@@ -23,19 +24,30 @@ fn is_beside(lodgements: [Lodgement; 128], n: usize, key: Key, l: Lodgement) -> 
     !is_hidden(lodgements, n, k)
 }
 
-// A mark at the place of each that is counted. "A default lodgement is judged by its own energy."
-pub fn beside_marks(lodgements: [Lodgement; 128], n: usize, key: Key) -> [bool; 128]
+// A mark at the place of each that is counted, and whether there is any: mostly there is none.
+pub struct Marks {
+    pub at: [bool; 128],
+    pub some: bool,
+}
+
+// "A default lodgement is judged by its own energy."
+pub fn beside_marks(lodgements: [Lodgement; 128], n: usize, key: Key) -> Marks
     requires { ⌜ n ≤ 128 ⌝ }
-    ensures { λ r. ⌜ r ≡ besideMarks (take n lodgements) key ⌝ }
+    ensures { λ r. ⌜ (r .at ≡ besideMarks (take n lodgements) key) × (r .some ≡ any same (r .at)) ⌝ }
 {
-    let mut marks = [false; 128];
+    let mut at = [false; 128];
+    let mut some = false;
     if key.default {
-        return marks;
+        return Marks { at, some };
     }
     for i in 0..n {
         let l = lodgements[i];
         let counted = is_beside(lodgements, n, key, l);
-        marks[i] = counted;
+        if !counted {
+            continue;
+        }
+        at[i] = true;
+        some = true;
     }
-    marks
+    Marks { at, some }
 }

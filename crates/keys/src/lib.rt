@@ -131,17 +131,11 @@ pub fn holder_of(units: [Unit; 64], n: usize, number: u32) -> Holder
     for i in 0..n {
         let u = units[i];
         if u.number == number {
-            return Holder {
-                at: i,
-                unit: u,
-            };
+            return Holder { at: i, unit: u };
         }
     }
     let unit = no_unit();
-    Holder {
-        at: n,
-        unit: unit,
-    }
+    Holder { at: n, unit: unit }
 }
 
 // Row 6, of a key, by its unit: "unregistered, or domestic for an execution".

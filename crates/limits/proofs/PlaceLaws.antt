@@ -41,8 +41,8 @@ module _ (loads : List ℕ) (h : ℕ) where
 
 -- what judging asks of the places
 pub places-asked : (count n hours : ℕ) (ps : List ℕ) → count ≤ n → n ≤ 128 → hours ≤ 25 → length ps ≡ 128 → ((l : ℕ) → l < count → getD ps l 0 < n)
-    → (count ≤ 128) × (hours ≤ 25) × (length ps ≡ 128) × ((l : ℕ) → l < count → getD ps l 0 < 128)
-places-asked count n hours ps a b c d f = (omega arith, c, d, λ l i. omega (arith, f l i))
+    → (count ≤ 128) × (hours ≤ 25) × (count ≤ length ps) × ((l : ℕ) → l < count → getD ps l 0 < 128)
+places-asked count n hours ps a b c d f = (omega arith, c, omega arith, λ l i. omega (arith, f l i))
 
 -- energies and loads that are the same in every hour are judged as the same
 pub judged-same : (u : Unit) (notice : Notice) (cs : List Notice) (only : Bool) (H : ℕ) (own like : List ℕ) (f g : ℕ → ℕ)

@@ -134,11 +134,11 @@ pub fn judge_energy(
     default: bool,
     own: [u32; 25],
     loads: &[u32],
-    at: &[usize; 128],
+    at: &[usize],
     count: usize,
     hours: usize,
 ) -> Judged
-    requires { ⌜ (count ≤ 128) × (hours ≤ 25) × (length (now at) ≡ 128) × ((l : ℕ) → l < count → getD (now at) l 0 < 128) × (0 < count → 3200 ≤ length (now loads)) ⌝ }
+    requires { ⌜ (count ≤ 128) × (hours ≤ 25) × (count ≤ length (now at)) × ((l : ℕ) → l < count → getD (now at) l 0 < 128) × (0 < count → 3200 ≤ length (now loads)) ⌝ }
     ensures { λ j. ⌜ j ≡ judgedIn unit notice capacities default hours own (loadBy own (now (loads .entry)) (take count (now (at .entry)))) ⌝ }
 {
     let most = maximum_energies(unit.maximum);

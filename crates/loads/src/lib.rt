@@ -70,12 +70,12 @@ pub fn loads_of(wanted: &[bool; 128], n: usize, energies: [Energies; 128]) -> [u
 pub fn lowest_hour(
     own: [u32; 25],
     loads: &[u32],
-    at: &[usize; 128],
+    at: &[usize],
     count: usize,
     hours: usize,
     limit: [u64; 25],
 ) -> u32
-    requires { ⌜ (count ≤ 128) × (hours ≤ 25) × (length (now at) ≡ 128) × ((l : ℕ) → l < count → getD (now at) l 0 < 128) × (0 < count → 3200 ≤ length (now loads)) ⌝ }
+    requires { ⌜ (count ≤ 128) × (hours ≤ 25) × (count ≤ length (now at)) × ((l : ℕ) → l < count → getD (now at) l 0 < 128) × (0 < count → 3200 ≤ length (now loads)) ⌝ }
     ensures { λ r. ⌜ r ≡ lowest (passedAt own (loadBy own (now (loads .entry)) (take count (now (at .entry)))) (laid limit)) hours ⌝ }
 {
     let mut passed: u32 = 0;

@@ -58,7 +58,7 @@ wide-requires c κs = search needs
 loop-holds : tie.Need-loop-holds Inv-loop μ-loop Inv-hours μ-hours
 loop-holds c =
     let o = c .before .before .before .hours in
-    let a = c .before .before .before .before .before .args in (
+    let a = c .before .before .before .before .before .before .args in (
       omega arith,
       refl,
       refl,
@@ -82,7 +82,7 @@ hours-again-2 : tie.Need-hours-again-2 Inv-loop μ-loop Inv-hours μ-hours
 hours-again-2 c =
     let s = c .before .before .loop in
     let o = c .before .before .before .before .before .before .hours in
-    let a = c .before .before .before .before .before .before .before .before .args in
+    let a = c .before .before .before .before .before .before .before .before .before .args in
     let e = rest-end (suc (o .h)) (a .loads .now) (a .at .now) (a .count) (s .l) (omega arith) (omega arith) in (
       omega arith,
       s .inv .1 ∙ o .inv .1,
@@ -92,21 +92,21 @@ hours-again-2 c =
 mul-place : tie.Need-mul-place Inv-loop μ-loop Inv-hours μ-hours
 mul-place c = search needs
 
-element-copy-out-place : tie.Need-element-copy-out-place Inv-loop μ-loop Inv-hours μ-hours
-element-copy-out-place c = search needs
+shared-slice-read-place : tie.Need-shared-slice-read-place Inv-loop μ-loop Inv-hours μ-hours
+shared-slice-read-place c = search needs
 
 mul-more : tie.Need-mul-more Inv-loop μ-loop Inv-hours μ-hours
-mul-more c = let k = c .before .before .before .before .before .before .before .before .before .pre .3 (c .before .before .before .loop .l) (omega arith) in record { fits = omega arith }
+mul-more c = let k = c .before .before .before .before .before .before .before .before .before .before .pre .3 (c .before .before .before .loop .l) (omega arith) in record { fits = omega arith }
 
 add-more : tie.Need-add-more Inv-loop μ-loop Inv-hours μ-hours
-add-more c = let k = c .before .before .before .before .before .before .before .before .before .pre .3 (c .before .before .before .loop .l) (omega arith) in record { fits = omega arith }
+add-more c = let k = c .before .before .before .before .before .before .before .before .before .before .pre .3 (c .before .before .before .loop .l) (omega arith) in record { fits = omega arith }
 
 mul-more-2 : tie.Need-mul-more-2 Inv-loop μ-loop Inv-hours μ-hours
-mul-more-2 c = let k = c .before .before .before .before .before .before .before .before .before .pre .3 (c .before .before .before .loop .l) (omega arith) in record { fits = omega arith }
+mul-more-2 c = let k = c .before .before .before .before .before .before .before .before .before .before .pre .3 (c .before .before .before .loop .l) (omega arith) in record { fits = omega arith }
 
 shared-slice-read-more : tie.Need-shared-slice-read-more Inv-loop μ-loop Inv-hours μ-hours
 shared-slice-read-more c =
-    let asked = c .before .before .before .before .before .before .before .before .before .before .pre in
+    let asked = c .before .before .before .before .before .before .before .before .before .before .before .pre in
     let k = asked .3 (c .before .before .before .before .loop .l) (omega arith) in
     let m = asked .4 (omega arith) in
     search needs
@@ -127,7 +127,7 @@ loop-again : tie.Need-loop-again Inv-loop μ-loop Inv-hours μ-hours
 loop-again c =
     let s = c .before .before .before .before .before .loop in
     let o = c .before .before .before .before .before .before .before .before .before .hours in
-    let a = c .before .before .before .before .before .before .before .before .before .before .before .args in (
+    let a = c .before .before .before .before .before .before .before .before .before .before .before .before .args in (
       omega arith,
       s .inv .1,
       s .inv .2,
@@ -168,7 +168,7 @@ lowest-hour-spec =
     hours-less-2
     hours-again-2
     mul-place
-    element-copy-out-place
+    shared-slice-read-place
     mul-more
     add-more
     mul-more-2

@@ -7,71 +7,51 @@ use Rattle.validation.proofs.JudgeLaws.{judge-absent, judge-lent}
 use borrow.Author.Needs.{needs}
 use Rattle.validation.proofs.judge_place.Statement.{statement}
 use Rattle.validation.proofs.judge_place.Tie as tie
-use Rattle.validation.proofs.judge_place.Reads as reads
-use Rattle.validation.proofs.judge_place.Lts as lts
-use Rattle.limits.proofs.judge_energy.Reads as judge-energy-reads
-use Rattle.loads.proofs.counted_places.Reads as counted-places-reads
-use Rattle.session.proofs.no_verdict.Reads as no-verdict-reads
-use Rattle.session.proofs.units.place.Reads as place-reads
-use Rattle.validation.proofs.accepted_on.Reads as accepted-on-reads
-use Rattle.validation.proofs.energies_at.Reads as energies-at-reads
-use Rattle.validation.proofs.verdict_by.Reads as verdict-by-reads
 
--- src/lib.rt:87:13
 mul-l : tie.Need-mul-l
 mul-l c = search needs
 
--- src/lib.rt:87:13
 array-copy-out-l : tie.Need-array-copy-out-l
 array-copy-out-l c = search needs
 
--- src/lib.rt:90:9
 place-requires : tie.Need-place-requires
 place-requires c κs = search needs
 
--- src/lib.rt:93:9
 no-verdict-requires : tie.Need-no-verdict-requires
 no-verdict-requires c κs = search needs
 
--- src/lib.rt:93:9
 returns : tie.Need-returns
 returns c =
     let a = c .before .before .before .before .before .before .before .args in
     judge-absent (a .s) (a .verdicts) (a .at) (omega arith) noLodgement (c .before .before .before .place .result) (c .before .before .before .place .ensures .0) (c .no-verdict .result) (omega arith)
 
--- src/lib.rt:95:13
 mul-u : tie.Need-mul-u
 mul-u c = search needs
 
--- src/lib.rt:95:13
 array-copy-out-u : tie.Need-array-copy-out-u
 array-copy-out-u c = search needs
 
--- src/lib.rt:97:18
 mul-notice : tie.Need-mul-notice
 mul-notice c = search needs
 
--- src/lib.rt:97:18
 array-copy-out-notice : tie.Need-array-copy-out-notice
 array-copy-out-notice c = search needs
 
--- src/lib.rt:99:9
 energies-at-requires : tie.Need-energies-at-requires
 energies-at-requires c κs = search needs
 
--- src/lib.rt:100:19
 accepted-on-requires : tie.Need-accepted-on-requires
 accepted-on-requires c κs = search needs
 
--- src/lib.rt:101:9
 counted-places-requires : tie.Need-counted-places-requires
 counted-places-requires c κs = search needs
 
--- src/lib.rt:103:17
 cast-hours : tie.Need-cast-hours
 cast-hours c = search needs
 
--- src/lib.rt:104:9
+slice-aggregate-judge-energy : tie.Need-slice-aggregate-judge-energy
+slice-aggregate-judge-energy c = search needs
+
 judge-energy-requires : tie.Need-judge-energy-requires
 judge-energy-requires c κs =
     let s = c .before .before .before .before .before .before .before .before .before .before .before .before .before .before .before .before .before .before .args .s in
@@ -80,11 +60,9 @@ judge-energy-requires c κs =
     let q = places-asked (r .result .count) (s .standing) (s .hours) (r .result .at) (r .ensures .0) (w .standing) (w .hours) (r .ensures .2) (r .ensures .3) in
     (q .0, q .1, q .2, q .3, λ h. omega arith)
 
--- src/lib.rt:115:5
 verdict-by-requires : tie.Need-verdict-by-requires
 verdict-by-requires c κs = search needs
 
--- src/lib.rt:82:1
 returns-2 : tie.Need-returns-2
 returns-2 c =
     let a = c .before .before .before .before .before .before .before .before .before .before .before .before .before .before .before .before .before .before .before .before .args in
@@ -112,6 +90,7 @@ judge-place-spec =
     accepted-on-requires
     counted-places-requires
     cast-hours
+    slice-aggregate-judge-energy
     judge-energy-requires
     verdict-by-requires
     returns-2)
