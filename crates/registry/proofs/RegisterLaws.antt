@@ -1,11 +1,11 @@
 -- Registering: each way out.
-use Prim.Native.Nat.{_+_, _≤_, _<_}
-use mathlib.Core.Path.{_≡_, refl, sym}
-use mathlib.Core.Bool.{Bool, true, false}
-use mathlib.Core.List.{map}
+use Prim.Native.Nat.{ℕ, _+_, _≤_, _<_, min}
+use mathlib.Core.Path.{_≡_, refl, sym, _∙_}
+use mathlib.Core.Bool.{Bool, true, false, _||_}
+use mathlib.Core.List.{List, map}
 use mathlib.Core.Option.{none}
 use native.Mathlib.Omega.{arith}
-use lib.ListN.{take, length, set, length-map}
+use lib.ListN.{take, length, getD, set, length-map}
 use borrow.Author.Tests.{le-leb, lt-leb}
 use Rattle.rules.specs.Lists.{any}
 use Rattle.rules.specs.Refusals.{row, firstRow}
@@ -21,7 +21,7 @@ use Rattle.session.specs.declared.Session.{Session}
 use Rattle.session.specs.declared.Unit.{Unit}
 use Rattle.session.specs.declared.Judged.the-variants.{No, Clear}
 use Rattle.session.specs.declared.Answer.the-variants.{Done}
-use Rattle.session.proofs.LaidLaws.{any-map, map-last, length-last, set-pad}
+use Rattle.session.proofs.LaidLaws.{anyFrom, any-start, any-step, any-end, any-map, map-last, length-last, set-pad}
 use Rattle.session.proofs.StepLaws.{open-row}
 use Rattle.session.proofs.SoundLaws.{open-stage}
 use Rattle.session.proofs.ImageLaws.{closed-as, enrolled-as, units-as, registered-as}
@@ -30,6 +30,20 @@ use Rattle.session.proofs.ImageLaws.{closed-as, enrolled-as, units-as, register
 second-as : (s : Session) (b : B.Book) → s ≡ image b → (u : Unit) → D.isSecond b (unitIn u) ≡ any (besideUnit u) (take (s .enrolled) (s .units))
 unfolding D.isSecond
 second-as s b e u = rw (units-as s b e) (sym (any-map unitOf (besideUnit u) (b .units)))
+
+-- A pass over the units: what was found so far, and what is found from place i on
+
+pub found-start : {A : Type 0} (p : A → Bool) (l : List A) (n : ℕ) → (false || anyFrom p l n 0) ≡ any p (take n l)
+found-start p l n = any-start p l n
+
+module _ {A : Type 0} (p : A → Bool) (l : List A) (n i : ℕ) where
+  pub found-next : (d : A) (t : Bool) {a v r : Bool} → i < n → i < length l → v ≡ p (getD l i d) → r ≡ (t || v) → (t || anyFrom p l n i) ≡ a → (r || anyFrom p l n (i + 1)) ≡ a
+  found-next d true h k q e f = rw e f
+  found-next d false h k q e f = rw (e, q) (sym (any-step p d l n i h k) ∙ f)
+
+  pub found-end : {a : Bool} (t : Bool) → min n (length l) ≤ i → (t || anyFrom p l n i) ≡ a → t ≡ a
+  found-end true h f = f
+  found-end false h f = sym (any-end p l n i h) ∙ f
 
 module _ (s : Session) (u : Unit) where
   abbrev call : D.Call

@@ -1,6 +1,7 @@
 // Registering units.
 ghost use mathlib.Core.Path.{_≡_};
 ghost use Prim.Native.Nat.{_≤_, _<_};
+ghost use mathlib.Core.Bool.{_||_};
 ghost use lib.ListN.{take};
 ghost use Rattle.rules.specs.Lists.{any};
 ghost use Rattle.rules.specs.Units.{badUnit, sameBorderSide};
@@ -8,7 +9,7 @@ ghost use Rattle.rules.specs.DayBook.{register};
 ghost use Rattle.session.specs.Image.{unitIn};
 ghost use Rattle.session.specs.Changes.{registryTurn};
 ghost use Rattle.session.specs.Steps.{Met};
-ghost use Rattle.session.specs.Parts.{Within, Judges, Entered};
+ghost use Rattle.session.specs.Parts.{Within, Judges, Entered, numberIs};
 ghost use Rattle.registry.specs.Registry.{besideUnit};
 use session::Answer;
 use session::FULL;
@@ -26,7 +27,6 @@ use session::changes::registry_refused;
 use session::changes::with_registry;
 use session::no_notice;
 use session::units::bad_number;
-use session::units::is_registered;
 
 // Row 5: a value outside its range, or a legacy mark on a domestic unit.
 fn bad_unit(u: Unit) -> bool
@@ -66,18 +66,36 @@ fn same_border_side(u: Unit, v: Unit) -> bool
     u.purchase == v.purchase
 }
 
-// Row 8: one of the first n units is of the agent, border and side of u.
-fn is_second(units: [Unit; 64], n: usize, u: Unit) -> bool
-    requires { ⌜ n ≤ 64 ⌝ }
-    ensures { λ r. ⌜ r ≡ any (besideUnit u) (take n units) ⌝ }
+fn either(a: bool, b: bool) -> bool
+    ensures { λ r. ⌜ r ≡ (a || b) ⌝ }
 {
+    if a {
+        return true;
+    }
+    b
+}
+
+// What the first n units have against u: row 7, one of its number; row 8, one of its agent, border and side. Both in one pass,
+// since a pass copies the units.
+struct Against {
+    taken: bool,
+    second: bool,
+}
+
+fn clash(units: [Unit; 64], n: usize, u: Unit) -> Against
+    requires { ⌜ n ≤ 64 ⌝ }
+    ensures { λ r. ⌜ (r .taken ≡ any (numberIs (u .number)) (take n units)) × (r .second ≡ any (besideUnit u) (take n units)) ⌝ }
+{
+    let number = u.number;
+    let mut taken = false;
+    let mut second = false;
     for i in 0..n {
         let v = units[i];
-        if same_border_side(u, v) {
-            return true;
-        }
+        taken = either(taken, v.number == number);
+        let beside = same_border_side(u, v);
+        second = either(second, beside);
     }
-    false
+    Against { taken, second }
 }
 
 // The refusal that applies to registering u.
@@ -93,11 +111,11 @@ fn judge_register(s: Session, u: Unit) -> Judged
     }
     let units = s.units;
     let n = s.enrolled;
-    let number = u.number;
-    if is_registered(units, n, number) {
+    let found = clash(units, n, u);
+    if found.taken {
         return Judged::No(TAKEN, 0);
     }
-    if is_second(units, n, u) {
+    if found.second {
         return Judged::No(SECOND, 0);
     }
     if Session::MAX_UNITS <= n {

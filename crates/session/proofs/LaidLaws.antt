@@ -24,7 +24,7 @@ module _ {A : Type 0} (p : A → Bool) where
   unfolding anyFrom
   any-start l n = refl
 
-  any-step : (d : A) (l : List A) (n i : ℕ) → i < n → i < length l → anyFrom p l n i ≡ (p (getD l i d) || anyFrom p l n (i + 1))
+  pub any-step : (d : A) (l : List A) (n i : ℕ) → i < n → i < length l → anyFrom p l n i ≡ (p (getD l i d) || anyFrom p l n (i + 1))
   unfolding anyFrom any
   any-step d l n i h k =
       rw (drop-cons (take n l) i d (omega (arith, length-take n l)), getD-take n l i d h, add-one)
