@@ -4,7 +4,7 @@ use mathlib.Core.Path.{_≡_, refl, ap, sym, _∙_}
 use mathlib.Core.List.{List}
 use native.Mathlib.Omega.{arith}
 use lib.ListN.{getD, set}
-use lib.Seq.{getD-set-other}
+use lib.Seq.{getD-set-other, set-getD}
 use Rattle.arrays.specs.Places.{layOn}
 use Rattle.arrays.proofs.PlaceLaws.{none-off, lay-next, lay-end}
 
@@ -20,6 +20,11 @@ module _ {f : ℕ → ℕ → ℕ} {n : ℕ} {first : List ℕ} where
   pub laying-next : {l : List ℕ} {i x : ℕ} → i < n → x ≡ f i (getD l i 0) → Laying f n first l i → Laying f n first (set l i x) (i + 1)
   laying-next {l} {i} {x} h e k =
       record { passed = omega arith; rest = rw e (sym (lay-next f i n l h) ∙ k .rest) }
+
+  -- a place that is as it would be written
+  pub laying-same : {l : List ℕ} {i : ℕ} → i < n → f i (getD l i 0) ≡ getD l i 0 → Laying f n first l i → Laying f n first l (i + 1)
+  laying-same {l} {i} h e k =
+      record { passed = omega arith; rest = ap (layOn f (n - (i + 1)) (i + 1)) (sym (set-getD l i 0)) ∙ rw (← e) (sym (lay-next f i n l h) ∙ k .rest) }
 
   pub laying-end : {l : List ℕ} {i : ℕ} → n ≤ i → Laying f n first l i → l ≡ layOn f n 0 first
   laying-end {l} {i} h k = sym (lay-end f i n l h) ∙ k .rest

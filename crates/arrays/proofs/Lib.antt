@@ -4,3 +4,4 @@ pub mod SliceLaws
 pub mod SortLaws
 pub mod TestLaws
 pub mod LayLaws
+pub mod ListingLaws

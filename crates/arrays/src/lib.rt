@@ -7,6 +7,13 @@ ghost use lib.ListN.{getD, take, length};
 ghost use Rattle.rules.specs.Lists.{sum, any};
 ghost use Rattle.arrays.specs.Places.{vals, rises};
 ghost use Rattle.arrays.specs.Sorting.{sort};
+ghost use Rattle.arrays.specs.Listing.{Listed};
+
+// Places of an array, `count` of them in front of `at`.
+pub struct Places {
+    pub count: usize,
+    pub at: [usize; 128],
+}
 
 pub fn lower(a: u32, b: u32) -> u32
     ensures { λ r. ⌜ r ≡ min a b ⌝ }
@@ -101,4 +108,24 @@ pub fn rising(a: &[u32; 128], n: usize) -> bool
         }
     }
     true
+}
+
+// The places below n at which an array is not 0, by rising place.
+pub fn nonzero(a: &[u32; 128], n: usize) -> Places
+    requires { ⌜ n ≤ 128 ⌝ }
+    ensures { λ r. ⌜ (r .count ≤ n) × (length (r .at) ≡ 128) × Listed (now (a .entry)) n (take (r .count) (r .at)) ⌝ }
+{
+    let mut at = [0usize; 128];
+    let mut count: usize = 0;
+    for i in 0..n {
+        if a[i] == 0 {
+            continue;
+        }
+        at[count] = i;
+        count += 1;
+    }
+    Places {
+        count: count,
+        at: at,
+    }
 }

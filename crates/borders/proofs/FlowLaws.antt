@@ -1,10 +1,10 @@
 -- Flows from arrays: one turn of the loop and its end, and that they are the rules' flows of the lists.
 use Prim.Native.Nat.{ℕ, _+_, _≤_, _<_}
-use mathlib.Core.Path.{_≡_, refl, ap, sym, _∙_}
+use mathlib.Core.Path.{_≡_, refl, ap, sym, _∙_, subst}
 use mathlib.Core.Bool.{Bool, true, false, cond, not, _&&_}
 use mathlib.Core.List.{List, [], _∷_, map}
 use native.Mathlib.Omega.{arith}
-use native.Mathlib.Nat.{le-trans}
+use native.Mathlib.Nat.{le-refl, le-trans}
 use lib.Dec.{eqb}
 use lib.ListN.{getD, set, length}
 use lib.Seq.{getD-set-same, getD-set-other}
@@ -14,7 +14,9 @@ use Rattle.rules.specs.Match.{Offer}
 use Rattle.rules.specs.Borders.{Execution, runs, flow}
 use Rattle.rules.specs.Split.{legacyFlow}
 use Rattle.rules.proofs.BoolLaws.{by-bool}
+use Rattle.arrays.specs.Listing.{behind, Listed}
 use Rattle.arrays.proofs.PlaceLaws.{from-next, from-end, none-off, set-small}
+use Rattle.arrays.proofs.ListingLaws.{behind-next, gap-up}
 use Rattle.matching.specs.declared.Offers.{Offers}
 use Rattle.matching.specs.View.{offerAt, offersOf}
 use Rattle.borders.specs.declared.Executions.{Executions}
@@ -55,6 +57,29 @@ module _ (only : Bool) (bs : List ℕ) (ps ls : List Bool) (es : List ℕ) where
       let k = from-here i n w h in
       let o = ne-eqb (wayOf 0 (getD ps i false)) w (λ q. absurd (omega (arith, way-low 0 (getD ps i false) refl))) in
       omega (arith, rw (z, o) at k)
+
+-- The loop along a list of the places at a border
+
+-- what is before place i is counted
+abbrev pub Counting : List ℕ → List Bool → List ℕ → ℕ → List ℕ → ℕ → Type 0
+Counting bs ps es n f i = (legacy : List Bool) (w : ℕ) → 2 ≤ w → getD f w 0 + flowFrom false bs ps legacy es i n w ≡ flowFrom false bs ps legacy es 0 n w
+
+module _ (bs : List ℕ) (ps : List Bool) (es : List ℕ) {n : ℕ} {at : List ℕ} (t : Listed bs n at) (f : List ℕ) (k : ℕ) where
+  passes : (m : ℕ) → m < n → getD bs m 0 ≡ 0 → Counting bs ps es n f m → Counting bs ps es n f (m + 1)
+  passes m h z c ls w g = ap (λ x. getD f w 0 + x) (flow-skip false bs ps ls es m n w h z g) ∙ c ls w g
+
+  pub counting-next : (v x : ℕ) → k < length at → v ≡ wayOf (getD bs (getD at k 0) 0) (getD ps (getD at k 0) false) → v < length f → x ≡ getD es (getD at k 0) 0
+      → Counting bs ps es n f (behind at k) → Counting bs ps es n (set f v (getD f v 0 + x)) (behind at (k + 1))
+  unfolding countedFor
+  counting-next v x h p l q y =
+      let i = t .inside k h in
+      let here = gap-up (Counting bs ps es n f) (t .before k h) (λ m o u. passes m (omega arith)) y in
+      subst (Counting bs ps es n (set f v (getD f v 0 + x))) (sym (behind-next at k)) (λ ls w g. flow-next false bs ps ls es f (getD at k 0) n v x i p l q w ∙ here ls w g)
+
+  pub counting-end : k ≡ length at → Counting bs ps es n f (behind at k) → Abroad bs ps es n f
+  counting-end e y ls w g =
+      let all = gap-up (Counting bs ps es n f) (t .last) (λ m o u. passes m u) (subst (λ c. Counting bs ps es n f (behind at c)) e y) in
+      omega (arith, all ls w g, flow-end false bs ps ls es n n w (le-refl n))
 
 -- and it stays in range
 pub set-more : (b c v x : ℕ) (f : List ℕ) → ((w : ℕ) → getD f w 0 ≤ b) → x ≤ c → b ≤ c → (w : ℕ) → getD (set f v x) w 0 ≤ c

@@ -8,6 +8,7 @@ ghost use Rattle.rules.specs.Match.{Offer};
 ghost use Rattle.rules.specs.Borders.{Execution};
 ghost use Rattle.rules.specs.Split.{maximumOf};
 ghost use Rattle.rules.specs.Withdrawal.{overruns};
+ghost use Rattle.arrays.specs.Listing.{Listed};
 ghost use Rattle.borders.specs.Ways.{wayOf, publishedIn, overIn};
 ghost use Rattle.borders.specs.Flows.{countedFor, ByWay, Abroad, MarketFlows, BorderFlows, LegacyFlows, ExecutionFlows, Small};
 ghost use Rattle.borders.specs.Limits.{acrossOf, maximumIn, excessIn, nonEmpty};
@@ -69,24 +70,22 @@ pub fn flows<'a>(
     f
 }
 
-// The energy of the first n holders by way at the borders alone, for a withdrawal, which asks at each step and for no more: most offers
-// are domestic, and all those of a side would be added in one place, one after the other.
+// The energy of the first n holders by way at the borders alone, from a list of the places of those at one: a withdrawal asks at each step,
+// and most offers are domestic.
 pub fn abroad<'a>(
     n: usize,
+    at: &[usize],
     border: &'a [u32; 128],
     purchase: &'a [bool; 128],
     energy: &'a [u32; 128],
 ) -> [u32; 10]
-    requires { ⌜ (n ≤ 128) × ((i : ℕ) → i < n → getD (now border) i 0 < 5) × ((i : ℕ) → getD (now energy) i 0 ≤ 99999) ⌝ }
+    requires { ⌜ (n ≤ 128) × ((i : ℕ) → i < n → getD (now border) i 0 < 5) × ((i : ℕ) → getD (now energy) i 0 ≤ 99999) × Listed (now border) n (now at) ⌝ }
     ensures { λ r. ⌜ Abroad (now (border .entry)) (now (purchase .entry)) (now (energy .entry)) n r ⌝ }
 {
     let mut f = [0u32; 10];
-    for i in 0..n {
-        let b = border[i];
-        if b == 0 {
-            continue;
-        }
-        let w = way(b, purchase[i]);
+    for k in 0..at.len() {
+        let i = at[k];
+        let w = way(border[i], purchase[i]);
         f[w] += energy[i];
     }
     f

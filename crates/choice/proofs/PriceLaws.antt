@@ -7,7 +7,7 @@ use mathlib.Core.Option.{Option, some, none as nothing}
 use native.Mathlib.Nat.{le-refl}
 use native.Mathlib.Omega.{arith}
 use lib.Dec.{ltb, eqb}
-use lib.ListN.{getD}
+use lib.ListN.{getD, length}
 use borrow.Author.Tests.{eq-eqb, ne-eqb, eqb-true, eqb-false, le-leb, lt-leb}
 use Rattle.rules.specs.Lists.{All, none, more, from, keep, sum, sumOf}
 use Rattle.rules.specs.Match.{Offer}
@@ -16,7 +16,9 @@ use Rattle.rules.specs.Withdrawal.{atPrice, runsAmong, pricesOver, further, ext
 use Rattle.rules.proofs.BoolLaws.{by-bool}
 use Rattle.rules.proofs.ListLaws.{keep-map}
 use Rattle.rules.proofs.SumLaws.{masked-sum}
+use Rattle.arrays.specs.Listing.{behind, Listed}
 use Rattle.arrays.proofs.PlaceLaws.{none-off, from-next, from-end, from-all, map-both}
+use Rattle.arrays.proofs.ListingLaws.{behind-next, gap-down}
 use Rattle.matching.specs.declared.Offers.{Offers}
 use Rattle.matching.specs.View.{offerAt, offersOf}
 use Rattle.borders.specs.Ways.{overIn}
@@ -53,19 +55,52 @@ module _ (side : Bool) (over border : List ℕ) (purchase legacy : List Bool) (p
   abbrev found : ℕ → Option ℕ
   found i = extreme (outer side) (pricesFrom side over border purchase legacy price matched i n)
 
-  pub found-none : priceIn 65535 ≡ found n
+  found-none : priceIn 65535 ≡ found n
   unfolding pricesFrom extreme keep
   found-none = no-price 65535 refl ∙ rw (from-end n n (le-refl n))
 
-  pub found-in : (i v best r : ℕ) {b : Bool} → i ≡ v + 1 → i ≤ n → b ≡ priced v → b ≡ true → priceIn best ≡ found i
+  found-in : (i v best r : ℕ) {b : Bool} → i ≡ v + 1 → i ≤ n → b ≡ priced v → b ≡ true → priceIn best ≡ found i
       → priceIn r ≡ some (further (outer side) (getD price v 0) (priceIn best)) → priceIn r ≡ found v
   unfolding pricesFrom extreme keep
   found-in i v best r o h p t eb er =
       er ∙ rw (from-next n v (omega arith), sym p ∙ t) (ap (λ x. some (further (outer side) (getD price v 0) x)) (eb ∙ ap found o))
 
-  pub found-out : (i v best : ℕ) {b : Bool} → i ≡ v + 1 → i ≤ n → b ≡ priced v → b ≡ false → priceIn best ≡ found i → priceIn best ≡ found v
+  found-out : (i v best : ℕ) {b : Bool} → i ≡ v + 1 → i ≤ n → b ≡ priced v → b ≡ false → priceIn best ≡ found i → priceIn best ≡ found v
   unfolding pricesFrom keep
   found-out i v best o h p t eb = rw (from-next n v (omega arith), sym p ∙ t) (eb ∙ ap found o)
+
+  -- a domestic offer is in no direction passed
+  domestic : (j : ℕ) → getD border j 0 ≡ 0 → priced j ≡ false
+  unfolding pricedOf runsOver
+  domestic j z = rw z (and-false (Bool·beq (getD purchase j false) side && ltb 0 (getD matched j 0) && not (getD legacy j false)))
+    where
+      and-false : (b : Bool) → (b && false) ≡ false
+      and-false true = refl
+      and-false false = refl
+
+  -- along a list of the places at a border
+  module _ {at : List ℕ} (t : Listed border n at) where
+    passes : (best m : ℕ) → m < n → getD border m 0 ≡ 0 → priceIn best ≡ found (m + 1) → priceIn best ≡ found m
+    passes best m h z e = found-out (m + 1) m best refl (omega arith) refl (domestic m z) e
+
+    pub listed-none : priceIn 65535 ≡ found (behind at (length at))
+    listed-none = gap-down (λ i. priceIn 65535 ≡ found i) (t .last) (λ m o u. passes 65535 m u) found-none
+
+    module _ (i j best : ℕ) {b : Bool} (o : i ≡ j + 1) (h : i ≤ length at) (p : b ≡ priced (getD at j 0)) (eb : priceIn best ≡ found (behind at i)) where
+      inside : getD at j 0 + 1 ≤ n
+      inside = omega (arith, t .inside j (omega arith))
+
+      here : priceIn best ≡ found (getD at j 0 + 1)
+      here = eb ∙ ap found (ap (behind at) o ∙ behind-next at j)
+
+      back : (r : ℕ) → priceIn r ≡ found (getD at j 0) → priceIn r ≡ found (behind at j)
+      back r e = gap-down (λ i. priceIn r ≡ found i) (t .before j (omega arith)) (λ m u v. passes r m (omega (arith, inside))) e
+
+      pub listed-in : (r : ℕ) → b ≡ true → priceIn r ≡ some (further (outer side) (getD price (getD at j 0) 0) (priceIn best)) → priceIn r ≡ found (behind at j)
+      listed-in r e er = back r (found-in (getD at j 0 + 1) (getD at j 0) best r refl inside p e here er)
+
+      pub listed-out : b ≡ false → priceIn best ≡ found (behind at j)
+      listed-out e = back best (found-out (getD at j 0 + 1) (getD at j 0) best refl inside p e here)
 
 -- What is past a price
 

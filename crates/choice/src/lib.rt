@@ -9,6 +9,7 @@ ghost use Rattle.rules.specs.Withdrawal.{extreme, further as furtherOf, atPrice
 ghost use Rattle.matching.specs.declared.Offers.{Offers};
 ghost use Rattle.matching.specs.View.{offersOf};
 ghost use Rattle.borders.specs.Ways.{overIn};
+ghost use Rattle.arrays.specs.Listing.{Listed};
 ghost use Rattle.overrun.specs.Lent.{Lent};
 ghost use Rattle.choice.specs.Prices.{pricedOf, pricesFrom, outer, priceIn, beyond, pastOf, pastFrom, groupIn};
 
@@ -60,10 +61,11 @@ fn further(side: bool, p: u32, best: u32) -> u32
     arrays::higher(p, best)
 }
 
-// 2. "the lowest purchase price and the highest sale price among" these.
+// 2. "the lowest purchase price and the highest sale price among" these. `at` lists the places of the offers at a border.
 fn furthest<'a>(
     side: bool,
     n: usize,
+    at: &[usize],
     over: &[u32; 10],
     border: &'a [u32; 128],
     purchase: &'a [bool; 128],
@@ -71,13 +73,14 @@ fn furthest<'a>(
     price: &'a [u32; 128],
     matched: &[u32; 128],
 ) -> u32
-    requires { ⌜ (n ≤ 128) × ((i : ℕ) → i < n → getD (now border) i 0 < 5) × ((i : ℕ) → i < n → getD (now price) i 0 ≤ maxPrice) ⌝ }
+    requires { ⌜ (n ≤ 128) × ((i : ℕ) → i < n → getD (now border) i 0 < 5) × ((i : ℕ) → i < n → getD (now price) i 0 ≤ maxPrice) × Listed (now border) n (now at) ⌝ }
     ensures { λ r. ⌜ priceIn r ≡ extreme (outer side) (pricesFrom side (now (over .entry)) (now (border .entry)) (now (purchase .entry)) (now (legacy .entry)) (now (price .entry)) (now (matched .entry)) 0 n) ⌝ }
 {
     let mut best = NONE;
-    let mut i = n;
-    while 0 < i {
-        i -= 1;
+    let mut k = at.len();
+    while 0 < k {
+        k -= 1;
+        let i = at[k];
         let t = is_priced(side, over, border[i], purchase[i], legacy[i], matched[i]);
         if t {
             best = further(side, price[i], best);
@@ -144,6 +147,7 @@ fn at_price(side: bool, price: u32) -> Group
 // "With both prices, purchases go if C ≤ V′, else sales; with one, its side goes"; "with neither price", legacy offers.
 pub fn choose<'a>(
     n: usize,
+    at: &[usize],
     over: &[u32; 10],
     border: &'a [u32; 128],
     purchase: &'a [bool; 128],
@@ -151,13 +155,13 @@ pub fn choose<'a>(
     price: &'a [u32; 128],
     matched: &[u32; 128],
 ) -> Group
-    requires { ⌜ (n ≤ 128) × ((i : ℕ) → i < n → getD (now border) i 0 < 5) × ((i : ℕ) → i < n → getD (now price) i 0 ≤ maxPrice) × ((i : ℕ) → getD (now matched) i 0 ≤ maxEnergy) ⌝ }
+    requires { ⌜ (n ≤ 128) × ((i : ℕ) → i < n → getD (now border) i 0 < 5) × ((i : ℕ) → i < n → getD (now price) i 0 ≤ maxPrice) × ((i : ℕ) → getD (now matched) i 0 ≤ maxEnergy) × Listed (now border) n (now at) ⌝ }
     ensures { λ r. ⌜ ((h : Offers) (e : List ℕ)
         → Lent h n (now (border .entry)) (now (purchase .entry)) (now (legacy .entry)) (now (price .entry))
         → groupIn r ≡ groupOf (overIn (now (over .entry))) (offersOf h e (now (matched .entry)))) ⌝ }
 {
-    let p = furthest(true, n, over, border, purchase, legacy, price, matched);
-    let q = furthest(false, n, over, border, purchase, legacy, price, matched);
+    let p = furthest(true, n, at, over, border, purchase, legacy, price, matched);
+    let q = furthest(false, n, at, over, border, purchase, legacy, price, matched);
     if p == NONE {
         let none = q == NONE;
         return Group {

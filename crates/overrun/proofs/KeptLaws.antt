@@ -68,3 +68,8 @@ module _ (over border : List ℕ) (purchase legacy : List Bool) (m : List ℕ) (
   pub kept-between : (getD m i 0 ≤ keptAt over border purchase legacy m i x) × (keptAt over border purchase legacy m i x ≤ x)
   unfolding keptAt keptOf
   kept-between = kept-le (runsOver over (getD border i 0) (getD purchase i false) && not (getD legacy i false)) h
+
+-- what is domestic keeps all that it offers
+pub domestic-kept : (over border : List ℕ) (purchase legacy : List Bool) (m : List ℕ) (i x : ℕ) → getD border i 0 ≡ 0 → keptAt over border purchase legacy m i x ≡ x
+unfolding keptAt keptOf runsOver
+domestic-kept over border purchase legacy m i x z = rw z

@@ -9,6 +9,7 @@ ghost use Rattle.matching.specs.declared.Offers.{Offers};
 ghost use Rattle.matching.specs.View.{offersOf};
 ghost use Rattle.borders.specs.Ways.{overIn};
 ghost use Rattle.arrays.specs.Places.{layOn};
+ghost use Rattle.arrays.specs.Listing.{Listed};
 ghost use Rattle.overrun.specs.Kept.{runsOver, keptOf, keptAt};
 ghost use Rattle.overrun.specs.Lent.{Lent};
 
@@ -46,25 +47,27 @@ fn kept(
     offered
 }
 
-// 1. "On each such border, offers in that direction, not legacy, keep only what is matched."
+// 1. "On each such border, offers in that direction, not legacy, keep only what is matched." `at` lists the places of those at a border.
 pub fn keep_matched<'a>(
     offered: &mut [u32; 128],
     n: usize,
+    at: &[usize],
     over: &[u32; 10],
     border: &'a [u32; 128],
     purchase: &'a [bool; 128],
     legacy: &'a [bool; 128],
     matched: &[u32; 128],
 )
-    requires { ⌜ (n ≤ 128) × ((i : ℕ) → i < n → getD (now border) i 0 < 5) × (length (now offered) ≡ 128) ⌝ }
+    requires { ⌜ (n ≤ 128) × ((i : ℕ) → i < n → getD (now border) i 0 < 5) × (length (now offered) ≡ 128) × Listed (now border) n (now at) ⌝ }
     ensures { λ _. ⌜ now (offered .exit) ≡ layOn (keptAt (now (over .entry)) (now (border .entry)) (now (purchase .entry)) (now (legacy .entry)) (now (matched .entry))) n 0 (now (offered .entry)) ⌝ }
     ensures { λ _. ⌜ ((h : Offers)
         → Lent h n (now (border .entry)) (now (purchase .entry)) (now (legacy .entry)) (h .price)
         → offersOf h (now (offered .exit)) (now (matched .entry)) ≡ map (keepMatched (overIn (now (over .entry)))) (offersOf h (now (offered .entry)) (now (matched .entry)))) ⌝ }
 {
-    for i in 0..n {
+    for k in 0..at.len() {
+        let i = at[k];
         let e = offered[i];
-        let k = kept(over, border[i], purchase[i], legacy[i], matched[i], e);
-        offered[i] = k;
+        let m = kept(over, border[i], purchase[i], legacy[i], matched[i], e);
+        offered[i] = m;
     }
 }

@@ -18,7 +18,7 @@ use Rattle.overrun.specs.Kept.{runsOver}
 use Rattle.overrun.proofs.KeptLaws.{among}
 use Rattle.choice.specs.declared.Group.{Group}
 use Rattle.choice.specs.Prices.{groupIn}
-use Rattle.taking.specs.Given.{inside, givenOf}
+use Rattle.taking.specs.Given.{inside, givenOf, givenAt}
 
 -- the group
 pub in-group : (g : Group) (o : Offer) → inGroup (groupIn g) o ≡ inside g (o .holder .purchase) (o .holder .legacy) (o .price)
@@ -105,3 +105,9 @@ module _ (over : List ℕ) (g : Group) (b : ℕ) (p l : Bool) (price : ℕ) {o :
   pub given-nowhere : o ≡ false → 0 ≡ givenOf over g b p l price
   unfolding givenOf
   given-nowhere h = rw (sym eo ∙ h)
+
+-- what is domestic gives way in no direction
+pub domestic-given : (over : List ℕ) (g : Group) (border : List ℕ) (purchase legacy : List Bool) (price : List ℕ) (i x : ℕ)
+    → getD border i 0 ≡ 0 → givenAt over g border purchase legacy price i x ≡ 0
+unfolding givenAt givenOf runsOver
+domestic-given over g border purchase legacy price i x z = rw z

@@ -11,6 +11,7 @@ ghost use Rattle.matching.specs.declared.Offers.{Offers};
 ghost use Rattle.matching.specs.View.{offersOf};
 ghost use Rattle.borders.specs.Ways.{overIn};
 ghost use Rattle.arrays.specs.Places.{layOn};
+ghost use Rattle.arrays.specs.Listing.{Listed};
 ghost use Rattle.overrun.specs.Lent.{Lent};
 ghost use Rattle.choice.specs.Prices.{groupIn};
 ghost use Rattle.taking.specs.Given.{inside, givenOf, givenAt, leftAt, Lower};
@@ -48,10 +49,11 @@ fn given(over: &[u32; 10], g: Group, border: u32, purchase: bool, legacy: bool, 
     0
 }
 
-// The directions in which the offers give way.
+// The directions in which the offers give way, where 0 stands at each place: a domestic offer keeps it, and `at` lists the places of the others.
 fn all_given<'a>(
     ways: &mut [u32; 128],
     n: usize,
+    at: &[usize],
     over: &[u32; 10],
     g: Group,
     border: &'a [u32; 128],
@@ -59,10 +61,11 @@ fn all_given<'a>(
     legacy: &'a [bool; 128],
     price: &'a [u32; 128],
 )
-    requires { ⌜ (n ≤ 128) × ((i : ℕ) → i < n → getD (now border) i 0 < 5) ⌝ }
+    requires { ⌜ (n ≤ 128) × ((i : ℕ) → i < n → getD (now border) i 0 < 5) × ((i : ℕ) → getD (now ways) i 0 ≤ 0) × Listed (now border) n (now at) ⌝ }
     ensures { λ _. ⌜ now (ways .exit) ≡ layOn (givenAt (now (over .entry)) g (now (border .entry)) (now (purchase .entry)) (now (legacy .entry)) (now (price .entry))) n 0 (now (ways .entry)) ⌝ }
 {
-    for i in 0..n {
+    for k in 0..at.len() {
+        let i = at[k];
         let w = given(over, g, border[i], purchase[i], legacy[i], price[i]);
         ways[i] = w;
     }
@@ -100,6 +103,7 @@ fn remain(
 pub fn take_from<'a>(
     offered: &mut [u32; 128],
     n: usize,
+    at: &[usize],
     over: &[u32; 10],
     g: Group,
     border: &'a [u32; 128],
@@ -108,14 +112,14 @@ pub fn take_from<'a>(
     price: &'a [u32; 128],
     matched: &[u32; 128],
 )
-    requires { ⌜ (n ≤ 128) × ((i : ℕ) → i < n → getD (now border) i 0 < 5) × ((i : ℕ) → getD (now matched) i 0 ≤ maxEnergy) × (length (now offered) ≡ 128) ⌝ }
+    requires { ⌜ (n ≤ 128) × ((i : ℕ) → i < n → getD (now border) i 0 < 5) × ((i : ℕ) → getD (now matched) i 0 ≤ maxEnergy) × (length (now offered) ≡ 128) × Listed (now border) n (now at) ⌝ }
     ensures { λ _. ⌜ Lower n (now (offered .entry)) (now (matched .entry)) (now (offered .exit)) ⌝ }
     ensures { λ _. ⌜ ((h : Offers)
         → Lent h n (now (border .entry)) (now (purchase .entry)) (now (legacy .entry)) (now (price .entry))
         → offersOf h (now (offered .exit)) (now (matched .entry)) ≡ takeFrom (groupIn g) (overIn (now (over .entry))) (offersOf h (now (offered .entry)) (now (matched .entry)))) ⌝ }
 {
     let mut ways = [0u32; 128];
-    all_given(&mut ways, n, over, g, border, purchase, legacy, price);
+    all_given(&mut ways, n, at, over, g, border, purchase, legacy, price);
     let mut losses = [0u32; 128];
     losses::all_losses(&mut losses, n, over, &ways, matched);
     remain(offered, n, &ways, matched, &losses)

@@ -10,6 +10,7 @@ ghost use Rattle.rules.specs.Match.{volume};
 ghost use Rattle.matching.specs.declared.Offers.{Offers};
 ghost use Rattle.matching.specs.View.{offersOf};
 ghost use Rattle.matching.specs.Orders.{Along};
+ghost use Rattle.arrays.specs.Listing.{Listed};
 ghost use Rattle.overrun.specs.Lent.{Lent};
 ghost use Rattle.withdrawal.specs.Steps.{Stepped};
 ghost use Rattle.withdrawal.specs.Turns.{Energies, Crossing, Withdrew};
@@ -20,11 +21,13 @@ pub struct Ended {
     pub volume: u32,
 }
 
-// One step, of the directions with an excess above 0, and the volume after it. 5. "Match again."
+// One step, of the directions with an excess above 0, and the volume after it. `at` lists the places of the offers at a border, whom alone
+// 1. to 4. concern. 5. "Match again."
 pub fn step<'a>(
     offered: &mut [u32; 128],
     matched: &mut [u32; 128],
     n: usize,
+    at: &[usize],
     over: &[u32; 10],
     border: &'a [u32; 128],
     purchase: &'a [bool; 128],
@@ -35,18 +38,19 @@ pub fn step<'a>(
     purchases: &[u32; 128],
     np: usize,
 ) -> u32
-    requires { ⌜ (n ≤ 128) × (ns ≤ 128) × (np ≤ 128) × ((i : ℕ) → i < n → getD (now border) i 0 < 5) × ((i : ℕ) → i < n → getD (now price) i 0 ≤ maxPrice) × ((i : ℕ) → getD (now offered) i 0 ≤ maxEnergy) × ((i : ℕ) → getD (now matched) i 0 ≤ maxEnergy) × ((i : ℕ) → i < n → getD (now matched) i 0 ≤ getD (now offered) i 0) × (length (now offered) ≡ 128) × (length (now matched) ≡ 128) ⌝ }
+    requires { ⌜ (n ≤ 128) × (ns ≤ 128) × (np ≤ 128) × ((i : ℕ) → i < n → getD (now border) i 0 < 5) × ((i : ℕ) → i < n → getD (now price) i 0 ≤ maxPrice) × ((i : ℕ) → getD (now offered) i 0 ≤ maxEnergy) × ((i : ℕ) → getD (now matched) i 0 ≤ maxEnergy) × ((i : ℕ) → i < n → getD (now matched) i 0 ≤ getD (now offered) i 0) × (length (now offered) ≡ 128) × (length (now matched) ≡ 128) × Listed (now border) n (now at) ⌝ }
     ensures { λ r. ⌜ ((h : Offers)
         → Lent h n (now (border .entry)) (now (purchase .entry)) (now (legacy .entry)) (now (price .entry))
         → Along false h (now (price .entry)) (now (sales .entry)) ns
         → Along true h (now (price .entry)) (now (purchases .entry)) np
         → Stepped h (now (over .entry)) (now (offered .entry)) (now (matched .entry)) (now (offered .exit)) (now (matched .exit)) r) ⌝ }
 {
-    overrun::keep_matched(offered, n, over, border, purchase, legacy, matched);
-    let g = choice::choose(n, over, border, purchase, legacy, price, matched);
+    overrun::keep_matched(offered, n, at, over, border, purchase, legacy, matched);
+    let g = choice::choose(n, at, over, border, purchase, legacy, price, matched);
     taking::take_from(
         offered,
         n,
+        at,
         over,
         g,
         border,
@@ -76,11 +80,15 @@ pub fn withdraw(
     ensures { λ r. ⌜ Withdrew o (now (published .entry)) (now (maxima .entry)) (now (offered .entry)) (now (matched .entry)) (now (offered .exit)) (now (matched .exit)) r ⌝ }
 {
     let n = o.count;
+    let places = arrays::nonzero(&o.border, n);
+    let count = places.count;
+    let all = places.at;
+    let at = &all[..count];
     let mut left = arrays::total(offered, n);
     let mut steps: u32 = 0;
     let mut volume = first;
     while 0 < left {
-        let market = borders::abroad(n, &o.border, &o.purchase, matched);
+        let market = borders::abroad(n, at, &o.border, &o.purchase, matched);
         let over = borders::excesses(published, maxima, &market);
         if !borders::passed(&over) {
             return Ended { steps, volume };
@@ -89,6 +97,7 @@ pub fn withdraw(
             offered,
             matched,
             n,
+            at,
             &over,
             &o.border,
             &o.purchase,

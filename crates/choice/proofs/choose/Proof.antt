@@ -6,14 +6,14 @@ use Rattle.choice.proofs.choose.Statement.{statement}
 use Rattle.choice.proofs.choose.Tie as tie
 
 all-past-requires : tie.Need-all-past-requires
-all-past-requires c κs = (omega arith, c .before .before .before .before .pre .3)
+all-past-requires c κs = (omega arith, c .before .before .before .before .before .pre .3)
 
 all-past-requires-2 : tie.Need-all-past-requires-2
-all-past-requires-2 c κs = (omega arith, c .before .before .before .before .before .pre .3)
+all-past-requires-2 c κs = (omega arith, c .before .before .before .before .before .before .pre .3)
 
 returns : tie.Need-returns
 returns c h e t =
-    let s = c .before .before .before in
+    let s = c .before .before .before .before in
     let a = s .args in
     let p = c .before .before .furthest in
     let q = c .before .furthest2 in
@@ -22,7 +22,7 @@ returns c h e t =
 
 returns-2 : tie.Need-returns-2
 returns-2 c h e t =
-    let s = c .before .before .before .before .before in
+    let s = c .before .before .before .before .before .before in
     let a = s .args in
     let p = c .before .before .before .before .furthest in
     let q = c .before .before .before .furthest2 in
@@ -31,7 +31,7 @@ returns-2 c h e t =
 
 returns-3 : tie.Need-returns-3
 returns-3 c h e t =
-    let s = c .before .before .before .before .before .before .before .before in
+    let s = c .before .before .before .before .before .before .before .before .before in
     let a = s .args in
     let p = c .before .before .before .before .before .before .before .furthest in
     let q = c .before .before .before .before .before .before .furthest2 in
@@ -40,7 +40,7 @@ returns-3 c h e t =
 
 returns-4 : tie.Need-returns-4
 returns-4 c h e t =
-    let s = c .before .before .before .before .before .before .before .before in
+    let s = c .before .before .before .before .before .before .before .before .before in
     let a = s .args in
     let p = c .before .before .before .before .before .before .before .furthest in
     let q = c .before .before .before .before .before .before .furthest2 in

@@ -7,12 +7,15 @@ use borrow.Author.Needs.{needs}
 use Rattle.taking.proofs.take_from.Statement.{statement}
 use Rattle.taking.proofs.take_from.Tie as tie
 
+all-given-requires : tie.Need-all-given-requires
+all-given-requires c κs = let s = c .before .before in (omega arith, s .pre .1, (λ i. omega (arith, zeros 128 i)), s .pre .4)
+
 all-losses-requires : tie.Need-all-losses-requires
-all-losses-requires c κs = (omega arith, c .before .before .before .before .pre .2, λ i. omega (arith, zeros 128 i), length-replicate {A = ℕ} 128 0)
+all-losses-requires c κs = (omega arith, c .before .before .before .before .before .pre .2, λ i. omega (arith, zeros 128 i), length-replicate {A = ℕ} 128 0)
 
 returns : tie.Need-returns
 returns c =
-    let s = c .before .before .before .before .before .before .before .before .before in
+    let s = c .before .before .before .before .before .before .before .before .before .before in
     let a = s .args in
     let w = c .before .before .before .before .before .before .before .all-given in
     let l = c .before .before .before .before .all-losses in (
@@ -22,4 +25,4 @@ returns c =
     )
 
 pub take-from-spec : {M : Type 1} → statement M
-take-from-spec = tie.close (tie.spec (λ c κs. search needs) all-losses-requires (λ c κs. search needs) returns)
+take-from-spec = tie.close (tie.spec all-given-requires all-losses-requires (λ c κs. search needs) returns)

@@ -6,20 +6,20 @@ use Rattle.withdrawal.proofs.step.Statement.{statement}
 use Rattle.withdrawal.proofs.step.Tie as tie
 
 keep-matched-requires : tie.Need-keep-matched-requires
-keep-matched-requires c κs = let s = c .before .before in (omega arith, s .pre .3, s .pre .8)
+keep-matched-requires c κs = let s = c .before .before .before in (omega arith, s .pre .3, s .pre .8, s .pre .10)
 
 choose-requires : tie.Need-choose-requires
-choose-requires c κs = let s = c .before .before .before .before in (omega arith, s .pre .3, s .pre .4, s .pre .6)
+choose-requires c κs = let s = c .before .before .before .before .before in (omega arith, s .pre .3, s .pre .4, s .pre .6, s .pre .10)
 
 take-from-requires : tie.Need-take-from-requires
 take-from-requires c κs =
-    let s = c .before .before .before .before .before .before .before in
+    let s = c .before .before .before .before .before .before .before .before in
     let a = s .args in
-    (omega arith, s .pre .3, s .pre .6, anew-long (keptAt (a .over .now) (a .border .now) (a .purchase .now) (a .legacy .now) (a .matched .now)) (a .n) (a .offered .now) (c .before .before .before .before .keep-matched .ensures .0) (s .pre .8))
+    (omega arith, s .pre .3, s .pre .6, anew-long (keptAt (a .over .now) (a .border .now) (a .purchase .now) (a .legacy .now) (a .matched .now)) (a .n) (a .offered .now) (c .before .before .before .before .keep-matched .ensures .0) (s .pre .8), s .pre .10)
 
 match-offers-requires : tie.Need-match-offers-requires
 match-offers-requires c κs =
-    let s = c .before .before .before .before .before .before .before .before .before .before in
+    let s = c .before .before .before .before .before .before .before .before .before .before .before in
     let a = s .args in (
       s .pre .9,
       omega arith,
@@ -34,7 +34,7 @@ match-offers-requires c κs =
 
 returns : tie.Need-returns
 returns c h t along along′ =
-    let s = c .before .before .before .before .before .before .before .before .before .before .before in
+    let s = c .before .before .before .before .before .before .before .before .before .before .before .before in
     let a = s .args in
     let k = c .before .before .before .before .before .before .before .before .keep-matched in
     let f = c .before .before .before .take-from in

@@ -1,0 +1,22 @@
+-- A list of the places at which an array is not 0, so that the others can be passed over.
+use Prim.Native.Nat.{ℕ, zero, suc, _+_, _≤_, _<_}
+use mathlib.Core.Path.{_≡_}
+use mathlib.Core.List.{List}
+use lib.ListN.{getD, length}
+
+-- from i on to below j the array is 0
+pub record Gap (a : List ℕ) (i j : ℕ) : Type 0 where
+  pub forward : i ≤ j
+  pub empty : (m : ℕ) → i ≤ m → m < j → getD a m 0 ≡ 0
+
+-- the place behind the first k of a list
+unfoldable pub behind : List ℕ → ℕ → ℕ
+behind at zero = 0
+behind at (suc k) = getD at k 0 + 1
+
+-- a list has places below n, by rising place, and between them the array is 0
+pub record Listed (a : List ℕ) (n : ℕ) (at : List ℕ) : Type 0 where
+  pub few : length at ≤ n
+  pub inside : (k : ℕ) → k < length at → getD at k 0 < n
+  pub before : (k : ℕ) → k < length at → Gap a (behind at k) (getD at k 0)
+  pub last : Gap a (behind at (length at)) n
