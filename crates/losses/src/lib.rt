@@ -45,7 +45,7 @@ fn losses_in(
     amounts_in(&mut amounts, n, w, ways, matched);
     let g = arrays::total(&amounts, n);
     let r = arrays::lower(excess, g);
-    share::share(losses, &amounts, n, r)
+    share::share(losses, &amounts, n, r, g)
 }
 
 // Losses added to others, place by place.

@@ -61,22 +61,23 @@ fn first_match(o: Offers, offered: &[u32; 128]) -> First
     }
 }
 
-// "Split figures stay those of the first match": the market maxima, of what that match left.
+// "Split figures stay those of the first match": the market maxima, of what that match left and its market flows.
 fn first_maxima(
     o: Offers,
     matched: &[u32; 128],
+    market: &[u32; 10],
     capacity: &[u32; 10],
     executions: &[u32; 10],
 ) -> [u32; 10]
-    requires { ⌜ (o .count ≤ 128) × Crossing (o .count) (o .border) × ((i : ℕ) → getD (now matched) i 0 ≤ maxEnergy) × Small (now capacity) × Small (now executions) ⌝ }
+    requires { ⌜ (o .count ≤ 128) × Crossing (o .count) (o .border) × ((i : ℕ) → getD (now matched) i 0 ≤ maxEnergy) × Small (now capacity) × Small (now executions)
+        × Small (now market) × ((e : List ℕ) → MarketFlows (now market) (offersOf o e (now matched))) ⌝ }
     ensures { λ r. ⌜ ((flags : List Bool) (e : List ℕ) (xs : List Execution)
         → ExecutionFlows (now (executions .entry)) xs
         → publishedIn flags r ≡ map (maximumOf (offersOf o e (now (matched .entry))) xs) (publishedIn flags (now (capacity .entry)))) ⌝ }
 {
     let n = o.count;
-    let market = borders::flows(false, n, &o.border, &o.purchase, &o.legacy, matched);
     let legacy = borders::flows(true, n, &o.border, &o.purchase, &o.legacy, matched);
-    borders::maxima(capacity, executions, &market, &legacy)
+    borders::maxima(capacity, executions, market, &legacy)
 }
 
 // The market of an hour: first match, Split, withdrawal. `executions` are the flows of the hour's executions.
@@ -97,7 +98,8 @@ pub fn clear(
     let sales = first.sales;
     let purchases = first.purchases;
     let mut matched = first.matched;
-    let maxima = first_maxima(o, &matched, capacity, executions);
+    let market = borders::flows(false, n, &o.border, &o.purchase, &o.legacy, &matched);
+    let maxima = first_maxima(o, &matched, &market, capacity, executions);
     let end = withdrawal::withdraw(
         &mut offered,
         &mut matched,
@@ -107,6 +109,7 @@ pub fn clear(
         purchases,
         published,
         &maxima,
+        &market,
     );
     let flows = borders::flows(false, n, &o.border, &o.purchase, &o.legacy, &matched);
     let price = matching::price_of(&o.price, &offered, &sales.keys, sales.count, end.volume);

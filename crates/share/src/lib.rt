@@ -82,11 +82,10 @@ fn share_first(losses: &mut [u32], amounts: &[u32], n: usize, r: u32, g: u32)
     share_all(&mut losses[..n], &amounts[..n], r, g)
 }
 
-// To take r from the first n amounts: what each of them loses. The losses behind them stay as they were.
-pub fn share(losses: &mut [u32; 128], amounts: &[u32; 128], n: usize, r: u32)
-    requires { ⌜ (n ≤ 128) × ((i : ℕ) → getD (now amounts) i 0 ≤ 99999) × (r ≤ sum (vals (now amounts) 0 n)) ⌝ }
+// To take r from the first n amounts, whose sum is g: what each of them loses. The losses behind them stay as they were.
+pub fn share(losses: &mut [u32; 128], amounts: &[u32; 128], n: usize, r: u32, g: u32)
+    requires { ⌜ (n ≤ 128) × ((i : ℕ) → getD (now amounts) i 0 ≤ 99999) × (r ≤ g) × (g ≡ sum (vals (now amounts) 0 n)) ⌝ }
     ensures { λ _. ⌜ (vals (now (losses .exit)) 0 n ≡ shareOf r (vals (now (amounts .entry)) 0 n)) × ((i : ℕ) → n ≤ i → getD (now (losses .exit)) i 0 ≡ getD (now (losses .entry)) i 0) ⌝ }
 {
-    let g = arrays::total(amounts, n);
     share_first(losses, amounts, n, r, g)
 }

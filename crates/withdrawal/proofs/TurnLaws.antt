@@ -19,9 +19,8 @@ use Rattle.arrays.specs.Places.{vals}
 use Rattle.arrays.proofs.PlaceLaws.{none-off}
 use Rattle.matching.specs.View.{offerAt, offersOf}
 use Rattle.borders.specs.Ways.{publishedIn, overIn}
-use Rattle.borders.specs.Flows.{BorderFlows, Abroad}
+use Rattle.borders.specs.Flows.{BorderFlows}
 use Rattle.borders.specs.Limits.{nonEmpty}
-use Rattle.borders.proofs.FlowLaws.{border-flows}
 use Rattle.overrun.specs.Lent.{Lent}
 use Rattle.withdrawal.specs.Steps.{Stepped}
 use Rattle.withdrawal.specs.declared.Ended.{Ended}
@@ -100,10 +99,10 @@ module _ {h : Offers} {published : List Bool} {maxima e₀ m₀ e m : List ℕ} 
     kept = k;
   }
 
-  module _ (market over : List ℕ) (flows : Abroad (h .border) (h .purchase) m (h .count) market)
+  module _ (market over : List ℕ) (flows : BorderFlows market (offersOf h e m))
       (excesses : (os : List Offer) → BorderFlows market os → overIn over ≡ overruns (publishedIn published maxima) os) where
     same : overIn over ≡ overruns (publishedIn published maxima) (offersOf h e m)
-    same = excesses (offersOf h e m) (border-flows h e m market flows)
+    same = excesses (offersOf h e m) flows
 
     -- with no balance over its maximum
     pub end-said : nonEmpty (overIn over) ≡ false → Energies (h .count) e m → Withdrew h published maxima e₀ m₀ e m (record { steps = steps; volume = v })

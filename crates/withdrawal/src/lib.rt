@@ -11,6 +11,7 @@ ghost use Rattle.matching.specs.declared.Offers.{Offers};
 ghost use Rattle.matching.specs.View.{offersOf};
 ghost use Rattle.matching.specs.Orders.{Along};
 ghost use Rattle.arrays.specs.Listing.{Listed};
+ghost use Rattle.borders.specs.Flows.{MarketFlows};
 ghost use Rattle.overrun.specs.Lent.{Lent};
 ghost use Rattle.withdrawal.specs.Steps.{Stepped};
 ghost use Rattle.withdrawal.specs.Turns.{Energies, Crossing, Withdrew};
@@ -62,9 +63,8 @@ pub fn step<'a>(
     matching::match_offers(matched, offered, price, sales, ns, purchases, np)
 }
 
-// "while a market balance passes its maximum", from the first match, of that volume. What is offered bounds the steps and
-// never ends them (`withdraw-ends` of the rules).
-pub fn withdraw(
+// The steps, from the first match, of that volume. What is offered bounds them and never ends them (`withdraw-ends` of the rules).
+fn repeat(
     offered: &mut [u32; 128],
     matched: &mut [u32; 128],
     first: u32,
@@ -112,4 +112,41 @@ pub fn withdraw(
         steps += 1;
     }
     Ended { steps, volume }
+}
+
+// "while a market balance passes its maximum", from the first match, of that volume and these market flows: in most hours none does,
+// and nothing more is looked at.
+pub fn withdraw(
+    offered: &mut [u32; 128],
+    matched: &mut [u32; 128],
+    first: u32,
+    o: Offers,
+    sales: Order,
+    purchases: Order,
+    published: &[bool; 10],
+    maxima: &[u32; 10],
+    market: &[u32; 10],
+) -> Ended
+    requires { ⌜ Crossing (o .count) (o .border) × Energies (o .count) (now offered) (now matched)
+        × Along false o (o .price) (sales .keys) (sales .count) × Along true o (o .price) (purchases .keys) (purchases .count)
+        × (first ≡ volume (offersOf o (now offered) (now matched))) × MarketFlows (now market) (offersOf o (now offered) (now matched)) ⌝ }
+    ensures { λ r. ⌜ Withdrew o (now (published .entry)) (now (maxima .entry)) (now (offered .entry)) (now (matched .entry)) (now (offered .exit)) (now (matched .exit)) r ⌝ }
+{
+    let over = borders::excesses(published, maxima, market);
+    if !borders::passed(&over) {
+        return Ended {
+            steps: 0,
+            volume: first,
+        };
+    }
+    repeat(
+        offered,
+        matched,
+        first,
+        o,
+        sales,
+        purchases,
+        published,
+        maxima,
+    )
 }

@@ -12,7 +12,8 @@ share-requires : tie.Need-share-requires
 share-requires c κs = (
   omega arith,
   amounts-small _ _ _ _ (c .before .before .before .before .before .amounts-in .ensures) (c .before .before .before .before .before .before .before .pre .1),
-  omega (arith, c .before .before .lower .ensures, c .before .before .before .total .ensures .0),
+  omega (arith, c .before .before .lower .ensures),
+  c .before .before .before .total .ensures .0,
 )
 
 returns : tie.Need-returns
