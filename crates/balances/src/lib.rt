@@ -7,11 +7,12 @@ ghost use lib.IntN.{subℕ};
 ghost use Rattle.rules.specs.Queries as Q;
 ghost use Rattle.borders.specs.Ways.{wayOf};
 ghost use Rattle.queries.specs.Replies.{Answered};
-ghost use Rattle.queries.specs.Parts.{Judges};
+ghost use Rattle.queries.specs.Parts.{Judges, figuresIn};
 ghost use Rattle.balances.specs.Parts.{BorderFits};
 use queries::Reply;
 use queries::figures_at;
 use queries::judge_hour;
+use session::Cleared;
 use session::Judged;
 use session::RANGE;
 use session::Session;
@@ -61,16 +62,37 @@ fn balance(energies: [u32; 10], border: u32) -> Reply
     difference(exports as u64, imports as u64)
 }
 
-// The final market balance of a border: 2, 4, 5.
-pub fn market(s: Session, border: u32, hour: u32) -> Reply
+// The final market balance of a border, from the hour's figures: 2, 4, 5.
+pub fn market_from(s: Session, x: Cleared, border: u32, hour: u32) -> Reply
+    requires { ⌜ x ≡ figuresIn s hour ⌝ }
     ensures { λ r. ⌜ Answered s (Q.market border hour) r ⌝ }
 {
     let j = judge_border(s, border, hour);
     if let Judged::No(row, at) = j {
         return Reply::Refused(row, at);
     }
-    let x = figures_at(s, hour);
     let energies = x.market;
+    balance(energies, border)
+}
+
+// The final market balance of a border: 2, 4, 5.
+pub fn market(s: Session, border: u32, hour: u32) -> Reply
+    ensures { λ r. ⌜ Answered s (Q.market border hour) r ⌝ }
+{
+    let x = figures_at(s, hour);
+    market_from(s, x, border, hour)
+}
+
+// The final balance of its executions, from the hour's figures: 2, 4, 5.
+pub fn bilateral_from(s: Session, x: Cleared, border: u32, hour: u32) -> Reply
+    requires { ⌜ x ≡ figuresIn s hour ⌝ }
+    ensures { λ r. ⌜ Answered s (Q.bilateral border hour) r ⌝ }
+{
+    let j = judge_border(s, border, hour);
+    if let Judged::No(row, at) = j {
+        return Reply::Refused(row, at);
+    }
+    let energies = x.bilateral;
     balance(energies, border)
 }
 
@@ -78,11 +100,6 @@ pub fn market(s: Session, border: u32, hour: u32) -> Reply
 pub fn bilateral(s: Session, border: u32, hour: u32) -> Reply
     ensures { λ r. ⌜ Answered s (Q.bilateral border hour) r ⌝ }
 {
-    let j = judge_border(s, border, hour);
-    if let Judged::No(row, at) = j {
-        return Reply::Refused(row, at);
-    }
     let x = figures_at(s, hour);
-    let energies = x.bilateral;
-    balance(energies, border)
+    bilateral_from(s, x, border, hour)
 }

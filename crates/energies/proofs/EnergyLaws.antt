@@ -6,7 +6,7 @@ use mathlib.Core.List.{List, map}
 use native.Mathlib.Omega.{arith}
 use lib.IntN.{pos}
 use lib.ListN.{getD, length-map}
-use borrow.Author.Tests.{eqb-true}
+use borrow.Author.Tests.{eqb-true, lt-ltb}
 use Rattle.rules.specs.Refusals.{given}
 use Rattle.rules.specs.Units as U
 use Rattle.rules.specs.Book.{Book}
@@ -18,12 +18,12 @@ use Rattle.session.specs.Parts.{placeOf}
 use Rattle.session.specs.declared.Session.{Session}
 use Rattle.session.specs.declared.Cleared.{Cleared}
 use Rattle.session.proofs.PlaceLaws.{placed, place-first, getD-map}
-use Rattle.session.proofs.ImageLaws.{registered-as, place-as}
+use Rattle.session.proofs.ImageLaws.{registered-at, place-as}
 use Rattle.queries.specs.Replies.{replyIn}
 use Rattle.queries.specs.Parts.{HourFits, figuresIn}
 use Rattle.queries.specs.declared.Reply.the-variants.{Number}
 use Rattle.queries.proofs.FigureLaws.{pad-at, figures-as}
-use Rattle.energies.specs.Parts.{UnitFits, unitPlace}
+use Rattle.energies.specs.Parts.{UnitFits}
 
 the-number : (us : List U.Registered) (n : ℕ) → U.isRegistered us n ≡ true → U.unitOf us n .unit .number ≡ n
 unfolding U.isRegistered U.unitOf U.hasNumber
@@ -44,24 +44,24 @@ module _ (f : ℕ → ℕ) (us : List U.Registered) where
 
 module _ (s : Session) (b : Book) (e : s ≡ image b) where
   -- an energy of a unit
-  pub unit-figure : {u h : ℕ} (f : ℕ → ℕ) → UnitFits s u h → getD (byUnit f (b .units)) (unitPlace s u) 0 ≡ f u
-  unit-figure {u} f k =
-      ap (λ p. getD (byUnit f (b .units)) p 0) (sym (place-as s b e u))
-      ∙ by-unit f (b .units) u (registered-as s b e u ∙ k .registered)
+  pub unit-figure : {u at h : ℕ} (f : ℕ → ℕ) → UnitFits s u at h → getD (byUnit f (b .units)) at 0 ≡ f u
+  unit-figure {u} {at} f k =
+      ap (λ p. getD (byUnit f (b .units)) p 0) (k .place ∙ sym (place-as s b e u))
+      ∙ by-unit f (b .units) u (registered-at s b e u at (k .place) ∙ lt-ltb at (s .enrolled) (k .registered))
 
-module _ (s : Session) (hour : ℕ) (x : Cleared) (at : x ≡ figuresIn s hour) (b : Book) (sound : Sound b) (e : s ≡ image b) where
+module _ (s : Session) (hour : ℕ) (x : Cleared) (is : x ≡ figuresIn s hour) (b : Book) (sound : Sound b) (e : s ≡ image b) where
   the-figures : HourFits s hour → x ≡ figuresAs b hour
-  the-figures f = at ∙ figures-as s b e f
+  the-figures f = is ∙ figures-as s b e f
 
-  module _ (unit : ℕ) (f : UnitFits s unit hour) (n : ℕ) where
-    pub matched-shown : n ≡ getD (x .matched) (unitPlace s unit) 0 → replyIn (Number (pos n)) ≡ given (shown b (Q.matched unit hour))
+  module _ (unit at : ℕ) (f : UnitFits s unit at hour) where
+    pub matched-shown : replyIn (Number (pos (getD (x .matched) at 0))) ≡ given (shown b (Q.matched unit hour))
     unfolding replyIn shown figuresAs
-    matched-shown q =
+    matched-shown =
         ap (λ m. given (number (pos m)))
-        (q ∙ ap (λ y. getD (y .matched) (unitPlace s unit) 0) (the-figures (f .hours)) ∙ unit-figure s b e (λ u. matchedAt b u hour) f)
+        (ap (λ y. getD (y .matched) at 0) (the-figures (f .hours)) ∙ unit-figure s b e (λ u. matchedAt b u hour) f)
 
-    pub executed-shown : n ≡ getD (x .executed) (unitPlace s unit) 0 → replyIn (Number (pos n)) ≡ given (shown b (Q.executed unit hour))
+    pub executed-shown : replyIn (Number (pos (getD (x .executed) at 0))) ≡ given (shown b (Q.executed unit hour))
     unfolding replyIn shown figuresAs
-    executed-shown q =
+    executed-shown =
         ap (λ m. given (number (pos m)))
-        (q ∙ ap (λ y. getD (y .executed) (unitPlace s unit) 0) (the-figures (f .hours)) ∙ unit-figure s b e (λ u. executedAt b u hour) f)
+        (ap (λ y. getD (y .executed) at 0) (the-figures (f .hours)) ∙ unit-figure s b e (λ u. executedAt b u hour) f)

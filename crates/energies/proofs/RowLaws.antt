@@ -1,22 +1,21 @@
 -- Refusals of a unit's energy: each way out.
-use Prim.Native.Nat.{ℕ}
+use Prim.Native.Nat.{ℕ, _≤_, _<_}
 use mathlib.Core.Path.{_≡_, refl, sym, _∙_}
 use mathlib.Core.Bool.{true, false}
-use lib.ListN.{take}
-use Rattle.rules.specs.Lists.{any}
+use borrow.Author.Tests.{lt-ltb, le-ltb}
 use Rattle.rules.specs.Refusals.{row, firstRow}
 use Rattle.rules.specs.Units.{badNumber}
 use Rattle.rules.specs.Book.{Book}
 use Rattle.rules.specs.Queries as Q
 use Rattle.session.specs.Image.{image, Sound}
-use Rattle.session.specs.Parts.{numberIs}
 use Rattle.session.specs.declared.Session.{Session}
 use Rattle.session.specs.declared.Judged.{Judged}
 use Rattle.session.specs.declared.Judged.the-variants.{No, Clear}
-use Rattle.session.proofs.ImageLaws.{registered-as}
+use Rattle.session.proofs.ImageLaws.{registered-at}
 use Rattle.queries.specs.Parts.{Judges}
 use Rattle.queries.proofs.RowLaws.{front, behind}
 use Rattle.queries.proofs.ReplyLaws.{SameRows}
+use Rattle.energies.specs.Parts.{unitPlace}
 
 module _ (s : Session) (u h : ℕ) (j : Judged) (judges : Judges s (Q.price h) j) where
   pub unit-front : {n k : ℕ} → j ≡ No n k → Judges s (Q.matched u h) (No n k)
@@ -32,13 +31,14 @@ module _ (s : Session) (u h : ℕ) (j : Judged) (judges : Judges s (Q.price h) j
     unfolding Q.unitRows row firstRow
     unit-5 k b sound e = rw (unit-rows b sound e, k)
 
-    pub unit-6 : badNumber u ≡ false → any (numberIs u) (take (s .enrolled) (s .units)) ≡ false → Judges s (Q.matched u h) (No 6 0)
-    unfolding Q.unitRows row firstRow
-    unit-6 k n b sound e = rw (unit-rows b sound e, k, registered-as s b e u, n)
+    module _ (k : badNumber u ≡ false) (at : ℕ) (place : at ≡ unitPlace s u) where
+      pub unit-6 : s .enrolled ≤ at → Judges s (Q.matched u h) (No 6 0)
+      unfolding Q.unitRows row firstRow
+      unit-6 n b sound e = rw (unit-rows b sound e, k, registered-at s b e u at place, le-ltb at (s .enrolled) n)
 
-    pub unit-0 : badNumber u ≡ false → any (numberIs u) (take (s .enrolled) (s .units)) ≡ true → Judges s (Q.matched u h) Clear
-    unfolding Q.unitRows row firstRow
-    unit-0 k n b sound e = rw (unit-rows b sound e, k, registered-as s b e u, n)
+      pub unit-0 : at < s .enrolled → Judges s (Q.matched u h) Clear
+      unfolding Q.unitRows row firstRow
+      unit-0 n b sound e = rw (unit-rows b sound e, k, registered-at s b e u at place, lt-ltb at (s .enrolled) n)
 
 -- both energies of a unit are refused alike
 pub executed-rows : (u h : ℕ) → SameRows (Q.matched u h) (Q.executed u h)

@@ -1,74 +1,92 @@
 // The queries of a unit's energies, after clearing.
 ghost use mathlib.Core.Path.{_≡_};
-ghost use lib.ListN.{getD};
 ghost use Rattle.rules.specs.Queries as Q;
 ghost use Rattle.queries.specs.Replies.{Answered};
-ghost use Rattle.queries.specs.Parts.{Judges};
-ghost use Rattle.energies.specs.Parts.{UnitFits, unitPlace};
+ghost use Rattle.queries.specs.Parts.{Judges, figuresIn};
+ghost use Rattle.energies.specs.Parts.{UnitFits, UnitFound};
 use queries::Reply;
 use queries::figures_at;
 use queries::judge_hour;
 use queries::number;
+use session::Cleared;
 use session::Judged;
 use session::NO_UNIT;
 use session::RANGE;
 use session::Session;
 use session::units::bad_number;
-use session::units::is_registered;
 use session::units::place;
 
-// A figure of a unit in an hour: 2, 4, 5, 6.
-fn judge_unit(s: Session, unit: u32, hour: u32) -> Judged
-    ensures { λ r. ⌜ Judges s (Q.matched unit hour) r × (r ≡ Judged.Clear → UnitFits s unit hour) ⌝ }
+// The place of a unit among the registered ones, or their number. Any place is one of a session that the guard rejects.
+pub fn unit_at(s: Session, unit: u32) -> usize
+    ensures { λ r. ⌜ UnitFound s unit r ⌝ }
+{
+    if 64 < s.enrolled {
+        return 0;
+    }
+    let units = s.units;
+    place(units, s.enrolled, unit)
+}
+
+// A figure of a unit in an hour, from the unit's place: 2, 4, 5, 6.
+fn judge_unit(s: Session, at: usize, unit: u32, hour: u32) -> Judged
+    requires { ⌜ UnitFound s unit at ⌝ }
+    ensures { λ r. ⌜ Judges s (Q.matched unit hour) r × (r ≡ Judged.Clear → UnitFits s unit at hour) ⌝ }
 {
     let j = judge_hour(s, hour);
-    if let Judged::No(row, at) = j {
-        return Judged::No(row, at);
+    if let Judged::No(row, of) = j {
+        return Judged::No(row, of);
     }
     if bad_number(unit) {
         return Judged::No(RANGE, 0);
     }
-    let units = s.units;
-    if is_registered(units, s.enrolled, unit) {
+    if at < s.enrolled {
         return Judged::Clear;
     }
     Judged::No(NO_UNIT, 0)
 }
 
-// The energy of a unit among those in the units' places.
-fn of_unit(s: Session, unit: u32, hour: u32, energies: [u32; 64]) -> u32
-    requires { ⌜ UnitFits s unit hour ⌝ }
-    ensures { λ r. ⌜ r ≡ getD energies (unitPlace s unit) 0 ⌝ }
+// "a unit's matched [..] energy in an hour", from the hour's figures and the unit's place: 2, 4, 5, 6.
+pub fn matched_from(s: Session, x: Cleared, at: usize, unit: u32, hour: u32) -> Reply
+    requires { ⌜ (x ≡ figuresIn s hour) × UnitFound s unit at ⌝ }
+    ensures { λ r. ⌜ Answered s (Q.matched unit hour) r ⌝ }
 {
-    let units = s.units;
-    let at = place(units, s.enrolled, unit);
-    energies[at]
+    let j = judge_unit(s, at, unit, hour);
+    if let Judged::No(row, of) = j {
+        return Reply::Refused(row, of);
+    }
+    let energies = x.matched;
+    let matched = energies[at];
+    number(matched)
 }
 
 // "a unit's matched [..] energy in an hour": 2, 4, 5, 6.
 pub fn matched(s: Session, unit: u32, hour: u32) -> Reply
     ensures { λ r. ⌜ Answered s (Q.matched unit hour) r ⌝ }
 {
-    let j = judge_unit(s, unit, hour);
-    if let Judged::No(row, at) = j {
-        return Reply::Refused(row, at);
-    }
     let x = figures_at(s, hour);
-    let energies = x.matched;
-    let matched = of_unit(s, unit, hour, energies);
-    number(matched)
+    let at = unit_at(s, unit);
+    matched_from(s, x, at, unit, hour)
+}
+
+// "and executed energy", from the hour's figures and the unit's place: 2, 4, 5, 6.
+pub fn executed_from(s: Session, x: Cleared, at: usize, unit: u32, hour: u32) -> Reply
+    requires { ⌜ (x ≡ figuresIn s hour) × UnitFound s unit at ⌝ }
+    ensures { λ r. ⌜ Answered s (Q.executed unit hour) r ⌝ }
+{
+    let j = judge_unit(s, at, unit, hour);
+    if let Judged::No(row, of) = j {
+        return Reply::Refused(row, of);
+    }
+    let energies = x.executed;
+    let executed = energies[at];
+    number(executed)
 }
 
 // "and executed energy": 2, 4, 5, 6.
 pub fn executed(s: Session, unit: u32, hour: u32) -> Reply
     ensures { λ r. ⌜ Answered s (Q.executed unit hour) r ⌝ }
 {
-    let j = judge_unit(s, unit, hour);
-    if let Judged::No(row, at) = j {
-        return Reply::Refused(row, at);
-    }
     let x = figures_at(s, hour);
-    let energies = x.executed;
-    let executed = of_unit(s, unit, hour, energies);
-    number(executed)
+    let at = unit_at(s, unit);
+    executed_from(s, x, at, unit, hour)
 }

@@ -1,6 +1,9 @@
-pub mod AskedOne
-pub mod AskedTwo
-pub mod AskedWay
+pub mod Places
+pub mod AskedHour
+pub mod AskedBorder
+pub mod AskedDirection
+pub mod AskedUnit
+pub mod AskedNumber
 pub mod Passing
 pub mod Applied
 pub mod AppliedTo

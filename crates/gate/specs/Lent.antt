@@ -15,7 +15,8 @@ use Rattle.session.specs.declared.Unit.{Unit}
 use Rattle.session.specs.declared.Key.{Key}
 use Rattle.queries.specs.declared.Reply.{Reply}
 use Rattle.daybook.specs.Demand3.{Demand3}
-use Rattle.response.specs.Told.{Stepped, ofAnswer, ofReply, availableIn, capacityIn, OpensAs, MetAs, AnsweredAs}
+use Rattle.response.specs.Told.{Stepped, ofAnswer, availableIn, capacityIn, OpensAs, MetAs}
+use Rattle.replies.specs.Told.{ofReply, AnsweredAs}
 use Rattle.response.specs.declared.Response.{Response}
 use Rattle.response.specs.declared.Availability.{Availability}
 use Rattle.response.specs.declared.Capacities.{Capacities}

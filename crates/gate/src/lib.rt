@@ -10,7 +10,8 @@ ghost use Rattle.rules.specs.Queries as Q;
 ghost use Rattle.calendar.specs.View.{dateIn, clockIn, countedAs, namedAs};
 ghost use Rattle.message.specs.View.{fieldsIn, readingAs, writtenAs};
 ghost use Rattle.session.specs.Image.{unitIn, keyIn};
-ghost use Rattle.response.specs.Told.{ofCounted, ofNamed, availableIn, capacityIn, OpensAs, MetAs, AnsweredAs};
+ghost use Rattle.response.specs.Told.{ofCounted, ofNamed, availableIn, capacityIn, OpensAs, MetAs};
+ghost use Rattle.replies.specs.Told.{AnsweredAs};
 use calendar::Clock;
 use calendar::Date;
 use lent::settle_clearing;
@@ -154,7 +155,9 @@ pub extern "C" fn gate_clear(s: &mut Session) -> Response
 pub extern "C" fn gate_verdict(s: &Session, number: u32) -> Response
     ensures { λ r. ⌜ AnsweredAs (now (s .entry)) (Q.verdict number) r ⌝ }
 {
-    response::verdict(*s, number)
+    let at = lent::lodged_at(s, number);
+    let of = verdicts::verdict_place(at);
+    replies::verdict(*s, at, s.verdicts[of], number)
 }
 
 // A unit's matched energy in an hour: 2, 4, 5, 6.
@@ -162,7 +165,9 @@ pub extern "C" fn gate_verdict(s: &Session, number: u32) -> Response
 pub extern "C" fn gate_matched(s: &Session, unit: u32, hour: u32) -> Response
     ensures { λ r. ⌜ AnsweredAs (now (s .entry)) (Q.matched unit hour) r ⌝ }
 {
-    response::matched(*s, unit, hour)
+    let of = lent::unit_at(s, unit);
+    let at = queries::place_of(hour);
+    replies::matched(*s, s.figures[at], of, unit, hour)
 }
 
 // A unit's executed energy in an hour: 2, 4, 5, 6.
@@ -170,7 +175,9 @@ pub extern "C" fn gate_matched(s: &Session, unit: u32, hour: u32) -> Response
 pub extern "C" fn gate_executed(s: &Session, unit: u32, hour: u32) -> Response
     ensures { λ r. ⌜ AnsweredAs (now (s .entry)) (Q.executed unit hour) r ⌝ }
 {
-    response::executed(*s, unit, hour)
+    let of = lent::unit_at(s, unit);
+    let at = queries::place_of(hour);
+    replies::executed(*s, s.figures[at], of, unit, hour)
 }
 
 // The final market balance of a border: 2, 4, 5.
@@ -178,7 +185,8 @@ pub extern "C" fn gate_executed(s: &Session, unit: u32, hour: u32) -> Response
 pub extern "C" fn gate_market(s: &Session, border: u32, hour: u32) -> Response
     ensures { λ r. ⌜ AnsweredAs (now (s .entry)) (Q.market border hour) r ⌝ }
 {
-    response::market(*s, border, hour)
+    let at = queries::place_of(hour);
+    replies::market(*s, s.figures[at], border, hour)
 }
 
 // The final balance of its executions: 2, 4, 5.
@@ -186,7 +194,8 @@ pub extern "C" fn gate_market(s: &Session, border: u32, hour: u32) -> Response
 pub extern "C" fn gate_bilateral(s: &Session, border: u32, hour: u32) -> Response
     ensures { λ r. ⌜ AnsweredAs (now (s .entry)) (Q.bilateral border hour) r ⌝ }
 {
-    response::bilateral(*s, border, hour)
+    let at = queries::place_of(hour);
+    replies::bilateral(*s, s.figures[at], border, hour)
 }
 
 // The market maximum of a border's direction, "absent without capacity": 2, 4, 5.
@@ -194,7 +203,9 @@ pub extern "C" fn gate_bilateral(s: &Session, border: u32, hour: u32) -> Respons
 pub extern "C" fn gate_market_maximum(s: &Session, border: u32, export: bool, hour: u32) -> Response
     ensures { λ r. ⌜ AnsweredAs (now (s .entry)) (Q.marketMax border export hour) r ⌝ }
 {
-    response::market_maximum(*s, border, export, hour)
+    let of = maxima::notice_place(border, export);
+    let at = queries::place_of(hour);
+    replies::market_maximum(*s, s.figures[at], s.capacities[of], border, export, hour)
 }
 
 // Its bilateral maximum, which may be below zero: 2, 4, 5.
@@ -207,7 +218,9 @@ pub extern "C" fn gate_bilateral_maximum(
 ) -> Response
     ensures { λ r. ⌜ AnsweredAs (now (s .entry)) (Q.bilateralMax border export hour) r ⌝ }
 {
-    response::bilateral_maximum(*s, border, export, hour)
+    let of = maxima::notice_place(border, export);
+    let at = queries::place_of(hour);
+    replies::bilateral_maximum(*s, s.figures[at], s.capacities[of], border, export, hour)
 }
 
 // The hour's price: 2, 4.
@@ -215,5 +228,6 @@ pub extern "C" fn gate_bilateral_maximum(
 pub extern "C" fn gate_price(s: &Session, hour: u32) -> Response
     ensures { λ r. ⌜ AnsweredAs (now (s .entry)) (Q.price hour) r ⌝ }
 {
-    response::price(*s, hour)
+    let at = queries::place_of(hour);
+    replies::price(*s, s.figures[at], hour)
 }

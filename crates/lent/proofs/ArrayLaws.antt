@@ -75,3 +75,9 @@ module _ (F : Field) (L : FLaws F) where
 
     pub element : (d : F .Value) (i : ℕ) → i < n → One (getD xs i d)
     element d i h = each-get d xs i (omega (arith, h, long)) own
+
+    pub long-vals : length (vals xs) ≡ n
+    long-vals = length-vals xs ∙ long
+
+    pub val-at : (d : F .Value) (i : ℕ) → i < n → getD (vals xs) i vunit ≡ val-of (getD xs i d)
+    val-at d i h = vals-get d xs i (omega (arith, h, long))

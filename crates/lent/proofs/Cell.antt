@@ -72,3 +72,14 @@ module _ {M : Type 1} {𝓤 : URA M} {H : Heap 𝓤} {A : Atoms 𝓤} {K : Type 
       → Reads K W (‵ (fat q (tyStruct ν τs) b o (vstruct vs)) ∷ Γ) τ b (i * size τ + (o + d)) v
   element-read t {q} {ν} {τs} {b} {o} {vs} {τ} {n} {d} us k i e g lt len a =
       subst (λ (v : Val). Reads K W (‵ (fat q (tyStruct ν τs) b o (vstruct vs)) ∷ Γ) τ b (i * size τ + (o + d)) v) a (look-in t 0 (element-of t us k i e g lt len (whole t)))
+
+  -- a field of one in the first entry is read
+  pub element-field-read : K → {q : Share} {ν μ : Sym} {τs σs : Tys} {b o : ℕ} {vs ws : Vals} {τ : Ty} {n d c : ℕ} {v : Val} (us : List Val) (k i j : ℕ)
+      → fieldAt zero τs k ≡ some (tyArray (tyStruct μ σs) n, d) → getV vs k ≡ arrayVal us → i < n → length us ≡ n → getD us i vunit ≡ vstruct ws → fieldAt zero σs j ≡ some (τ, c) → getV ws j ≡ v
+      → Reads K W (‵ (fat q (tyStruct ν τs) b o (vstruct vs)) ∷ Γ) τ b (i * size (tyStruct μ σs) + (o + d) + c) v
+  element-field-read t {q} {ν} {μ} {τs} {σs} {b} {o} {vs} {ws} {τ} {n} {d} {c} us k i j e g lt len a f w =
+      subst (λ (v : Val). Reads K W (‵ (fat q (tyStruct ν τs) b o (vstruct vs)) ∷ Γ) τ b (i * size (tyStruct μ σs) + (o + d) + c) v) w
+      (look-in t 0
+      (sub t j f
+      (subst (λ (v : Val). Part K W (‵ (fat q (tyStruct ν τs) b o (vstruct vs))) q (tyStruct μ σs) b (i * size (tyStruct μ σs) + (o + d)) v (λ u. ‵ (fat q (tyStruct ν τs) b o (vstruct (setV vs k (arrayVal (set us i u)))))))
+      a (element-of t us k i e g lt len (whole t)))))

@@ -3,3 +3,4 @@ pub mod ArrayLaws
 pub mod Outcomes
 pub mod Cell
 pub mod SessionCell
+pub mod Searched

@@ -8,7 +8,7 @@ use lib.Dec.{T as Tᵇ}
 use lib.ListN.{length, getD, set}
 use mir.Syntax.{Ty, tyInt, w32, w64, tyArray, field}
 use mir.Val.{vint, WT, hasTy}
-use base.Fml.{fat}
+use base.Fml.{Share, fat}
 use prog.Wp.{Heap, Env}
 use ghost.Atoms.{Atoms}
 use types.Kit.{Given, Item, ‵}
@@ -22,6 +22,8 @@ use Rattle.session.specs.declared.Unit.{Unit}
 use Rattle.session.specs.declared.Notice.{Notice}
 use Rattle.session.specs.declared.Lodgement.{Lodgement}
 use Rattle.session.specs.declared.Energies.{Energies}
+use Rattle.session.specs.declared.Verdict.{Verdict}
+use Rattle.session.specs.declared.Cleared.{Cleared}
 use Rattle.session.proofs.Session as T
 use Rattle.session.proofs.Session.Laws as T′
 use Rattle.session.proofs.Unit as U
@@ -30,9 +32,13 @@ use Rattle.session.proofs.Notice as X
 use Rattle.session.proofs.Notice.Laws as X′
 use Rattle.session.proofs.Lodgement as L
 use Rattle.session.proofs.Lodgement.Laws as L′
+use Rattle.session.proofs.Verdict as J
+use Rattle.session.proofs.Verdict.Laws as J′
+use Rattle.session.proofs.Cleared as C
+use Rattle.session.proofs.Cleared.Laws as C′
 use Rattle.session.proofs.Energies as E
 use Rattle.session.proofs.Energies.Laws as E′
-use Rattle.lent.proofs.ArrayLaws.{vals, All, One, vals-set, vals-get, length-vals, long, stored, element}
+use Rattle.lent.proofs.ArrayLaws.{vals, All, One, vals-set, vals-get, length-vals, long, stored, element, long-vals, val-at}
 use Rattle.lent.proofs.Cell.{sv, field-stored, element-stored, element-read}
 
 -- a session and its machine value are related
@@ -127,6 +133,15 @@ module _ (s : Session) (g : Good s) where
       let w = LL.owed T.the-type T′.the-laws s _ g in
       LL.owes T.the-type T′.the-laws (put-energies s i x) (w .0, (w .1 .0, (w .1 .1 .0, (w .1 .1 .1 .0, (w .1 .1 .1 .1 .0, (w .1 .1 .1 .1 .1 .0, (w .1 .1 .1 .1 .1 .1 .0, (w .1 .1 .1 .1 .1 .1 .1 .0, (stored E.the-field E′.the-field-laws 128 (s .energies) all-energies i x o, (w .1 .1 .1 .1 .1 .1 .1 .1 .1 .0, (w .1 .1 .1 .1 .1 .1 .1 .1 .1 .1 .0, (w .1 .1 .1 .1 .1 .1 .1 .1 .1 .1 .1 .0, (w .1 .1 .1 .1 .1 .1 .1 .1 .1 .1 .1 .1 .0, (w .1 .1 .1 .1 .1 .1 .1 .1 .1 .1 .1 .1 .1 .0, tt))))))))))))))
 
+  pub all-capacities : All X.the-field X′.the-field-laws 8 (s .capacities)
+  all-capacities = LL.owed T.the-type T′.the-laws s _ g .1 .1 .1 .1 .1 .0
+
+  pub all-verdicts : All J.the-field J′.the-field-laws 128 (s .verdicts)
+  all-verdicts = LL.owed T.the-type T′.the-laws s _ g .1 .1 .1 .1 .1 .1 .1 .1 .1 .1 .1 .1 .0
+
+  pub all-figures : All C.the-field C′.the-field-laws 25 (s .figures)
+  all-figures = LL.owed T.the-type T′.the-laws s _ g .1 .1 .1 .1 .1 .1 .1 .1 .1 .1 .1 .1 .1 .0
+
   pub with-enrolled : (n : ℕ) → n < 2 ^ 64 → Good (put-enrolled s n)
   with-enrolled n h =
       let w = LL.owed T.the-type T′.the-laws s _ g in
@@ -173,6 +188,12 @@ module _ {M : Type 1} {𝓤 : URA M} {H : Heap 𝓤} {A : Atoms 𝓤} {K : Type 
 
   pub at-last : K → {E : Env 𝓤 H} {b o : ℕ} → Walks K W Γ E (T′.mir, b, o) (field 9 ∷ []) (tyInt w32, b, o + 36704)
   at-last k = fld k refl (stop k)
+
+  pub at-verdicts : K → {E : Env 𝓤 H} {b o : ℕ} → Walks K W Γ E (T′.mir, b, o) (field 12 ∷ []) (tyArray J′.mir 128, b, o + 36712)
+  at-verdicts k = fld k refl (stop k)
+
+  pub at-figures : K → {E : Env 𝓤 H} {b o : ℕ} → Walks K W Γ E (T′.mir, b, o) (field 13 ∷ []) (tyArray C′.mir 25, b, o + 38248)
+  at-figures k = fld k refl (stop k)
 
   pub store-unit : K → {b o : ℕ} (s : Session) (i : ℕ) (x : Unit) → Good s → i < 64 → Tᵇ (hasTy U′.mir (LL.val U.the-type U′.the-laws x)) × WT (LL.val U.the-type U′.the-laws x)
       → Writes K W (‵ (fat fullShare T′.mir b o (sv s)) ∷ Γ) U′.mir b (i * 24 + (o + 24)) (LL.val U.the-type U′.the-laws x) (‵ (fat fullShare T′.mir b o (sv (put-unit s i x))) ∷ Γ)
@@ -231,3 +252,21 @@ module _ {M : Type 1} {𝓤 : URA M} {H : Heap 𝓤} {A : Atoms 𝓤} {K : Type 
   pub store-capacities : K → {b o : ℕ} (s : Session) (cs : List Notice) → Tᵇ (hasTy noticesTy (arrayVal (vals X.the-field X′.the-field-laws cs))) × WT (arrayVal (vals X.the-field X′.the-field-laws cs))
       → Writes K W (‵ (fat fullShare T′.mir b o (sv s)) ∷ Γ) noticesTy b (o + 8216) (arrayVal (vals X.the-field X′.the-field-laws cs)) (‵ (fat fullShare T′.mir b o (sv (put-capacities s cs))) ∷ Γ)
   store-capacities k s cs wt = field-stored k 5 refl refl wt
+
+  pub read-capacity : K → {q : Share} {b o : ℕ} (s : Session) (i : ℕ) (d : Notice) → Good s → i < 8
+      → Reads K W (‵ (fat q T′.mir b o (sv s)) ∷ Γ) X′.mir b (i * 104 + (o + 8216)) (LL.val X.the-type X′.the-laws (getD (s .capacities) i d))
+  read-capacity k s i d g h =
+      element-read k (vals X.the-field X′.the-field-laws (s .capacities)) 5 i refl refl h
+      (long-vals X.the-field X′.the-field-laws 8 (s .capacities) (all-capacities s g)) (val-at X.the-field X′.the-field-laws 8 (s .capacities) (all-capacities s g) d i h)
+
+  pub read-verdict : K → {q : Share} {b o : ℕ} (s : Session) (i : ℕ) (d : Verdict) → Good s → i < 128
+      → Reads K W (‵ (fat q T′.mir b o (sv s)) ∷ Γ) J′.mir b (i * 12 + (o + 36712)) (LL.val J.the-type J′.the-laws (getD (s .verdicts) i d))
+  read-verdict k s i d g h =
+      element-read k (vals J.the-field J′.the-field-laws (s .verdicts)) 12 i refl refl h
+      (long-vals J.the-field J′.the-field-laws 128 (s .verdicts) (all-verdicts s g)) (val-at J.the-field J′.the-field-laws 128 (s .verdicts) (all-verdicts s g) d i h)
+
+  pub read-figures : K → {q : Share} {b o : ℕ} (s : Session) (i : ℕ) (d : Cleared) → Good s → i < 25
+      → Reads K W (‵ (fat q T′.mir b o (sv s)) ∷ Γ) C′.mir b (i * 636 + (o + 38248)) (LL.val C.the-type C′.the-laws (getD (s .figures) i d))
+  read-figures k s i d g h =
+      element-read k (vals C.the-field C′.the-field-laws (s .figures)) 13 i refl refl h
+      (long-vals C.the-field C′.the-field-laws 25 (s .figures) (all-figures s g)) (val-at C.the-field C′.the-field-laws 25 (s .figures) (all-figures s g) d i h)

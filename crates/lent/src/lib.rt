@@ -1,7 +1,10 @@
-// "The session is lent to each call and changed in place": what a step changes, stored in the lent session.
+// "The session is lent to each call and changed in place": what a step changes, stored in the lent session; and what a query looks
+// for, found there, so that no array is copied.
 ghost use mathlib.Core.Path.{_≡_};
 ghost use Prim.Native.Nat.{_<_};
 ghost use Rattle.session.specs.Changes.{Placed, withVerdicts, withFigures, registryWith, standingWith};
+ghost use Rattle.verdicts.specs.Parts.{LodgedFound};
+ghost use Rattle.energies.specs.Parts.{UnitFound};
 use response::Closed;
 use response::DayCleared;
 use response::Lodged;
@@ -62,4 +65,40 @@ pub fn settle_clearing(s: &mut Session, t: DayCleared) -> Response
     s.figures = t.figures;
     s.cleared = t.cleared;
     t.response
+}
+
+// The place of a unit among the registered ones, or their number. Any place is one of a session that the guard rejects.
+pub fn unit_at(s: &Session, unit: u32) -> usize
+    ensures { λ r. ⌜ UnitFound (now (s .entry)) unit r ⌝ }
+{
+    let n = s.enrolled;
+    if 64 < n {
+        return 0;
+    }
+    let mut i = 0;
+    while i < n {
+        if s.units[i].number == unit {
+            return i;
+        }
+        i = i + 1;
+    }
+    n
+}
+
+// The place of a lodging number among the standing ones, or their number. Any place is one of a session that the guard rejects.
+pub fn lodged_at(s: &Session, number: u32) -> usize
+    ensures { λ r. ⌜ LodgedFound (now (s .entry)) number r ⌝ }
+{
+    let n = s.standing;
+    if 128 < n {
+        return 0;
+    }
+    let mut i = 0;
+    while i < n {
+        if s.lodgements[i].number == number {
+            return i;
+        }
+        i = i + 1;
+    }
+    n
 }

@@ -7,6 +7,7 @@ use mathlib.Core.Option.{some, none}
 use native.Mathlib.Omega.{arith}
 use lib.IntN.{ℤ, pos, subℕ}
 use lib.ListN.{getD}
+use borrow.Author.Tests.{le-ltb, lt-ltb}
 use Rattle.rules.specs.Refusals.{given}
 use Rattle.rules.specs.Units as U
 use Rattle.rules.specs.Units.{Published, capacityOf}
@@ -30,7 +31,7 @@ use Rattle.queries.proofs.FigureLaws.{figures-as}
 use Rattle.queries.proofs.ReplyLaws.{SameRows}
 use Rattle.balances.specs.Parts.{BorderFits}
 use Rattle.balances.proofs.FlowLaws.{by-way, market-at}
-use Rattle.maxima.specs.Parts.{capacityIn, bareNotice}
+use Rattle.maxima.specs.Parts.{noticePlace, capacityIn, bareNotice}
 use Rattle.maxima.proofs.MaximumLaws.{bilateral-by-flows, notice-hourly, no-maximum, no-capacity, the-capacity, the-maximum}
 
 -- a border's maxima are refused as its balances are
@@ -56,12 +57,26 @@ unfolding U.direction wayOf
 way-direction border true h = omega arith
 way-direction border false h = omega arith
 
+pub way-nought : (border : ℕ) (export : Bool) → border ≡ 0 → wayOf border export ≡ U.direction border export
+unfolding U.direction wayOf
+way-nought border true h = omega (arith, h)
+way-nought border false h = omega (arith, h)
+
+pub notice-place : (border : ℕ) (export : Bool) → border ≤ 4 → noticePlace border export ≡ U.direction border export
+unfolding noticePlace
+notice-place border export h = rw (le-ltb 4 border h)
+
+pub no-notice-place : (border : ℕ) (export : Bool) → 4 < border → 0 ≡ noticePlace border export
+unfolding noticePlace
+no-notice-place border export h = rw (lt-ltb 4 border h)
+
 module _ (s : Session) (b : Book) (e : s ≡ image b) where
   -- the capacity of a direction
   pub capacity-as : Sound b → (border : ℕ) (export : Bool) → border ≤ 4 → capacityIn s border export ≡ noticeAs (U.capacityOf (b .capacities) border export)
   unfolding U.capacityOf
   capacity-as sound border export k =
-      ap (λ (l : List Notice). getD l (U.direction border export) bareNotice) (capacities-as s b e)
+      ap (λ i. getD (s .capacities) i bareNotice) (notice-place border export k)
+      ∙ ap (λ (l : List Notice). getD l (U.direction border export) bareNotice) (capacities-as s b e)
       ∙ getD-map noticeAs none bareNotice (b .capacities) (U.direction border export) (omega (arith, sound .directions, direction-small border export k))
 
 -- a notice is given exactly if the direction is published

@@ -1,7 +1,8 @@
 -- What the parts of a maximum's query promise to each other.
 use Prim.Native.Nat.{ℕ}
-use mathlib.Core.Bool.{Bool, false}
+use mathlib.Core.Bool.{Bool, false, cond}
 use mathlib.Core.List.{[]}
+use lib.Dec.{ltb}
 use lib.ListN.{getD}
 use Rattle.rules.specs.Units.{direction}
 use Rattle.session.specs.declared.Session.{Session}
@@ -11,6 +12,10 @@ use Rattle.session.specs.declared.Notice.{Notice}
 abbrev pub bareNotice : Notice
 bareNotice = record { given = false; energies = [] }
 
+-- the place of a direction's notice; beyond the borders, the first
+unfoldable pub noticePlace : ℕ → Bool → ℕ
+noticePlace border export = cond (ltb 4 border) 0 (direction border export)
+
 -- the last notice of a direction
 abbrev pub capacityIn : Session → ℕ → Bool → Notice
-capacityIn s border export = getD (s .capacities) (direction border export) bareNotice
+capacityIn s border export = getD (s .capacities) (noticePlace border export) bareNotice

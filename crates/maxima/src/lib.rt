@@ -4,24 +4,40 @@ ghost use Prim.Native.Nat.{_-_, _≤_, _<_};
 ghost use lib.ListN.{getD};
 ghost use Rattle.rules.specs.Queries as Q;
 ghost use Rattle.queries.specs.Replies.{Answered};
-ghost use Rattle.maxima.specs.Parts.{capacityIn};
+ghost use Rattle.queries.specs.Parts.{figuresIn};
+ghost use Rattle.maxima.specs.Parts.{noticePlace, capacityIn};
 use balances::difference;
 use balances::judge_border;
 use balances::of_way;
 use queries::Reply;
 use queries::figures_at;
 use queries::number;
+use session::Cleared;
 use session::Judged;
 use session::Notice;
 use session::Session;
 
-// The last notice of a border's capacity in a direction. Notices have no place for border 0.
+// The place of a direction's capacity: an index for any number, as what is no border is refused whatever is read. Notices have no
+// place for border 0.
+pub fn notice_place(border: u32, export: bool) -> usize
+    ensures { λ r. ⌜ (r ≡ noticePlace border export) × (r < 8) ⌝ }
+{
+    if 4 < border {
+        return 0;
+    }
+    let way = borders::way(border, export);
+    if border == 0 {
+        return way;
+    }
+    way - 2
+}
+
+// The last notice of a border's capacity in a direction.
 fn capacity_at(s: Session, border: u32, export: bool) -> Notice
-    requires { ⌜ (0 < border) × (border ≤ 4) ⌝ }
     ensures { λ r. ⌜ r ≡ capacityIn s border export ⌝ }
 {
-    let at = borders::way(border, export) - 2;
     let capacities = s.capacities;
+    let at = notice_place(border, export);
     capacities[at]
 }
 
@@ -34,42 +50,72 @@ fn of_hour(energies: [u32; 25], hour: u32) -> u32
     energies[at]
 }
 
-// The market maximum of a border's direction, "absent without capacity": 2, 4, 5.
-pub fn market_maximum(s: Session, border: u32, export: bool, hour: u32) -> Reply
+// The market maximum of a border's direction, "absent without capacity", from the hour's figures and the capacity: 2, 4, 5.
+pub fn market_maximum_from(
+    s: Session,
+    x: Cleared,
+    capacity: Notice,
+    border: u32,
+    export: bool,
+    hour: u32,
+) -> Reply
+    requires { ⌜ (x ≡ figuresIn s hour) × (capacity ≡ capacityIn s border export) ⌝ }
     ensures { λ r. ⌜ Answered s (Q.marketMax border export hour) r ⌝ }
 {
     let j = judge_border(s, border, hour);
     if let Judged::No(row, at) = j {
         return Reply::Refused(row, at);
     }
-    let capacity = capacity_at(s, border, export);
     if !capacity.given {
         return Reply::Absent;
     }
-    let x = figures_at(s, hour);
     let maxima = x.maxima;
     let maximum = of_way(maxima, border, export);
     number(maximum)
 }
 
-// "The bilateral maximum is E less the final market balance, which may be below zero", and absent without E: 2, 4, 5.
-// Seen in the direction, that balance is the energy along it less the energy against it.
-pub fn bilateral_maximum(s: Session, border: u32, export: bool, hour: u32) -> Reply
+// The market maximum of a border's direction, "absent without capacity": 2, 4, 5.
+pub fn market_maximum(s: Session, border: u32, export: bool, hour: u32) -> Reply
+    ensures { λ r. ⌜ Answered s (Q.marketMax border export hour) r ⌝ }
+{
+    let x = figures_at(s, hour);
+    let capacity = capacity_at(s, border, export);
+    market_maximum_from(s, x, capacity, border, export, hour)
+}
+
+// "The bilateral maximum is E less the final market balance, which may be below zero", and absent without E, from the hour's figures
+// and E: 2, 4, 5. Seen in the direction, that balance is the energy along it less the energy against it.
+pub fn bilateral_maximum_from(
+    s: Session,
+    x: Cleared,
+    notice: Notice,
+    border: u32,
+    export: bool,
+    hour: u32,
+) -> Reply
+    requires { ⌜ (x ≡ figuresIn s hour) × (notice ≡ capacityIn s border export) ⌝ }
     ensures { λ r. ⌜ Answered s (Q.bilateralMax border export hour) r ⌝ }
 {
     let j = judge_border(s, border, hour);
     if let Judged::No(row, at) = j {
         return Reply::Refused(row, at);
     }
-    let notice = capacity_at(s, border, export);
     if !notice.given {
         return Reply::Absent;
     }
     let energies = notice.energies;
     let capacity = of_hour(energies, hour);
-    let x = figures_at(s, hour);
     let market = x.market;
     let along = of_way(market, border, export);
     let against = of_way(market, border, !export);
     difference(capacity as u64 + against as u64, along as u64)
+}
+
+// Its bilateral maximum: 2, 4, 5.
+pub fn bilateral_maximum(s: Session, border: u32, export: bool, hour: u32) -> Reply
+    ensures { λ r. ⌜ Answered s (Q.bilateralMax border export hour) r ⌝ }
+{
+    let x = figures_at(s, hour);
+    let notice = capacity_at(s, border, export);
+    bilateral_maximum_from(s, x, notice, border, export, hour)
 }

@@ -1,11 +1,12 @@
 -- The figures in the hours' places.
-use Prim.Native.Nat.{ℕ, zero, suc, _+_, _-_, _<_}
+use Prim.Native.Nat.{ℕ, zero, suc, _+_, _-_, _≤_, _<_}
 use mathlib.Core.Path.{_≡_, refl, ap, _∙_}
 use mathlib.Core.Bool.{true}
 use mathlib.Core.List.{List, map}
 use native.Mathlib.Omega.{arith}
 use lib.IntN.{pos}
 use lib.ListN.{length, getD, length-map, List·getD-append}
+use borrow.Author.Tests.{le-ltb, lt-ltb}
 use Rattle.rules.specs.Lists.{from}
 use Rattle.rules.specs.Refusals.{given}
 use Rattle.rules.specs.Book.{Book, hours}
@@ -17,7 +18,7 @@ use Rattle.session.specs.declared.Cleared.{Cleared}
 use Rattle.session.proofs.PlaceLaws.{getD-map}
 use Rattle.session.proofs.ImageLaws.{hours-as, cleared-as}
 use Rattle.queries.specs.Replies.{replyIn}
-use Rattle.queries.specs.Parts.{figuresIn, bareFigures, HourFits}
+use Rattle.queries.specs.Parts.{placeIn, figuresIn, bareFigures, HourFits}
 use Rattle.queries.specs.declared.Reply.the-variants.{Number}
 
 -- Places of lists
@@ -41,6 +42,15 @@ from-at i (suc n) (suc k) h = from-at (suc i) n k (omega arith) ∙ omega arith
 pub made-at : {A : Type 0} (f : ℕ → A) (e : A) (i n k : ℕ) → k < n → getD (map f (from i n)) k e ≡ f (i + k)
 made-at f e i n k h = getD-map f 0 e (from i n) k (omega (arith, length-from i n)) ∙ ap f (from-at i n k h)
 
+-- an hour's place is the one before its number
+pub place-as : (hour : ℕ) → hour ≤ 25 → placeIn hour ≡ hour - 1
+unfolding placeIn
+place-as hour h = rw (le-ltb 25 hour h)
+
+pub beyond-place : (hour : ℕ) → 25 < hour → 0 ≡ placeIn hour
+unfolding placeIn
+beyond-place hour h = rw (lt-ltb 25 hour h)
+
 -- In a session
 
 module _ (s : Session) (b : Book) (e : s ≡ image b) where
@@ -53,7 +63,8 @@ module _ (s : Session) (b : Book) (e : s ≡ image b) where
   figures-as {h} f =
       let l = f .low in
       let m : h - 1 < hours b = omega (arith, f .high, hours-as s b e) in
-      ap (λ (x : List Cleared). getD x (h - 1) bareFigures) (figures-list (f .cleared))
+      ap (λ i. getD (s .figures) i bareFigures) (place-as h (omega (arith, f .high, f .within .hours)))
+      ∙ ap (λ (x : List Cleared). getD x (h - 1) bareFigures) (figures-list (f .cleared))
       ∙ pad-at 25 noFigures bareFigures (map (figuresAs b) (from 1 (hours b))) (h - 1) (omega (arith, length-map (from 1 (hours b)) (figuresAs b), length-from 1 (hours b)))
       ∙ made-at (figuresAs b) bareFigures 1 (hours b) (h - 1) m
       ∙ ap (figuresAs b) (let q : 1 + (h - 1) ≡ h = omega arith in q)

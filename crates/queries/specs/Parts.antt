@@ -1,8 +1,9 @@
 -- What the parts of a query promise to each other: of use inside the crates of the queries only.
 use Prim.Native.Nat.{ℕ, _-_, _≤_, _<_}
 use mathlib.Core.Path.{_≡_}
-use mathlib.Core.Bool.{true}
+use mathlib.Core.Bool.{true, cond}
 use mathlib.Core.List.{[]}
+use lib.Dec.{ltb}
 use lib.ListN.{getD}
 use Rattle.rules.specs.Refusals.{firstRow}
 use Rattle.rules.specs.Book.{Book}
@@ -28,6 +29,10 @@ pub record HourFits (s : Session) (hour : ℕ) : Type 0 where
 abbrev pub bareFigures : Cleared
 bareFigures = record { price = 0; market = []; bilateral = []; maxima = []; matched = []; executed = [] }
 
+-- the place of an hour's figures; beyond the longest day's hours, the first
+unfoldable pub placeIn : ℕ → ℕ
+placeIn hour = cond (ltb 25 hour) 0 (hour - 1)
+
 -- the figures in an hour's place
 abbrev pub figuresIn : Session → ℕ → Cleared
-figuresIn s hour = getD (s .figures) (hour - 1) bareFigures
+figuresIn s hour = getD (s .figures) (placeIn hour) bareFigures

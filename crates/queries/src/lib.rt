@@ -1,10 +1,11 @@
 // Queries, by value: what all of them share, and the price. Verdicts are asked in `verdicts`, a unit's energies in `energies`,
 // a border's balances in `balances` and its maxima in `maxima`.
 ghost use mathlib.Core.Path.{_≡_};
+ghost use Prim.Native.Nat.{_<_};
 ghost use lib.IntN.{pos};
 ghost use Rattle.rules.specs.Queries as Q;
 ghost use Rattle.queries.specs.Replies.{Answered};
-ghost use Rattle.queries.specs.Parts.{Judges, HourFits, figuresIn};
+ghost use Rattle.queries.specs.Parts.{Judges, HourFits, placeIn, figuresIn};
 use session::Cleared;
 use session::GATE;
 use session::HOUR;
@@ -48,24 +49,44 @@ pub fn number(a: u32) -> Reply
     Reply::Number(n)
 }
 
+// The place of an hour's figures: an index for any number, as what is no hour is refused whatever is read.
+pub fn place_of(hour: u32) -> usize
+    ensures { λ r. ⌜ (r ≡ placeIn hour) × (r < 25) ⌝ }
+{
+    if 25 < hour {
+        return 0;
+    }
+    if hour < 1 {
+        return 0;
+    }
+    (hour - 1) as usize
+}
+
 // The figures of an hour.
 pub fn figures_at(s: Session, hour: u32) -> Cleared
-    requires { ⌜ HourFits s hour ⌝ }
     ensures { λ r. ⌜ r ≡ figuresIn s hour ⌝ }
 {
     let figures = s.figures;
-    let i = (hour - 1) as usize;
-    figures[i]
+    let at = place_of(hour);
+    figures[at]
 }
 
-// The hour's price: 2, 4.
-pub fn price(s: Session, hour: u32) -> Reply
+// The hour's price, from its figures: 2, 4.
+pub fn price_from(s: Session, x: Cleared, hour: u32) -> Reply
+    requires { ⌜ x ≡ figuresIn s hour ⌝ }
     ensures { λ r. ⌜ Answered s (Q.price hour) r ⌝ }
 {
     let j = judge_hour(s, hour);
     if let Judged::No(row, at) = j {
         return Reply::Refused(row, at);
     }
-    let x = figures_at(s, hour);
     number(x.price)
+}
+
+// The hour's price: 2, 4.
+pub fn price(s: Session, hour: u32) -> Reply
+    ensures { λ r. ⌜ Answered s (Q.price hour) r ⌝ }
+{
+    let x = figures_at(s, hour);
+    price_from(s, x, hour)
 }

@@ -16,9 +16,7 @@ use Rattle.session.specs.declared.ClosingTurn.{ClosingTurn}
 use Rattle.session.specs.declared.ClearingTurn.{ClearingTurn}
 use Rattle.session.specs.declared.Answer.{Answer}
 use Rattle.session.specs.declared.Answer.the-variants as A
-use Rattle.queries.specs.declared.Reply.{Reply}
-use Rattle.queries.specs.declared.Reply.the-variants as R
-use Rattle.response.specs.Told.{Stepped, ofAnswer, ofReply, steppedAs, registeredAs, lodgedAs, closedAs, dayClearedAs, registryLeft, standingLeft, closingLeft, clearingLeft, MetAs}
+use Rattle.response.specs.Told.{Stepped, ofAnswer, steppedAs, registeredAs, lodgedAs, closedAs, dayClearedAs, registryLeft, standingLeft, closingLeft, clearingLeft, MetAs}
 use Rattle.response.specs.declared.Response.{Response}
 use Rattle.response.specs.declared.Registered.{Registered}
 use Rattle.response.specs.declared.Lodged.{Lodged}
@@ -61,7 +59,7 @@ told-refused (A.Steps n) e = absurd (omega (arith, e))
 pub refused-kept : (s : Session) (c : D.Call) (r : Stepped) → MetAs s c r → r .response .kind ≡ 1 → r .session ≡ s
 refused-kept s c r m e = m .met .kept (told-refused (m .answer) (sym (ap (λ (x : Response). x .kind) (m .told)) ∙ e))
 
--- Nothing is lost: an answer and a reply are found again from what they are told as
+-- Nothing is lost: an answer is found again from what it is told as
 
 natural : ℤ → ℕ
 natural (pos n) = n
@@ -79,29 +77,3 @@ answer-back (A.Steps n) = refl
 
 pub answer-told-once : (a b : Answer) → ofAnswer a ≡ ofAnswer b → a ≡ b
 answer-told-once a b e = sym (answer-back a) ∙ ap answerOf e ∙ answer-back b
-
-unfoldable replyOf : Response → Reply
-replyOf r =
-    cond (eqb (r .kind) 0)
-    R.Accepted
-    (cond (eqb (r .kind) 1)
-    (R.Refused (r .row) (r .hour))
-    (cond (eqb (r .kind) 4)
-    R.Hidden
-    (cond (eqb (r .kind) 5)
-    (R.Limit (r .row) (r .hour))
-    (cond (eqb (r .kind) 6)
-    (R.Number (r .value))
-    R.Absent))))
-
-reply-back : (a : Reply) → replyOf (ofReply a) ≡ a
-unfolding replyOf ofReply
-reply-back R.Accepted = refl
-reply-back (R.Refused n h) = refl
-reply-back R.Hidden = refl
-reply-back (R.Limit n h) = refl
-reply-back (R.Number z) = refl
-reply-back R.Absent = refl
-
-pub reply-told-once : (a b : Reply) → ofReply a ≡ ofReply b → a ≡ b
-reply-told-once a b e = sym (reply-back a) ∙ ap replyOf e ∙ reply-back b

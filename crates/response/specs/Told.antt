@@ -1,11 +1,10 @@
--- Answers and replies as the plain struct that C is handed, and what the calls and queries promise of it.
+-- Answers as the plain struct that C is handed, and what the calls promise of it.
 use Prim.Native.Nat.{ℕ}
 use mathlib.Core.Path.{_≡_}
 use mathlib.Core.Bool.{false}
 use lib.IntN.{pos}
 use Rattle.rules.specs.Hours as H
 use Rattle.rules.specs.DayBook as D
-use Rattle.rules.specs.Queries.{Query}
 use Rattle.calendar.specs.declared.Counted.{Counted}
 use Rattle.calendar.specs.declared.Counted.the-variants as C
 use Rattle.calendar.specs.declared.Named.{Named}
@@ -22,9 +21,6 @@ use Rattle.session.specs.declared.ClosingTurn.{ClosingTurn}
 use Rattle.session.specs.declared.ClearingTurn.{ClearingTurn}
 use Rattle.session.specs.declared.Answer.{Answer}
 use Rattle.session.specs.declared.Answer.the-variants as A
-use Rattle.queries.specs.Replies.{Answered}
-use Rattle.queries.specs.declared.Reply.{Reply}
-use Rattle.queries.specs.declared.Reply.the-variants as R
 use Rattle.response.specs.declared.Response.{Response}
 use Rattle.response.specs.declared.Registered.{Registered}
 use Rattle.response.specs.declared.Lodged.{Lodged}
@@ -41,15 +37,6 @@ ofAnswer A.Done = record { kind = 0; row = 0; hour = 0; value = pos 0; count = 0
 ofAnswer (A.Refused n h) = record { kind = 1; row = n; hour = h; value = pos 0; count = 0 }
 ofAnswer (A.Numbered n) = record { kind = 2; row = 0; hour = 0; value = pos n; count = 0 }
 ofAnswer (A.Steps n) = record { kind = 3; row = 0; hour = 0; value = pos 0; count = n }
-
--- kind 0 accepted, 1 refused, 4 hidden, 5 limit, 6 figure, 7 absent
-unfoldable pub ofReply : Reply → Response
-ofReply R.Accepted = record { kind = 0; row = 0; hour = 0; value = pos 0; count = 0 }
-ofReply (R.Refused n h) = record { kind = 1; row = n; hour = h; value = pos 0; count = 0 }
-ofReply R.Hidden = record { kind = 4; row = 0; hour = 0; value = pos 0; count = 0 }
-ofReply (R.Limit n h) = record { kind = 5; row = n; hour = h; value = pos 0; count = 0 }
-ofReply (R.Number z) = record { kind = 6; row = 0; hour = 0; value = z; count = 0 }
-ofReply R.Absent = record { kind = 7; row = 0; hour = 0; value = pos 0; count = 0 }
 
 -- a figure, or a refusal, whose row has no hour of its own
 unfoldable pub ofCounted : Counted → Response
@@ -112,9 +99,3 @@ pub record MetAs (s : Session) (c : D.Call) (r : Stepped) : Type 0 where
   pub answer : Answer
   pub met : Met s c (record { session = r .session; answer = answer })
   pub told : r .response ≡ ofAnswer answer
-
--- the promise of every query: that of `Answered`, and the response tells its reply
-pub record AnsweredAs (s : Session) (q : Query) (r : Response) : Type 0 where
-  pub reply : Reply
-  pub answered : Answered s q reply
-  pub told : r ≡ ofReply reply

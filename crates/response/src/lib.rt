@@ -1,15 +1,14 @@
-// The calls and the queries answered with a plain struct, `Response`, which C can be handed: an enum cannot be exported.
+// Dates and calls answered with a plain struct, `Response`, which C can be handed: an enum cannot be exported. The queries are in
+// `replies`.
 ghost use mathlib.Core.Path.{_≡_};
 ghost use Prim.Native.Nat.{_<_};
 ghost use Rattle.rules.specs.Hours.{hoursAt, clockAt, hourAt};
 ghost use Rattle.rules.specs.DayBook.{register, available, capacity, lodge, annul, close, clear};
-ghost use Rattle.rules.specs.Queries as Q;
 ghost use Rattle.calendar.specs.View.{dateIn, clockIn, countedAs, namedAs};
 ghost use Rattle.session.specs.Image.{unitIn, keyIn};
 ghost use Rattle.session.specs.Changes.{Placed};
 ghost use Rattle.response.specs.Told.{
   ofAnswer,
-  ofReply,
   ofCounted,
   ofNamed,
   registeredAs,
@@ -22,13 +21,11 @@ ghost use Rattle.response.specs.Told.{
   capacityIn,
   OpensAs,
   MetAs,
-  AnsweredAs,
 };
 use calendar::Clock;
 use calendar::Counted;
 use calendar::Date;
 use calendar::Named;
-use queries::Reply;
 use session::Answer;
 use session::Cleared;
 use session::Key;
@@ -111,23 +108,17 @@ pub struct DayCleared {
 }
 
 // Kinds
-const ACCEPTED: u32 = 0;
+pub const ACCEPTED: u32 = 0;
 
-const REFUSED: u32 = 1;
+pub const REFUSED: u32 = 1;
 
 const NUMBERED: u32 = 2;
 
 const STEPS: u32 = 3;
 
-const HIDDEN: u32 = 4;
+pub const FIGURE: u32 = 6;
 
-const LIMIT: u32 = 5;
-
-const FIGURE: u32 = 6;
-
-const ABSENT: u32 = 7;
-
-// Answers and replies
+// Answers
 
 fn of_answer(a: Answer) -> Response
     ensures { λ r. ⌜ r ≡ ofAnswer a ⌝ }
@@ -160,55 +151,6 @@ fn of_answer(a: Answer) -> Response
             hour: 0,
             value: 0,
             count: steps,
-        },
-    }
-}
-
-fn of_reply(a: Reply) -> Response
-    ensures { λ r. ⌜ r ≡ ofReply a ⌝ }
-{
-    match a {
-        Reply::Refused(row, hour) => Response {
-            kind: REFUSED,
-            row: row,
-            hour: hour,
-            value: 0,
-            count: 0,
-        },
-        Reply::Accepted => Response {
-            kind: ACCEPTED,
-            row: 0,
-            hour: 0,
-            value: 0,
-            count: 0,
-        },
-        Reply::Hidden => Response {
-            kind: HIDDEN,
-            row: 0,
-            hour: 0,
-            value: 0,
-            count: 0,
-        },
-        Reply::Limit(row, hour) => Response {
-            kind: LIMIT,
-            row: row,
-            hour: hour,
-            value: 0,
-            count: 0,
-        },
-        Reply::Number(figure) => Response {
-            kind: FIGURE,
-            row: 0,
-            hour: 0,
-            value: figure,
-            count: 0,
-        },
-        Reply::Absent => Response {
-            kind: ABSENT,
-            row: 0,
-            hour: 0,
-            value: 0,
-            count: 0,
         },
     }
 }
@@ -380,70 +322,4 @@ pub fn clear(s: Session) -> DayCleared
         cleared: t.cleared,
         response,
     }
-}
-
-// Queries
-
-// "a lodging number's verdict", after closing: 2, 13.
-pub fn verdict(s: Session, number: u32) -> Response
-    ensures { λ r. ⌜ AnsweredAs s (Q.verdict number) r ⌝ }
-{
-    let a = verdicts::verdict(s, number);
-    of_reply(a)
-}
-
-// A unit's matched energy in an hour: 2, 4, 5, 6.
-pub fn matched(s: Session, unit: u32, hour: u32) -> Response
-    ensures { λ r. ⌜ AnsweredAs s (Q.matched unit hour) r ⌝ }
-{
-    let a = energies::matched(s, unit, hour);
-    of_reply(a)
-}
-
-// A unit's executed energy in an hour: 2, 4, 5, 6.
-pub fn executed(s: Session, unit: u32, hour: u32) -> Response
-    ensures { λ r. ⌜ AnsweredAs s (Q.executed unit hour) r ⌝ }
-{
-    let a = energies::executed(s, unit, hour);
-    of_reply(a)
-}
-
-// The final market balance of a border: 2, 4, 5.
-pub fn market(s: Session, border: u32, hour: u32) -> Response
-    ensures { λ r. ⌜ AnsweredAs s (Q.market border hour) r ⌝ }
-{
-    let a = balances::market(s, border, hour);
-    of_reply(a)
-}
-
-// The final balance of its executions: 2, 4, 5.
-pub fn bilateral(s: Session, border: u32, hour: u32) -> Response
-    ensures { λ r. ⌜ AnsweredAs s (Q.bilateral border hour) r ⌝ }
-{
-    let a = balances::bilateral(s, border, hour);
-    of_reply(a)
-}
-
-// The market maximum of a border's direction, "absent without capacity": 2, 4, 5.
-pub fn market_maximum(s: Session, border: u32, export: bool, hour: u32) -> Response
-    ensures { λ r. ⌜ AnsweredAs s (Q.marketMax border export hour) r ⌝ }
-{
-    let a = maxima::market_maximum(s, border, export, hour);
-    of_reply(a)
-}
-
-// Its bilateral maximum, which may be below zero: 2, 4, 5.
-pub fn bilateral_maximum(s: Session, border: u32, export: bool, hour: u32) -> Response
-    ensures { λ r. ⌜ AnsweredAs s (Q.bilateralMax border export hour) r ⌝ }
-{
-    let a = maxima::bilateral_maximum(s, border, export, hour);
-    of_reply(a)
-}
-
-// The hour's price: 2, 4.
-pub fn price(s: Session, hour: u32) -> Response
-    ensures { λ r. ⌜ AnsweredAs s (Q.price hour) r ⌝ }
-{
-    let a = queries::price(s, hour);
-    of_reply(a)
 }

@@ -7,7 +7,7 @@ use mathlib.Core.Option.{none as nothing}
 use native.Mathlib.Omega.{arith}
 use lib.Dec.{eqb}
 use lib.ListN.{getD, take, length-map}
-use borrow.Author.Tests.{eqb-true, not-true}
+use borrow.Author.Tests.{eqb-true, not-true, lt-ltb, le-ltb}
 use Rattle.rules.specs.Lists.{All, none, more, first}
 use Rattle.rules.specs.Refusals.{Row, row, given, limitRow, firstRow, unless, outcome}
 use Rattle.rules.specs.Units.{limits, maximumLimit}
@@ -26,7 +26,7 @@ use Rattle.session.specs.declared.Verdict.{Verdict}
 use Rattle.session.proofs.PlaceLaws.{placed, unplaced, place-first, place-map, getD-map}
 use Rattle.session.proofs.ImageLaws.{closed-as, standing-as, lodgements-as}
 use Rattle.queries.specs.Replies.{replyIn, Answered}
-use Rattle.verdicts.specs.Parts.{lodged, toldAs, bareVerdict}
+use Rattle.verdicts.specs.Parts.{lodged, toldAs, bareVerdict, verdictPlace, verdictAt}
 use Rattle.queries.specs.declared.Reply.{Reply}
 use Rattle.queries.specs.declared.Reply.the-variants.{Refused}
 use Rattle.queries.proofs.FigureLaws.{pad-at}
@@ -101,6 +101,15 @@ module _ (s : Session) (b : Book) (e : s ≡ image b) where
       → getD (s .verdicts) at bareVerdict ≡ verdictAs (C.verdictAmong (C.judgements b) n)
   verdict-as n at k h q = rw (verdicts-list k, q, place-among n) (verdict-at b n h)
 
+-- a place of a lodgement is its verdict's
+pub place-low : (at : ℕ) → at ≤ 127 → verdictPlace at ≡ at
+unfolding verdictPlace
+place-low at h = rw (le-ltb 127 at h)
+
+pub place-high : (at : ℕ) → 127 < at → 0 ≡ verdictPlace at
+unfolding verdictPlace
+place-high at h = rw (lt-ltb 127 at h)
+
 -- The ways out
 
 pub verdict-2 : (s : Session) (n : ℕ) → s .closed ≡ false → Answered s (Q.verdict n) (Refused 2 0)
@@ -129,9 +138,9 @@ module _ (s : Session) (n at : ℕ) (place : at ≡ placeOf (lodged n) (take (s 
   unfolding Q.queryRows row firstRow
   no-row b e h = rw (below-stands b e h, closed-as s b e, k)
 
-  pub verdict-told : at < s .standing → (v : Verdict) → v ≡ getD (s .verdicts) at bareVerdict → (r : Reply) → r ≡ toldAs v → Answered s (Q.verdict n) r
+  pub verdict-told : at < s .standing → at ≤ 127 → (v : Verdict) → v ≡ verdictAt s at → (r : Reply) → r ≡ toldAs v → Answered s (Q.verdict n) r
   unfolding Q.query Q.shown outcome unless
-  verdict-told h v w r q b sound e =
-      ap replyIn (q ∙ ap toldAs (w ∙ verdict-as s b e n at k (below-stands b e h) place))
+  verdict-told h low v w r q b sound e =
+      ap replyIn (q ∙ ap toldAs (w ∙ ap (λ i. getD (s .verdicts) i bareVerdict) (place-low at low) ∙ verdict-as s b e n at k (below-stands b e h) place))
       ∙ told-as (C.verdictAmong (C.judgements b) n) (among-numbered b n)
       ∙ sym (ap (λ o. unless o (Q.shown b (Q.verdict n))) (no-row b e h))

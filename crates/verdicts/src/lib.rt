@@ -1,15 +1,16 @@
 // The query of a verdict, after closing.
 ghost use mathlib.Core.Path.{_≡_};
-ghost use Prim.Native.Nat.{_≤_};
+ghost use Prim.Native.Nat.{_≤_, _<_};
 ghost use lib.ListN.{take};
 ghost use Rattle.rules.specs.Queries as Q;
 ghost use Rattle.session.specs.Parts.{placeOf};
 ghost use Rattle.queries.specs.Replies.{Answered};
-ghost use Rattle.verdicts.specs.Parts.{lodged, toldAs};
+ghost use Rattle.verdicts.specs.Parts.{lodged, toldAs, LodgedFound, verdictPlace, verdictAt};
 use queries::Reply;
 use session::GATE;
 use session::Lodgement;
 use session::Session;
+use session::Verdict;
 
 // The refusal table's number of a lodging number that did not stand at closing.
 const NOT_STANDING: u32 = 13;
@@ -29,7 +30,7 @@ fn lodged_at(lodgements: [Lodgement; 128], n: usize, number: u32) -> usize
 }
 
 // A verdict with no limit's number is hidden.
-fn told(v: session::Verdict) -> Reply
+fn told(v: Verdict) -> Reply
     ensures { λ r. ⌜ r ≡ toldAs v ⌝ }
 {
     if v.accepted {
@@ -41,8 +42,39 @@ fn told(v: session::Verdict) -> Reply
     Reply::Limit(v.limit, v.hour)
 }
 
-// "a lodging number's verdict", after closing: 2, 13.
-pub fn verdict(s: Session, number: u32) -> Reply
+// The place of a lodging number among the standing ones, or their number. Any place is one of a session that the guard rejects.
+fn standing_at(s: Session, number: u32) -> usize
+    ensures { λ r. ⌜ LodgedFound s number r ⌝ }
+{
+    if 128 < s.standing {
+        return 0;
+    }
+    let lodgements = s.lodgements;
+    lodged_at(lodgements, s.standing, number)
+}
+
+// The place of a lodgement's verdict: an index for any place, as a number that does not stand is refused whatever is read.
+pub fn verdict_place(at: usize) -> usize
+    ensures { λ r. ⌜ (r ≡ verdictPlace at) × (r < 128) ⌝ }
+{
+    if 127 < at {
+        return 0;
+    }
+    at
+}
+
+// The verdict at a lodgement's place.
+fn verdict_at(s: Session, at: usize) -> Verdict
+    ensures { λ r. ⌜ r ≡ verdictAt s at ⌝ }
+{
+    let verdicts = s.verdicts;
+    let of = verdict_place(at);
+    verdicts[of]
+}
+
+// "a lodging number's verdict", after closing, from the number's place and the verdict there: 2, 13.
+pub fn verdict_from(s: Session, at: usize, v: Verdict, number: u32) -> Reply
+    requires { ⌜ LodgedFound s number at × (v ≡ verdictAt s at) ⌝ }
     ensures { λ r. ⌜ Answered s (Q.verdict number) r ⌝ }
 {
     if !s.sound() {
@@ -51,12 +83,17 @@ pub fn verdict(s: Session, number: u32) -> Reply
     if !s.closed {
         return Reply::Refused(GATE, 0);
     }
-    let lodgements = s.lodgements;
-    let at = lodged_at(lodgements, s.standing, number);
     if s.standing <= at {
         return Reply::Refused(NOT_STANDING, 0);
     }
-    let verdicts = s.verdicts;
-    let v = verdicts[at];
     told(v)
+}
+
+// "a lodging number's verdict", after closing: 2, 13.
+pub fn verdict(s: Session, number: u32) -> Reply
+    ensures { λ r. ⌜ Answered s (Q.verdict number) r ⌝ }
+{
+    let at = standing_at(s, number);
+    let v = verdict_at(s, at);
+    verdict_from(s, at, v, number)
 }

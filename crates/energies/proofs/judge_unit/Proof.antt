@@ -23,14 +23,14 @@ bad-number-requires c κs = search needs
 returns-2 : tie.Need-returns-2
 returns-2 c = (unit-5 _ _ _ _ (c .before .before .before .before .judge-hour .ensures .0) (c .before .before .enum-told .given .1) (sym (c .before .bad-number .ensures) ∙ c .if1 .taken), not-clear _ _)
 
-is-registered-requires : tie.Need-is-registered-requires
-is-registered-requires c κs = c .before .before .before .before .before .judge-hour .ensures .1 (c .before .before .before .enum-told .given .1) .within .enrolled
-
 returns-3 : tie.Need-returns-3
-returns-3 c = (unit-0 _ _ _ _ (c .before .before .before .before .before .before .before .judge-hour .ensures .0) (c .before .before .before .before .before .enum-told .given .1) (sym (c .before .before .before .before .bad-number .ensures) ∙ c .before .before .before .if1 .left) (sym (c .before .is-registered .ensures) ∙ c .if2 .taken), λ _. record { hours = c .before .before .before .before .before .before .before .judge-hour .ensures .1 (c .before .before .before .before .before .enum-told .given .1); registered = sym (c .before .is-registered .ensures) ∙ c .if2 .taken })
+returns-3 c =
+    let fits = c .before .before .before .before .before .before .judge-hour .ensures .1 (c .before .before .before .before .enum-told .given .1) in
+    let place = c .before .before .before .before .before .before .before .pre (fits .within) in
+    (unit-0 _ _ _ _ (c .before .before .before .before .before .before .judge-hour .ensures .0) (c .before .before .before .before .enum-told .given .1) (sym (c .before .before .before .bad-number .ensures) ∙ c .before .before .if1 .left) _ place (c .if2 .taken), λ _. record { hours = fits; place = place; registered = c .if2 .taken })
 
 returns-4 : tie.Need-returns-4
-returns-4 c = (unit-6 _ _ _ _ (c .before .before .before .before .before .before .before .judge-hour .ensures .0) (c .before .before .before .before .before .enum-told .given .1) (sym (c .before .before .before .before .bad-number .ensures) ∙ c .before .before .before .if1 .left) (sym (c .before .is-registered .ensures) ∙ c .if2 .left), not-clear _ _)
+returns-4 c = (unit-6 _ _ _ _ (c .before .before .before .before .before .before .judge-hour .ensures .0) (c .before .before .before .before .enum-told .given .1) (sym (c .before .before .before .bad-number .ensures) ∙ c .before .before .if1 .left) _ (c .before .before .before .before .before .before .before .pre (c .before .before .before .before .before .before .judge-hour .ensures .1 (c .before .before .before .before .enum-told .given .1) .within)) (c .if2 .left), not-clear _ _)
 
 pub judge-unit-spec : {M : Type 1} → statement M
-judge-unit-spec = tie.close (tie.spec judge-hour-requires enum-known-j returns enum-told bad-number-requires returns-2 is-registered-requires returns-3 returns-4)
+judge-unit-spec = tie.close (tie.spec judge-hour-requires enum-known-j returns enum-told bad-number-requires returns-2 returns-3 returns-4)

@@ -3,11 +3,19 @@ use contract.Running.{givenOf, tables, tablesOf}
 use denote.Triple.Spec.{tripleOf}
 use denote.Triple.Table.{entered, cited}
 use Rattle.rules.specs.Queries as Q
-use Rattle.response.specs.Told.{AnsweredAs}
-use Rattle.gate.proofs.AskedOne as law
-use Rattle.response.proofs.verdict.Symbol as step-def
-use Rattle.response.proofs.verdict.Symbol.{name as #step}
-use Rattle.response.proofs.verdict.Met as step-thm
+use Rattle.replies.specs.Told.{AnsweredAs}
+use Rattle.verdicts.specs.Parts.{LodgedFound}
+use Rattle.gate.proofs.Places as places
+use Rattle.gate.proofs.AskedNumber as law
+use Rattle.lent.proofs.lodged_at.Symbol as search-def
+use Rattle.lent.proofs.lodged_at.Symbol.{name as #search}
+use Rattle.lent.proofs.lodged_at.Met as search-thm
+use Rattle.verdicts.proofs.verdict_place.Symbol as judged-def
+use Rattle.verdicts.proofs.verdict_place.Symbol.{name as #judged}
+use Rattle.verdicts.proofs.verdict_place.Met as judged-thm
+use Rattle.replies.proofs.verdict.Symbol as step-def
+use Rattle.replies.proofs.verdict.Symbol.{name as #step}
+use Rattle.replies.proofs.verdict.Met as step-thm
 use Rattle.gate.proofs.gate_verdict.Key.{name as #entry}
 use Rattle.gate.proofs.gate_verdict as f
 use Rattle.gate.proofs.gate_verdict.Statement as stated
@@ -18,5 +26,7 @@ unfolding code.routine tablesOf
 gate-verdict-spec 𝓤 H 𝓜 𝓖 𝓡 =
     entered 𝓤 H (tripleOf 𝓤 H (𝓖 .A) f.signature (f.spec 𝓤 H (𝓖 .A) (𝓜 .mem) (𝓡 .run)))
     (tables 𝓤 H 𝓜 𝓡 code.env .C) (tables 𝓤 H 𝓜 𝓡 code.env .Λ) #entry code.function (code.unfolded 𝓤 H 𝓜 𝓡)
-    (law.meets #step (λ h t r. AnsweredAs h (Q.verdict t) r) 𝓤 H (𝓖 .A) (givenOf 𝓤 H 𝓜 𝓖) (tablesOf 𝓤 H 𝓜 (tables 𝓤 H 𝓜 𝓡 code.env))
-    (cited 𝓤 H (law.Step (λ h t r. AnsweredAs h (Q.verdict t) r) 𝓤 H (𝓖 .A)) 𝓜 𝓡 code.env #step step-def.routine code.calls-response·verdict (step-thm.met 𝓤 H 𝓜 𝓖 𝓡)))
+    (law.meets #search #judged #step (λ h n r. AnsweredAs h (Q.verdict n) r) 𝓤 H (𝓖 .A) (givenOf 𝓤 H 𝓜 𝓖) (tablesOf 𝓤 H 𝓜 (tables 𝓤 H 𝓜 𝓡 code.env))
+    (cited 𝓤 H (places.Search LodgedFound 𝓤 H (𝓖 .A)) 𝓜 𝓡 code.env #search search-def.routine code.calls-lent·lodged-at (search-thm.met 𝓤 H 𝓜 𝓖 𝓡))
+    (cited 𝓤 H (places.Judged 𝓤 H (𝓖 .A)) 𝓜 𝓡 code.env #judged judged-def.routine code.calls-verdicts·verdict-place (judged-thm.met 𝓤 H 𝓜 𝓖 𝓡))
+    (cited 𝓤 H (law.Step (λ h n r. AnsweredAs h (Q.verdict n) r) 𝓤 H (𝓖 .A)) 𝓜 𝓡 code.env #step step-def.routine code.calls-replies·verdict (step-thm.met 𝓤 H 𝓜 𝓖 𝓡)))

@@ -1,13 +1,12 @@
-use mathlib.Core.Path.{refl}
+use mathlib.Core.Path.{ap}
+use lib.ListN.{getD}
+use Rattle.queries.specs.Parts.{bareFigures}
 use borrow.Author.Needs.{needs}
 use Rattle.queries.proofs.figures_at.Statement.{statement}
 use Rattle.queries.proofs.figures_at.Tie as tie
 
-sub-i : tie.Need-sub-i
-sub-i c = search needs
-
-cast-i : tie.Need-cast-i
-cast-i c = search needs
+place-of-requires : tie.Need-place-of-requires
+place-of-requires c κs = search needs
 
 mul-result : tie.Need-mul-result
 mul-result c = search needs
@@ -16,7 +15,7 @@ array-copy-out-result : tie.Need-array-copy-out-result
 array-copy-out-result c = search needs
 
 returns : tie.Need-returns
-returns c = refl
+returns c = ap (λ i. getD (c .before .before .before .args .s .figures) i bareFigures) (c .before .place-of .ensures .0)
 
 pub figures-at-spec : {M : Type 1} → statement M
-figures-at-spec = tie.close (tie.spec sub-i cast-i mul-result array-copy-out-result returns)
+figures-at-spec = tie.close (tie.spec place-of-requires mul-result array-copy-out-result returns)

@@ -1,0 +1,34 @@
+-- A response loses nothing of the reply that it tells: the reply is found again.
+use mathlib.Core.Path.{_≡_, refl, sym, _∙_, ap}
+use mathlib.Core.Bool.{cond}
+use lib.Dec.{eqb}
+use Rattle.queries.specs.declared.Reply.{Reply}
+use Rattle.queries.specs.declared.Reply.the-variants as R
+use Rattle.response.specs.declared.Response.{Response}
+use Rattle.replies.specs.Told.{ofReply}
+
+unfoldable replyOf : Response → Reply
+replyOf r =
+    cond (eqb (r .kind) 0)
+    R.Accepted
+    (cond (eqb (r .kind) 1)
+    (R.Refused (r .row) (r .hour))
+    (cond (eqb (r .kind) 4)
+    R.Hidden
+    (cond (eqb (r .kind) 5)
+    (R.Limit (r .row) (r .hour))
+    (cond (eqb (r .kind) 6)
+    (R.Number (r .value))
+    R.Absent))))
+
+reply-back : (a : Reply) → replyOf (ofReply a) ≡ a
+unfolding replyOf ofReply
+reply-back R.Accepted = refl
+reply-back (R.Refused n h) = refl
+reply-back R.Hidden = refl
+reply-back (R.Limit n h) = refl
+reply-back (R.Number z) = refl
+reply-back R.Absent = refl
+
+pub reply-told-once : (a b : Reply) → ofReply a ≡ ofReply b → a ≡ b
+reply-told-once a b e = sym (reply-back a) ∙ ap replyOf e ∙ reply-back b

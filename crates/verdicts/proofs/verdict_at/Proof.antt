@@ -1,0 +1,21 @@
+use mathlib.Core.Path.{ap}
+use lib.ListN.{getD}
+use Rattle.verdicts.specs.Parts.{bareVerdict}
+use borrow.Author.Needs.{needs}
+use Rattle.verdicts.proofs.verdict_at.Statement.{statement}
+use Rattle.verdicts.proofs.verdict_at.Tie as tie
+
+verdict-place-requires : tie.Need-verdict-place-requires
+verdict-place-requires c κs = search needs
+
+mul-result : tie.Need-mul-result
+mul-result c = search needs
+
+array-copy-out-result : tie.Need-array-copy-out-result
+array-copy-out-result c = search needs
+
+returns : tie.Need-returns
+returns c = ap (λ i. getD (c .before .before .before .args .s .verdicts) i bareVerdict) (c .before .verdict-place .ensures .0)
+
+pub verdict-at-spec : {M : Type 1} → statement M
+verdict-at-spec = tie.close (tie.spec verdict-place-requires mul-result array-copy-out-result returns)
