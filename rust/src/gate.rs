@@ -98,60 +98,45 @@ fn limit(row: u32) -> Limit {
     }
 }
 
-/// What a response of a kind other than 1 holds; that its other fields are 0 is part of the interface.
-enum Given {
-    Accepted,
-    Numbered(i64),
-    Steps(u64),
-    Hidden,
-    Limit(Limit, u32),
-    Figure(i64),
-    Absent,
-}
+// Each call looks for the kinds that it has, by reference: the gate's answer is not copied. That fields which hold nothing are 0 is
+// part of the interface.
 
-fn given(response: Response) -> Result<Given, Refusal> {
-    match response {
-        Response { kind: 0, row: 0, hour: 0, value: 0, count: 0 } => Ok(Given::Accepted),
-        Response { kind: 1, row, hour, value: 0, count: 0 } => Err(refusal(row, hour)),
-        Response { kind: 2, row: 0, hour: 0, value, count: 0 } => Ok(Given::Numbered(value)),
-        Response { kind: 3, row: 0, hour: 0, value: 0, count } => Ok(Given::Steps(count)),
-        Response { kind: 4, row: 0, hour: 0, value: 0, count: 0 } => Ok(Given::Hidden),
-        Response { kind: 5, row, hour, value: 0, count: 0 } => Ok(Given::Limit(limit(row), hour)),
-        Response { kind: 6, row: 0, hour: 0, value, count: 0 } => Ok(Given::Figure(value)),
-        Response { kind: 7, row: 0, hour: 0, value: 0, count: 0 } => Ok(Given::Absent),
+/// The refusal that a response is, if it is none of the kinds that its call has.
+fn refused(response: &Response) -> Refusal {
+    match *response {
+        Response { kind: 1, row, hour, value: 0, count: 0 } => refusal(row, hour),
         _ => unexpected(response),
     }
 }
 
 /// The archive is proved not to answer so. Reached only if it is of another interface than this crate.
-fn unexpected(response: Response) -> ! {
+fn unexpected(response: &Response) -> ! {
     panic!("the archive answers {response:?}, which this call does not have: it is not of this crate's interface")
 }
 
-fn done(response: Response) -> Result<(), Refusal> {
-    match given(response)? {
-        Given::Accepted => Ok(()),
-        _ => unexpected(response),
+fn done(response: &Response) -> Result<(), Refusal> {
+    match *response {
+        Response { kind: 0, row: 0, hour: 0, value: 0, count: 0 } => Ok(()),
+        _ => Err(refused(response)),
     }
 }
 
-fn figure(response: Response) -> Result<i64, Refusal> {
-    match given(response)? {
-        Given::Figure(value) => Ok(value),
-        _ => unexpected(response),
+fn figure(response: &Response) -> Result<i64, Refusal> {
+    match *response {
+        Response { kind: 6, row: 0, hour: 0, value, count: 0 } => Ok(value),
+        _ => Err(refused(response)),
     }
 }
 
 /// A figure that is not below zero.
-fn amount(response: Response) -> Result<u32, Refusal> {
+fn amount(response: &Response) -> Result<u32, Refusal> {
     Ok(u32::try_from(figure(response)?).unwrap_or_else(|_| unexpected(response)))
 }
 
-fn maximum(response: Response) -> Result<Option<i64>, Refusal> {
-    match given(response)? {
-        Given::Figure(value) => Ok(Some(value)),
-        Given::Absent => Ok(None),
-        _ => unexpected(response),
+fn maximum(response: &Response) -> Result<Option<i64>, Refusal> {
+    match *response {
+        Response { kind: 7, row: 0, hour: 0, value: 0, count: 0 } => Ok(None),
+        _ => Ok(Some(figure(response)?)),
     }
 }
 
@@ -180,7 +165,7 @@ impl Gate {
 
     /// The hours of a date: 23, 24 or 25. Refused as 1.
     pub fn hours(day: Date) -> Result<u32, Refusal> {
-        amount(ffi::hours(date(day)))
+        amount(&ffi::hours(date(day)))
     }
 
     /// The clock name of an hour. Refused as 1 or 4.
@@ -202,7 +187,7 @@ impl Gate {
     /// assert_eq!(Gate::hour_named(day, Clock { name: 2, second: true }), Ok(4));
     /// ```
     pub fn hour_named(day: Date, clock: Clock) -> Result<u32, Refusal> {
-        amount(ffi::hour(date(day), ffi::Clock { name: clock.name, second: clock.second.into() }))
+        amount(&ffi::hour(date(day), ffi::Clock { name: clock.name, second: clock.second.into() }))
     }
 
     /// The fields of a message by itself, whatever the day. Refused as 3, 4 or 5.
@@ -246,27 +231,29 @@ impl Gate {
     pub fn register(&mut self, unit: Unit) -> Result<(), Refusal> {
         let Unit { number, agent, border, purchase, maximum, legacy } = unit;
         let (purchase, legacy) = (purchase.into(), legacy.into());
-        done(ffi::register(&mut self.session, ffi::Unit { number, agent, border, purchase, maximum, legacy }))
+        done(&ffi::register(&mut self.session, ffi::Unit { number, agent, border, purchase, maximum, legacy }))
     }
 
     /// An unavailability notice; it replaces the unit's earlier one. Refused as 2, 4, 5 or 6.
     pub fn available(&mut self, unit: u32, energies: &Energies) -> Result<(), Refusal> {
         let notice = ffi::Availability { unit, count: energies.count(), energies: *energies.values() };
-        done(ffi::available(&mut self.session, notice))
+        done(&ffi::available(&mut self.session, notice))
     }
 
     /// A capacity notice; it replaces the one before it, whole. Refused as 2, 4 or 5.
     pub fn capacity(&mut self, capacities: &Capacities) -> Result<(), Refusal> {
         let directions = capacities.directions().each_ref().map(published);
-        done(ffi::capacity(&mut self.session, ffi::Capacities { directions }))
+        done(&ffi::capacity(&mut self.session, ffi::Capacities { directions }))
     }
 
     /// Lodges a message. Refused as 2, 3, 4, 5, 6, 9, 10, 11 or 12.
     pub fn lodge(&mut self, message: &[u8]) -> Result<LodgingNumber, Refusal> {
-        let response = ffi::lodge(&mut self.session, message);
-        match given(response)? {
-            Given::Numbered(value) => Ok(LodgingNumber(u32::try_from(value).unwrap_or_else(|_| unexpected(response)))),
-            _ => unexpected(response),
+        let response = &ffi::lodge(&mut self.session, message);
+        match *response {
+            Response { kind: 2, row: 0, hour: 0, value, count: 0 } => {
+                Ok(LodgingNumber(u32::try_from(value).unwrap_or_else(|_| unexpected(response))))
+            }
+            _ => Err(refused(response)),
         }
     }
 
@@ -274,69 +261,69 @@ impl Gate {
     pub fn annul(&mut self, key: Key) -> Result<(), Refusal> {
         let Key { execution, default, unit, contract } = key;
         let (execution, default) = (execution.into(), default.into());
-        done(ffi::annul(&mut self.session, ffi::Key { execution, default, unit, contract }))
+        done(&ffi::annul(&mut self.session, ffi::Key { execution, default, unit, contract }))
     }
 
     /// Closes the gate: each standing lodgement gets its verdict. Refused as 2.
     pub fn close(&mut self) -> Result<(), Refusal> {
-        done(ffi::close(&mut self.session))
+        done(&ffi::close(&mut self.session))
     }
 
     /// Clears the day and counts the withdrawal steps. Refused as 2.
     pub fn clear(&mut self) -> Result<Steps, Refusal> {
-        let response = ffi::clear(&mut self.session);
-        match given(response)? {
-            Given::Steps(count) => Ok(Steps(count)),
-            _ => unexpected(response),
+        let response = &ffi::clear(&mut self.session);
+        match *response {
+            Response { kind: 3, row: 0, hour: 0, value: 0, count } => Ok(Steps(count)),
+            _ => Err(refused(response)),
         }
     }
 
     /// The verdict on a lodging number, after closing. Refused as 2 or 13.
     pub fn verdict(&self, number: u32) -> Result<Verdict, Refusal> {
-        let response = ffi::verdict(&self.session, number);
-        match given(response)? {
-            Given::Accepted => Ok(Verdict::Accepted),
-            Given::Hidden => Ok(Verdict::Hidden),
-            Given::Limit(limit, hour) => Ok(Verdict::Refused { limit, hour }),
-            _ => unexpected(response),
+        let response = &ffi::verdict(&self.session, number);
+        match *response {
+            Response { kind: 0, row: 0, hour: 0, value: 0, count: 0 } => Ok(Verdict::Accepted),
+            Response { kind: 4, row: 0, hour: 0, value: 0, count: 0 } => Ok(Verdict::Hidden),
+            Response { kind: 5, row, hour, value: 0, count: 0 } => Ok(Verdict::Refused { limit: limit(row), hour }),
+            _ => Err(refused(response)),
         }
     }
 
     /// A unit's matched energy in an hour, after clearing. Refused as 2, 4, 5 or 6.
     pub fn matched(&self, unit: u32, hour: u32) -> Result<u32, Refusal> {
-        amount(ffi::matched(&self.session, unit, hour))
+        amount(&ffi::matched(&self.session, unit, hour))
     }
 
     /// A unit's executed energy in an hour, after clearing. Refused as 2, 4, 5 or 6.
     pub fn executed(&self, unit: u32, hour: u32) -> Result<u32, Refusal> {
-        amount(ffi::executed(&self.session, unit, hour))
+        amount(&ffi::executed(&self.session, unit, hour))
     }
 
     /// A border's final market balance in an hour, exports less imports, after clearing. Refused as 2, 4 or 5.
     pub fn market(&self, border: u32, hour: u32) -> Result<i64, Refusal> {
-        figure(ffi::market(&self.session, border, hour))
+        figure(&ffi::market(&self.session, border, hour))
     }
 
     /// A border's final balance of executions in an hour, exports less imports, after clearing. Refused as 2, 4 or 5.
     pub fn bilateral(&self, border: u32, hour: u32) -> Result<i64, Refusal> {
-        figure(ffi::bilateral(&self.session, border, hour))
+        figure(&ffi::bilateral(&self.session, border, hour))
     }
 
     /// The market maximum of a border's direction in an hour, after clearing, none without capacity. It is counted in that
     /// direction: one of imports bounds the market balance negated. Refused as 2, 4 or 5.
     pub fn market_maximum(&self, border: u32, direction: Direction, hour: u32) -> Result<Option<i64>, Refusal> {
-        maximum(ffi::market_maximum(&self.session, border, direction == Direction::Export, hour))
+        maximum(&ffi::market_maximum(&self.session, border, direction == Direction::Export, hour))
     }
 
     /// The bilateral maximum of a border's direction in an hour, after clearing, none without capacity, counted in that direction;
     /// it may be below zero, when the market exports more than the capacity since executions import. Refused as 2, 4 or 5.
     pub fn bilateral_maximum(&self, border: u32, direction: Direction, hour: u32) -> Result<Option<i64>, Refusal> {
-        maximum(ffi::bilateral_maximum(&self.session, border, direction == Direction::Export, hour))
+        maximum(&ffi::bilateral_maximum(&self.session, border, direction == Direction::Export, hour))
     }
 
     /// An hour's price, after clearing. Refused as 2 or 4.
     pub fn price(&self, hour: u32) -> Result<u32, Refusal> {
-        amount(ffi::price(&self.session, hour))
+        amount(&ffi::price(&self.session, hour))
     }
 }
 
@@ -350,7 +337,7 @@ impl From<Gate> for Box<ffi::Session> {
 impl Exchange for Gate {
     fn opened(day: Date) -> (Result<(), Refusal>, Gate) {
         let (response, session) = ffi::open(date(day));
-        (done(response), Gate { session })
+        (done(&response), Gate { session })
     }
     fn hours(day: Date) -> Result<u32, Refusal> {
         Gate::hours(day)
