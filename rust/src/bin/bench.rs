@@ -89,6 +89,15 @@ fn full<E: Exchange>(congested: bool) -> E {
     exchange
 }
 
+/// The quiet day, and late notices by which no unit has any energy left: closing refuses every lodgement.
+fn without_units<E: Exchange>() -> E {
+    let mut exchange: E = full(false);
+    for number in 1..=64 {
+        exchange.available(number, &Energies::flat(0, 25)).unwrap();
+    }
+    exchange
+}
+
 /// An hour of 10,000 steps. French exports of 10,000 and imports of 10,000 stand against each other, and a domestic sale of 1 makes
 /// the exports pass by 1: a step takes one tenth of export, and with it goes one of import, which is the dearest sale. 60 domestic
 /// offers are matched anew at each step, and 64 executions of one unit stand beside: 64 units and 127 lodgements.
@@ -183,6 +192,7 @@ fn time(case: &mut Case) {
 fn main() {
     let quiet: (Day<Gate>, Day<Session>) = (Day::of(full(false)), Day::of(full(false)));
     let congested: (Day<Gate>, Day<Session>) = (Day::of(full(true)), Day::of(full(true)));
+    let unavailable: (Day<Gate>, Day<Session>) = (Day::of(without_units()), Day::of(without_units()));
     let hard: (Day<Gate>, Day<Session>) = (Day::of(adversarial()), Day::of(adversarial()));
     assert_eq!((quiet.0.steps, quiet.1.steps), (0, 0));
     assert_eq!(congested.0.steps, congested.1.steps);
@@ -191,6 +201,8 @@ fn main() {
     let two = fields(offer(7), 2, |hour| (100 + hour, 4000));
     let all = fields(offer(7), 25, |hour| (100 + hour, 4000));
     let contract = fields(execution(40, 9), 25, |hour| (30 + hour, 0));
+    let beside_bytes = message(&fields(offer(40), 2, |hour| (100 + hour, 4000)));
+    let replaced_bytes = message(&fields(execution(40, 2), 25, |hour| (30 + hour, 0)));
     let (two_bytes, all_bytes, contract_bytes) = (message(&two), message(&all), message(&contract));
     let key = execution(64, 2);
     let notice = (1..=4).fold(Capacities::none(), |notice, line| {
@@ -267,6 +279,12 @@ fn main() {
     change!("lodge, full: an offer of 2 hours replaced", 300, 50, quiet.lodged, |exchange, index| exchange
         .lodge(&two_bytes)
         .unwrap());
+    change!("lodge, full: the same, two executions beside", 300, 50, quiet.lodged, |exchange, index| exchange
+        .lodge(&beside_bytes)
+        .unwrap());
+    change!("lodge, full: an execution, an offer beside", 300, 50, quiet.lodged, |exchange, index| exchange
+        .lodge(&replaced_bytes)
+        .unwrap());
     change!("lodge, full: refused as full", 300, 50, quiet.lodged, |exchange, index| exchange
         .lodge(&contract_bytes)
         .unwrap_err());
@@ -279,6 +297,9 @@ fn main() {
         .register(unit(65, 0, true))
         .unwrap_err());
     change!("close, full", 300, 1, quiet.lodged, |exchange, index| { exchange.close().unwrap() });
+    change!("close, full: every lodgement refused", 100, 1, unavailable.lodged, |exchange, index| {
+        exchange.close().unwrap()
+    });
     change!("clear, full, 25 hours, quiet", 200, 1, quiet.closed, |exchange, index| exchange.clear().unwrap());
     change!(
         format!("clear, full, 25 hours, congested, {} steps", congested.0.steps),
