@@ -9,7 +9,7 @@ use Rattle.rules.specs.Lodging as L
 use Rattle.rules.specs.Book as B
 use Rattle.rules.specs.DayBook as D
 use Rattle.session.specs.Image.{image, keyIn}
-use Rattle.session.specs.Changes.{Placed, standingTurn}
+use Rattle.changes.specs.Changes.{Placed, standingTurn}
 use Rattle.session.specs.Steps.{said, isRefusal}
 use Rattle.session.specs.Parts.{Judges, Entered}
 use Rattle.session.specs.declared.Key.{Key}

@@ -4,7 +4,7 @@ use Prim.Native.Nat.{ℕ}
 use Rattle.session.specs.Image.{noLodgement, noEnergies}
 use Rattle.session.specs.declared.Session.{Session}
 use Rattle.session.specs.declared.Answer.the-variants.{Done}
-use Rattle.session.specs.declared.StandingTurn.{StandingTurn}
+use Rattle.changes.specs.declared.StandingTurn.{StandingTurn}
 use Rattle.keys.specs.Keys.{leftOf}
 
 -- the lodgement at place p taken out, m the count of those left

@@ -19,7 +19,7 @@ use Rattle.rules.proofs.RefusalLaws.{accepted-rows}
 use Rattle.rules.proofs.HoursLaws.{hours-most}
 use Rattle.session.specs.Laid.{counted}
 use Rattle.session.specs.Image.{image, verdictsIn, hoursIn, publishedIn, capacitiesIn, noticeAs, noNotice}
-use Rattle.session.specs.Changes.{withRegistry, registryTurn}
+use Rattle.changes.specs.Changes.{withRegistry, registryTurn}
 use Rattle.session.specs.Steps.{said, isRefusal}
 use Rattle.session.specs.Parts.{Judges, Entered}
 use Rattle.notices.specs.Notices.{keptAs}

@@ -6,10 +6,14 @@ ghost use Rattle.rules.specs.Lists.{any};
 ghost use Rattle.rules.specs.Units.{notOfHours, badPublished};
 ghost use Rattle.rules.specs.DayBook.{capacity};
 ghost use Rattle.session.specs.Image.{publishedIn, capacitiesIn};
-ghost use Rattle.session.specs.Changes.{registryTurn};
+ghost use Rattle.changes.specs.Changes.{registryTurn};
 ghost use Rattle.session.specs.Steps.{Met};
 ghost use Rattle.session.specs.Parts.{Judges, Entered};
 ghost use Rattle.capacities.specs.Capacities.{directionAs, offHours, offRange};
+use changes::RegistryChange;
+use changes::RegistryTurn;
+use changes::registry_refused;
+use changes::with_registry;
 use notices::bad_energies;
 use notices::kept_notice;
 use session::Answer;
@@ -19,12 +23,8 @@ use session::Judged;
 use session::Notice;
 use session::Published;
 use session::RANGE;
-use session::RegistryChange;
-use session::RegistryTurn;
 use session::Session;
 use session::Turn;
-use session::changes::registry_refused;
-use session::changes::with_registry;
 use session::no_notice;
 
 // Row 4, of a direction: "a notice not of H hours". What is absent has no hours.

@@ -37,7 +37,7 @@ use Rattle.session.specs.declared.Answer.the-variants.{Steps}
 use Rattle.session.specs.Laid.{pad}
 use Rattle.session.specs.Image as I
 use Rattle.session.specs.Steps.{said, isRefusal}
-use Rattle.session.specs.Changes.{withFigures}
+use Rattle.changes.specs.Changes.{withFigures}
 use Rattle.session.specs.Parts.{Judges, Entered}
 use Rattle.session.proofs.LaidLaws.{map-last, set-pad}
 use Rattle.session.proofs.ImageLaws.{closed-as, cleared-as, hours-as, units-as, enrolled-as}

@@ -3,20 +3,20 @@ ghost use Prim.Native.Nat.{_<_};
 ghost use Rattle.rules.specs.DayBook.{clear};
 ghost use Rattle.session.specs.Steps.{Met};
 ghost use Rattle.session.specs.Parts.{Within, Judges, Entered};
-ghost use Rattle.session.specs.Changes.{clearingTurn};
+ghost use Rattle.changes.specs.Changes.{clearingTurn};
 ghost use mathlib.Core.List.{List};
 ghost use Rattle.session.specs.declared.Unit.{Unit};
 ghost use Rattle.gathering.specs.Built.{UnitPlaces, Holders, DayOf, dayIn};
 ghost use Rattle.clearing.specs.Hours.{HourAs, HoursAs};
+use changes::ClearingTurn;
+use changes::clearing_refused;
+use changes::with_clearing;
 use session::Answer;
 use session::Cleared;
-use session::ClearingTurn;
 use session::GATE;
 use session::Judged;
 use session::Session;
 use session::Turn;
-use session::changes::clearing_refused;
-use session::changes::with_clearing;
 
 // An hour's withdrawal steps and figures.
 pub struct HourEnd {

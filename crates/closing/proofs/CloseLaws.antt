@@ -12,7 +12,7 @@ use Rattle.rules.proofs.BookLaws.{stage-judgements}
 use Rattle.session.specs.Laid.{pad}
 use Rattle.session.specs.Image.{image, verdictAs, noVerdict, verdictsIn, hoursIn}
 use Rattle.session.specs.Steps.{said, isRefusal}
-use Rattle.session.specs.Changes.{withVerdicts}
+use Rattle.changes.specs.Changes.{withVerdicts}
 use Rattle.session.specs.Parts.{Within, Judges, Entered}
 use Rattle.session.specs.declared.Session.{Session}
 use Rattle.session.specs.declared.Verdict.{Verdict}

@@ -8,7 +8,7 @@ use Rattle.rules.specs.Lists.{from, sumOf}
 use Rattle.rules.specs.Book.{Book}
 use Rattle.session.specs.Image.{image, Sound}
 use Rattle.session.specs.Parts.{numberIs, placeOf}
-use Rattle.session.specs.Changes.{withVerdicts}
+use Rattle.changes.specs.Changes.{withVerdicts}
 use Rattle.session.specs.declared.Key.{Key}
 use Rattle.session.specs.declared.Verdict.{Verdict}
 use Rattle.session.specs.declared.Session.{Session}

@@ -1,7 +1,7 @@
 -- What the steps return, for the laws of the entries: what each changes, with its laws, and the session that storing it leaves.
 use Prim.Native.Nat.{_<_}
 use denote.Struct.Laws as LL
-use Rattle.session.specs.Changes.{Placed, withVerdicts, withFigures, registryWith, standingWith}
+use Rattle.changes.specs.Changes.{Placed, withVerdicts, withFigures, registryWith, standingWith}
 use Rattle.response.specs.declared.Registered.{Registered}
 use Rattle.response.specs.declared.Lodged.{Lodged}
 use Rattle.response.specs.declared.Closed.{Closed}

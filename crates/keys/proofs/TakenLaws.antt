@@ -18,12 +18,12 @@ use Rattle.rules.proofs.ElementLaws.{pairwise-weaken}
 use Rattle.session.specs.Laid.{pad}
 use Rattle.session.specs.Image.{image, Sound, verdictsIn, hoursIn, keyIn, lodgementAs, energiesAs, noLodgement, noEnergies}
 use Rattle.session.specs.Parts.{placeOf}
-use Rattle.session.specs.Changes.{moved, standingWith}
+use Rattle.changes.specs.Changes.{moved, standingWith}
 use Rattle.session.specs.declared.Key.{Key}
 use Rattle.session.specs.declared.Session.{Session}
 use Rattle.session.proofs.LaidLaws.{map-last, length-last, set-pad}
 use Rattle.session.proofs.PlaceLaws.{Once, placed, unplaced, place-map}
-use Rattle.session.proofs.ChangeLaws.{moved-none}
+use Rattle.changes.proofs.ChangeLaws.{moved-none}
 use Rattle.session.proofs.ImageLaws.{standing-as, lodgements-as}
 use Rattle.session.proofs.SoundLaws.{open-stage}
 use Rattle.keys.specs.Keys.{ofKey, keyPlace, leftOf}

@@ -16,7 +16,7 @@ use types.Run.{Reads, Writes, Walks, stop, fld}
 use denote.Laws.{Is}
 use denote.Array.{arrayVal}
 use denote.Struct.Laws as LL
-use Rattle.session.specs.Changes.{withRegistry, withLodgements}
+use Rattle.changes.specs.Changes.{withRegistry, withLodgements}
 use Rattle.session.specs.declared.Session.{Session}
 use Rattle.session.specs.declared.Unit.{Unit}
 use Rattle.session.specs.declared.Notice.{Notice}

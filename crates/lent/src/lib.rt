@@ -2,7 +2,7 @@
 // for, found there, so that no array is copied.
 ghost use mathlib.Core.Path.{_≡_};
 ghost use Prim.Native.Nat.{_<_};
-ghost use Rattle.session.specs.Changes.{Placed, withVerdicts, withFigures, registryWith, standingWith};
+ghost use Rattle.changes.specs.Changes.{Placed, withVerdicts, withFigures, registryWith, standingWith};
 ghost use Rattle.verdicts.specs.Parts.{LodgedFound};
 ghost use Rattle.energies.specs.Parts.{UnitFound};
 use response::Closed;

@@ -7,11 +7,11 @@ use Rattle.rules.specs.Lodging as L
 use Rattle.rules.specs.DayBook as D
 use Rattle.message.specs.View.{fieldsIn}
 use Rattle.message.specs.declared.Fields.{Fields}
-use Rattle.session.specs.Changes.{Placed, standingTurn}
+use Rattle.changes.specs.Changes.{Placed, standingTurn}
 use Rattle.session.specs.Steps.{said, isRefusal}
 use Rattle.session.specs.declared.Key.{Key}
 use Rattle.session.specs.declared.Session.{Session}
-use Rattle.session.specs.declared.StandingTurn.{StandingTurn}
+use Rattle.changes.specs.declared.StandingTurn.{StandingTurn}
 use Rattle.session.specs.declared.Answer.the-variants.{Numbered}
 use Rattle.session.proofs.ImageLaws.{last-as}
 use Rattle.keys.specs.Keys.{keyFor, keyPlace, leftOf}

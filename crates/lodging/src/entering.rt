@@ -2,10 +2,12 @@
 ghost use mathlib.Core.Path.{_≡_};
 ghost use Prim.Native.Nat.{_≤_};
 ghost use Rattle.session.specs.Parts.{Within};
-ghost use Rattle.session.specs.Changes.{Placed, standingTurn};
+ghost use Rattle.changes.specs.Changes.{Placed, standingTurn};
 ghost use Rattle.keys.specs.Keys.{keyFor, keyPlace};
 ghost use Rattle.admission.specs.Judging.{Room};
 ghost use Rattle.lodging.specs.Entries.{EnteredFields};
+use changes::StandingChange;
+use changes::StandingTurn;
 use keys::key_of;
 use keys::key_place;
 use keys::left_of;
@@ -14,8 +16,6 @@ use session::Answer;
 use session::Energies;
 use session::Lodgement;
 use session::Session;
-use session::StandingChange;
-use session::StandingTurn;
 
 // The place of the lodgement that a message replaces, behind the last where there is none: found once, for judging and entering.
 pub fn replaced_place(s: Session, m: Fields) -> usize

@@ -1,20 +1,20 @@
 // Lodging: "takes a message's bytes".
 ghost use Rattle.rules.specs.DayBook.{lodge};
-ghost use Rattle.session.specs.Changes.{Placed, standingTurn};
+ghost use Rattle.changes.specs.Changes.{Placed, standingTurn};
 ghost use Rattle.session.specs.Steps.{Met};
 use crate::entering::enter;
 use crate::entering::replaced_place;
 use admission::judge_fields;
+use changes::StandingTurn;
+use changes::standing_refused;
+use changes::with_standing;
 use keys::holder_of;
 use reader::bad_form;
 use reader::fields_of;
 use session::GATE;
 use session::Judged;
 use session::Session;
-use session::StandingTurn;
 use session::Turn;
-use session::changes::standing_refused;
-use session::changes::with_standing;
 
 // The refusal table's number for a wrong form.
 pub const FORM: u32 = 3;

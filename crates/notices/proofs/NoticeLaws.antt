@@ -21,7 +21,7 @@ use Rattle.rules.proofs.RefusalLaws.{accepted-rows}
 use Rattle.rules.proofs.HoursLaws.{hours-most}
 use Rattle.session.specs.Laid.{pad, counted}
 use Rattle.session.specs.Image.{image, Sound, verdictsIn, hoursIn, unitOf, noticeOf, noticeAs, noNotice}
-use Rattle.session.specs.Changes.{withRegistry, registryTurn}
+use Rattle.changes.specs.Changes.{withRegistry, registryTurn}
 use Rattle.session.specs.Steps.{said, isRefusal}
 use Rattle.session.specs.Parts.{numberIs, placeOf, Judges, Entered}
 use Rattle.notices.specs.Notices.{keptAs, notedAt}

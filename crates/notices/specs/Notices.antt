@@ -8,7 +8,7 @@ use Rattle.session.specs.declared.Unit.{Unit}
 use Rattle.session.specs.declared.Notice.{Notice}
 use Rattle.session.specs.declared.Session.{Session}
 use Rattle.session.specs.declared.Answer.the-variants.{Done}
-use Rattle.session.specs.declared.RegistryTurn.{RegistryTurn}
+use Rattle.changes.specs.declared.RegistryTurn.{RegistryTurn}
 
 -- energies that are kept: those of the count, 0 behind
 unfoldable pub keptAs : ℕ → List ℕ → Notice

@@ -13,7 +13,7 @@ use Rattle.rules.specs.Units as U
 use Rattle.rules.specs.Book as B
 use Rattle.rules.specs.DayBook as D
 use Rattle.session.specs.Image.{image, verdictsIn, hoursIn, unitIn, unitOf, noticeOf, noticeAs, noUnit, noNotice}
-use Rattle.session.specs.Changes.{withRegistry}
+use Rattle.changes.specs.Changes.{withRegistry}
 use Rattle.session.specs.Steps.{said, isRefusal}
 use Rattle.session.specs.Parts.{numberIs, Judges, Entered}
 use Rattle.registry.specs.Registry.{besideUnit}

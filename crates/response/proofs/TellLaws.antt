@@ -7,13 +7,13 @@ use lib.Dec.{eqb}
 use lib.IntN.{ℤ, pos, negsuc}
 use Rattle.rules.specs.DayBook as D
 use Rattle.session.specs.Steps.{Met, isRefusal}
-use Rattle.session.specs.Changes.{Placed, registryTurn, standingTurn, closingTurn, clearingTurn}
+use Rattle.changes.specs.Changes.{Placed, registryTurn, standingTurn, closingTurn, clearingTurn}
 use Rattle.session.specs.declared.Session.{Session}
 use Rattle.session.specs.declared.Turn.{Turn}
-use Rattle.session.specs.declared.RegistryTurn.{RegistryTurn}
-use Rattle.session.specs.declared.StandingTurn.{StandingTurn}
-use Rattle.session.specs.declared.ClosingTurn.{ClosingTurn}
-use Rattle.session.specs.declared.ClearingTurn.{ClearingTurn}
+use Rattle.changes.specs.declared.RegistryTurn.{RegistryTurn}
+use Rattle.changes.specs.declared.StandingTurn.{StandingTurn}
+use Rattle.changes.specs.declared.ClosingTurn.{ClosingTurn}
+use Rattle.changes.specs.declared.ClearingTurn.{ClearingTurn}
 use Rattle.session.specs.declared.Answer.{Answer}
 use Rattle.session.specs.declared.Answer.the-variants as A
 use Rattle.response.specs.Told.{Stepped, ofAnswer, steppedAs, registeredAs, lodgedAs, closedAs, dayClearedAs, registryLeft, standingLeft, closingLeft, clearingLeft, MetAs}

@@ -11,14 +11,14 @@ use Rattle.calendar.specs.declared.Named.{Named}
 use Rattle.calendar.specs.declared.Named.the-variants as N
 use Rattle.session.specs.Laid.{counted}
 use Rattle.session.specs.Image.{capacitiesIn}
-use Rattle.session.specs.Changes.{withVerdicts, withFigures, registryWith, standingWith}
+use Rattle.changes.specs.Changes.{withVerdicts, withFigures, registryWith, standingWith}
 use Rattle.session.specs.Steps.{Met, Opens}
 use Rattle.session.specs.declared.Session.{Session}
 use Rattle.session.specs.declared.Turn.{Turn}
-use Rattle.session.specs.declared.RegistryTurn.{RegistryTurn}
-use Rattle.session.specs.declared.StandingTurn.{StandingTurn}
-use Rattle.session.specs.declared.ClosingTurn.{ClosingTurn}
-use Rattle.session.specs.declared.ClearingTurn.{ClearingTurn}
+use Rattle.changes.specs.declared.RegistryTurn.{RegistryTurn}
+use Rattle.changes.specs.declared.StandingTurn.{StandingTurn}
+use Rattle.changes.specs.declared.ClosingTurn.{ClosingTurn}
+use Rattle.changes.specs.declared.ClearingTurn.{ClearingTurn}
 use Rattle.session.specs.declared.Answer.{Answer}
 use Rattle.session.specs.declared.Answer.the-variants as A
 use Rattle.response.specs.declared.Response.{Response}

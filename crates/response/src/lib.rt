@@ -6,7 +6,7 @@ ghost use Rattle.rules.specs.Hours.{hoursAt, clockAt, hourAt};
 ghost use Rattle.rules.specs.DayBook.{register, available, capacity, lodge, annul, close, clear};
 ghost use Rattle.calendar.specs.View.{dateIn, clockIn, countedAs, namedAs};
 ghost use Rattle.session.specs.Image.{unitIn, keyIn};
-ghost use Rattle.session.specs.Changes.{Placed};
+ghost use Rattle.changes.specs.Changes.{Placed};
 ghost use Rattle.response.specs.Told.{
   ofAnswer,
   ofCounted,
@@ -26,15 +26,15 @@ use calendar::Clock;
 use calendar::Counted;
 use calendar::Date;
 use calendar::Named;
+use changes::RegistryChange;
+use changes::RegistryTurn;
+use changes::StandingChange;
+use changes::StandingTurn;
 use session::Answer;
 use session::Cleared;
 use session::Key;
 use session::Published;
-use session::RegistryChange;
-use session::RegistryTurn;
 use session::Session;
-use session::StandingChange;
-use session::StandingTurn;
 use session::Unit;
 use session::Verdict;
 

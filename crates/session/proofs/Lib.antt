@@ -2,6 +2,5 @@ pub mod LaidLaws
 pub mod PlaceLaws
 pub mod ImageLaws
 pub mod StepLaws
-pub mod ChangeLaws
 pub mod OpenLaws
 pub mod SoundLaws

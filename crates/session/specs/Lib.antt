@@ -1,5 +1,4 @@
 pub mod Laid
 pub mod Image
 pub mod Steps
-pub mod Changes
 pub mod Parts

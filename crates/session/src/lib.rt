@@ -7,7 +7,6 @@ ghost use Rattle.session.specs.Steps.{Opens};
 ghost use Rattle.session.specs.Parts.{within, refusedWith};
 use calendar::Date;
 
-pub mod changes;
 pub mod units;
 
 // Number and agent are 1 to 65,535; border is 0 domestic, 1 France, 2 Andorra, 3 Portugal, 4 Morocco.
@@ -119,55 +118,6 @@ pub struct Turn {
 pub struct Opened {
     pub answer: Answer,
     pub session: Session,
-}
-
-// What a call changes, so that a lent session is changed in place and not copied. A refused call changes nothing: `changed` is
-// false and the rest blank; closing and clearing give what was there.
-
-// Units and notices: a unit and its notice at a place, the count, all capacities.
-pub struct RegistryChange {
-    pub enrolled: usize,
-    pub at: usize,
-    pub unit: Unit,
-    pub notice: Notice,
-    pub capacities: [Notice; 8],
-    pub changed: bool,
-}
-
-pub struct RegistryTurn {
-    pub change: RegistryChange,
-    pub answer: Answer,
-}
-
-// Standing lodgements: those behind place `from`, up to place `to`, go one place forward; then one is put at a place.
-pub struct StandingChange {
-    pub from: usize,
-    pub to: usize,
-    pub at: usize,
-    pub lodgement: Lodgement,
-    pub energies: Energies,
-    pub standing: usize,
-    pub last: u32,
-    pub changed: bool,
-}
-
-pub struct StandingTurn {
-    pub change: StandingChange,
-    pub answer: Answer,
-}
-
-// The verdicts, and whether the gate is closed.
-pub struct ClosingTurn {
-    pub verdicts: [Verdict; 128],
-    pub closed: bool,
-    pub answer: Answer,
-}
-
-// The figures, and whether the day is cleared.
-pub struct ClearingTurn {
-    pub figures: [Cleared; 25],
-    pub cleared: bool,
-    pub answer: Answer,
 }
 
 // The refusal table's numbers.

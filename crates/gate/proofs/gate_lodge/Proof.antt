@@ -40,7 +40,7 @@ use denote.Triple.Walked.{says, Stays, gave-ref, stay-none-slice, walkOf, AllGo,
 use denote.Exit.{yes}
 use Rattle.rules.specs.DayBook as D
 use Rattle.response.specs.Told.{Stepped, MetAs}
-use Rattle.session.specs.Changes.{Placed, standingWith}
+use Rattle.changes.specs.Changes.{Placed, standingWith}
 use Rattle.session.specs.declared.Session.{Session}
 use Rattle.response.specs.declared.Response.{Response}
 use Rattle.response.specs.declared.Lodged.{Lodged}

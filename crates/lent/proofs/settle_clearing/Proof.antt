@@ -36,7 +36,7 @@ use denote.Triple.Walked.{says, Stays, stay-ref, stay-none, walkOf, AllGo, goes-
 use denote.Exit.{yes}
 use Rattle.session.specs.declared.Session.{Session}
 use Rattle.response.specs.declared.DayCleared.{DayCleared}
-use Rattle.session.specs.Changes.{withFigures}
+use Rattle.changes.specs.Changes.{withFigures}
 use Rattle.session.proofs.Session as T
 use Rattle.session.proofs.Session.Laws as T′
 use Rattle.session.proofs.Cleared.Laws as E′

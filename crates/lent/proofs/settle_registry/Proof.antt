@@ -37,7 +37,7 @@ use denote.Triple.Spec.{Meets, tripleOf}
 use denote.Triple.Table.{entered}
 use denote.Triple.Walked.{says, Stays, stay-ref, stay-none, walkOf, needs, AllGo, goes-none, goes-ref, Walks, ends-at, walked, walk-meets}
 use denote.Exit.{yes}
-use Rattle.session.specs.Changes.{registryWith}
+use Rattle.changes.specs.Changes.{registryWith}
 use Rattle.session.specs.declared.Session.{Session}
 use Rattle.response.specs.declared.Registered.{Registered}
 use Rattle.session.proofs.Session as T
@@ -46,8 +46,8 @@ use Rattle.session.proofs.Unit as U
 use Rattle.session.proofs.Unit.Laws as U′
 use Rattle.session.proofs.Notice as X
 use Rattle.session.proofs.Notice.Laws as X′
-use Rattle.session.proofs.RegistryChange as C
-use Rattle.session.proofs.RegistryChange.Laws as C′
+use Rattle.changes.proofs.RegistryChange as C
+use Rattle.changes.proofs.RegistryChange.Laws as C′
 use Rattle.response.proofs.Registered as G
 use Rattle.response.proofs.Registered.Laws as G′
 use Rattle.response.proofs.Response as N

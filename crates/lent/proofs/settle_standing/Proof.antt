@@ -42,20 +42,20 @@ use denote.Triple.Table.{entered}
 use denote.Triple.Walked.{says, Stays, stay-ref, stay-none, walkOf, needs, AllGo, goes-none, goes-ref, Walks, ends-at, walked, walk-meets}
 use denote.Exit.{yes}
 use Rattle.session.specs.Image.{noLodgement, noEnergies}
-use Rattle.session.specs.Changes.{movedIn, standingWith, Placed}
+use Rattle.changes.specs.Changes.{movedIn, standingWith, Placed}
 use Rattle.session.specs.declared.Session.{Session}
 use Rattle.session.specs.declared.Lodgement.{Lodgement}
 use Rattle.session.specs.declared.Energies.{Energies}
 use Rattle.response.specs.declared.Lodged.{Lodged}
-use Rattle.session.proofs.ChangeLaws.{session-none, session-more}
+use Rattle.changes.proofs.ChangeLaws.{session-none, session-more}
 use Rattle.session.proofs.Session as T
 use Rattle.session.proofs.Session.Laws as T′
 use Rattle.session.proofs.Lodgement as L
 use Rattle.session.proofs.Lodgement.Laws as L′
 use Rattle.session.proofs.Energies as E
 use Rattle.session.proofs.Energies.Laws as E′
-use Rattle.session.proofs.StandingChange as S
-use Rattle.session.proofs.StandingChange.Laws as S′
+use Rattle.changes.proofs.StandingChange as S
+use Rattle.changes.proofs.StandingChange.Laws as S′
 use Rattle.response.proofs.Lodged as G
 use Rattle.response.proofs.Lodged.Laws as G′
 use Rattle.response.proofs.Response as N

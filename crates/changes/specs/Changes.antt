@@ -4,20 +4,20 @@ use mathlib.Core.Path.{_≡_}
 use mathlib.Core.Bool.{Bool, false, cond}
 use mathlib.Core.List.{List, [], _∷_}
 use lib.ListN.{set}
 use Rattle.session.specs.declared.Notice.{Notice}
 use Rattle.session.specs.declared.Unit.{Unit}
 use Rattle.session.specs.declared.Lodgement.{Lodgement}
 use Rattle.session.specs.declared.Energies.{Energies}
 use Rattle.session.specs.declared.Verdict.{Verdict}
 use Rattle.session.specs.declared.Cleared.{Cleared}
 use Rattle.session.specs.declared.Session.{Session}
 use Rattle.session.specs.declared.Turn.{Turn}
-use Rattle.session.specs.declared.RegistryChange.{RegistryChange}
-use Rattle.session.specs.declared.RegistryTurn.{RegistryTurn}
-use Rattle.session.specs.declared.StandingChange.{StandingChange}
-use Rattle.session.specs.declared.StandingTurn.{StandingTurn}
-use Rattle.session.specs.declared.ClosingTurn.{ClosingTurn}
-use Rattle.session.specs.declared.ClearingTurn.{ClearingTurn}
+use Rattle.changes.specs.declared.RegistryChange.{RegistryChange}
+use Rattle.changes.specs.declared.RegistryTurn.{RegistryTurn}
+use Rattle.changes.specs.declared.StandingChange.{StandingChange}
+use Rattle.changes.specs.declared.StandingTurn.{StandingTurn}
+use Rattle.changes.specs.declared.ClosingTurn.{ClosingTurn}
+use Rattle.changes.specs.declared.ClearingTurn.{ClearingTurn}
 
 -- Sessions with other parts
 

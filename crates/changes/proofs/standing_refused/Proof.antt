@@ -1,8 +1,8 @@
 use mathlib.Core.Path.{refl}
 use native.Mathlib.Omega.{arith}
 use borrow.Author.Needs.{needs}
-use Rattle.session.proofs.changes.standing_refused.Statement.{statement}
-use Rattle.session.proofs.changes.standing_refused.Tie as tie
+use Rattle.changes.proofs.standing_refused.Statement.{statement}
+use Rattle.changes.proofs.standing_refused.Tie as tie
 
 no-lodgement-requires : tie.Need-no-lodgement-requires
 no-lodgement-requires c κs = search needs

@@ -6,12 +6,12 @@ use mathlib.Core.List.{List, [], _∷_}
 use native.Mathlib.Omega.{arith}
 use native.Mathlib.Numerals.{add-one}
 use lib.ListN.{length, getD, set}
-use Rattle.session.specs.Changes.{withLodgements, withRegistry, moved, movedIn, registryTurn, standingTurn}
+use Rattle.changes.specs.Changes.{withLodgements, withRegistry, moved, movedIn, registryTurn, standingTurn}
 use Rattle.session.specs.declared.Lodgement.{Lodgement}
 use Rattle.session.specs.declared.Energies.{Energies}
 use Rattle.session.specs.declared.Session.{Session}
-use Rattle.session.specs.declared.RegistryTurn.{RegistryTurn}
-use Rattle.session.specs.declared.StandingTurn.{StandingTurn}
+use Rattle.changes.specs.declared.RegistryTurn.{RegistryTurn}
+use Rattle.changes.specs.declared.StandingTurn.{StandingTurn}
 
 -- Elements moved forward
 

@@ -1,8 +1,8 @@
 use mathlib.Core.Path.{refl}
 use native.Mathlib.Omega.{arith}
 use borrow.Author.Needs.{needs}
-use Rattle.session.proofs.changes.registry_refused.Statement.{statement}
-use Rattle.session.proofs.changes.registry_refused.Tie as tie
+use Rattle.changes.proofs.registry_refused.Statement.{statement}
+use Rattle.changes.proofs.registry_refused.Tie as tie
 
 no-unit-requires : tie.Need-no-unit-requires
 no-unit-requires c κs = search needs

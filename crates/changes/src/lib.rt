@@ -1,21 +1,68 @@
-// What calls change, by itself and in a session by value.
+// What calls change, by itself and in a session by value: a lent session is changed in place and not copied. A refused call
+// changes nothing: `changed` is false and the rest blank; closing and clearing give what was there.
 ghost use mathlib.Core.Path.{_≡_};
 ghost use Prim.Native.Nat.{_<_, _≤_};
 ghost use Rattle.session.specs.Parts.{refusedWith};
-ghost use Rattle.session.specs.Changes.{Placed, movedIn, registryTurn, standingTurn, closingTurn, clearingTurn};
-use crate::Answer;
-use crate::ClearingTurn;
-use crate::ClosingTurn;
-use crate::RegistryChange;
-use crate::RegistryTurn;
-use crate::Session;
-use crate::StandingChange;
-use crate::StandingTurn;
-use crate::Turn;
-use crate::no_energies;
-use crate::no_lodgement;
-use crate::no_notice;
-use crate::no_unit;
+ghost use Rattle.changes.specs.Changes.{Placed, movedIn, registryTurn, standingTurn, closingTurn, clearingTurn};
+use session::Answer;
+use session::Cleared;
+use session::Energies;
+use session::Lodgement;
+use session::Notice;
+use session::Session;
+use session::Turn;
+use session::Unit;
+use session::Verdict;
+use session::no_energies;
+use session::no_lodgement;
+use session::no_notice;
+use session::no_unit;
+
+// Units and notices: a unit and its notice at a place, the count, all capacities.
+pub struct RegistryChange {
+    pub enrolled: usize,
+    pub at: usize,
+    pub unit: Unit,
+    pub notice: Notice,
+    pub capacities: [Notice; 8],
+    pub changed: bool,
+}
+
+pub struct RegistryTurn {
+    pub change: RegistryChange,
+    pub answer: Answer,
+}
+
+// Standing lodgements: those behind place `from`, up to place `to`, go one place forward; then one is put at a place.
+pub struct StandingChange {
+    pub from: usize,
+    pub to: usize,
+    pub at: usize,
+    pub lodgement: Lodgement,
+    pub energies: Energies,
+    pub standing: usize,
+    pub last: u32,
+    pub changed: bool,
+}
+
+pub struct StandingTurn {
+    pub change: StandingChange,
+    pub answer: Answer,
+}
+
+// The verdicts, and whether the gate is closed.
+pub struct ClosingTurn {
+    pub verdicts: [Verdict; 128],
+    pub closed: bool,
+    pub answer: Answer,
+}
+
+// The figures, and whether the day is cleared.
+pub struct ClearingTurn {
+    pub figures: [Cleared; 25],
+    pub cleared: bool,
+    pub answer: Answer,
+}
 
 // A refused call leaves every part as it was.
 

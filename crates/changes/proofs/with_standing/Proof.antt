@@ -1,8 +1,8 @@
 use borrow.Author.Tests.{not-true, not-false}
-use Rattle.session.proofs.ChangeLaws.{standing-still, standing-changed}
+use Rattle.changes.proofs.ChangeLaws.{standing-still, standing-changed}
 use borrow.Author.Needs.{needs}
-use Rattle.session.proofs.changes.with_standing.Statement.{statement}
-use Rattle.session.proofs.changes.with_standing.Tie as tie
+use Rattle.changes.proofs.with_standing.Statement.{statement}
+use Rattle.changes.proofs.with_standing.Tie as tie
 
 returns : tie.Need-returns
 returns c = standing-still _ (c .before .before .before .args .t) (not-true _ (c .if1 .taken))

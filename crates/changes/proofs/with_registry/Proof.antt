@@ -1,8 +1,8 @@
 use borrow.Author.Tests.{not-true, not-false}
-use Rattle.session.proofs.ChangeLaws.{registry-still, registry-changed}
+use Rattle.changes.proofs.ChangeLaws.{registry-still, registry-changed}
 use borrow.Author.Needs.{needs}
-use Rattle.session.proofs.changes.with_registry.Statement.{statement}
-use Rattle.session.proofs.changes.with_registry.Tie as tie
+use Rattle.changes.proofs.with_registry.Statement.{statement}
+use Rattle.changes.proofs.with_registry.Tie as tie
 
 returns : tie.Need-returns
 returns c = registry-still _ (c .before .before .before .args .t) (not-true _ (c .if1 .taken))
