@@ -1,6 +1,6 @@
 // "A reader set over the message moves on through its bits": the message and the position of its next bit.
-use reader::bits::has_at;
-use reader::bits::take_at;
+use bits::has_at;
+use bits::take_at;
 ghost use mathlib.Core.Path.{_≡_};
 ghost use Prim.Native.Nat.{_+_, _-_, _^_, min};
 ghost use lib.Dec.{leb};

@@ -7,7 +7,7 @@ use lib.Dec.{eqb}
 use Rattle.rules.specs.Units.{TradingUnit, Capacities}
 use Rattle.rules.specs.Lodging.{Key}
 use Rattle.rules.specs.DayBook as D
-use Rattle.reader.specs.Bits.{wordAt}
+use Rattle.bits.specs.Bits.{wordAt}
 use Rattle.session.specs.Laid.{counted}
 use Rattle.session.specs.Steps.{Met}
 use Rattle.session.specs.declared.Session.{Session}

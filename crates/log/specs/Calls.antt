@@ -9,7 +9,7 @@ use Rattle.rules.specs.Lists.{from}
 use Rattle.rules.specs.Units.{TradingUnit, Published, Capacities}
 use Rattle.rules.specs.Lodging.{Key}
 use Rattle.rules.specs.DayBook.{Call, register, capacity, available, lodge, annul, close, clear, Answer, done, refusal, numbered, steps}
-use Rattle.reader.specs.Bits.{wordAt}
+use Rattle.bits.specs.Bits.{wordAt}
 use Rattle.session.specs.Laid.{counted}
 
 -- What a record's bytes say

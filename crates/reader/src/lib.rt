@@ -1,6 +1,4 @@
 // Reading a lodging message.
-pub mod bits;
-
 use bits::four_at;
 use bits::part;
 use bits::power;

@@ -1,7 +1,7 @@
 // A rehearsal: calls and queries as lines of text on standard input, run on the session that the last one left; each answer
 // is a line, a report a line and its tables (docs/REHEARSAL.md). At the end it says how many were run, refused and not understood.
+use bits::byte_at;
 use calendar::Date;
-use reader::bits::byte_at;
 use report::text::put;
 use report::text::put_count;
 use session::Session;

@@ -10,8 +10,8 @@ use crate::words::next_word;
 use crate::words::number;
 use crate::words::number_in;
 use crate::words::optional;
+use bits::byte_at;
 use message::Fields;
-use reader::bits::byte_at;
 
 // A line so far: how far it is read, where its hours start, and the fields.
 pub struct Draft {

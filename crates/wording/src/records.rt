@@ -12,7 +12,7 @@ use crate::words::number;
 use crate::words::number_in;
 use crate::words::one_of;
 use crate::words::optional;
-use reader::bits::byte_at;
+use bits::byte_at;
 
 // Whether a line is a call, and how many bytes its record has.
 pub struct Record {

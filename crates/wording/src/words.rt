@@ -1,5 +1,5 @@
 // The words of a line, taken one by one.
-use reader::bits::byte_at;
+use bits::byte_at;
 
 // Where a word stands in its line; from == to at the line's end.
 pub struct Word {

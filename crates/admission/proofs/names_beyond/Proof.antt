@@ -1,7 +1,7 @@
 use native.Mathlib.Omega.{arith}
 use Prim.Native.Nat.{_-_}
 use lib.Pow.{pow-pos}
-use Rattle.reader.proofs.WordLaws.{shifted-one}
+use Rattle.bits.proofs.WordLaws.{shifted-one}
 use Rattle.admission.proofs.BeyondLaws.{beyond-bits}
 use borrow.Author.Needs.{needs}
 use Rattle.admission.proofs.names_beyond.Statement.{statement}

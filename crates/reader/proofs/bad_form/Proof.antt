@@ -6,7 +6,7 @@ use lib.Dec.{lit<, lit≤}
 use lib.ListN.{length}
 use Rattle.rules.specs.Message.{bitsOf, field}
 use Rattle.message.proofs.FormLaws.{Long, ends-in, form-short, form-length, form-form, form-kind, form-filling, length-read, filling-read}
-use Rattle.reader.proofs.WordLaws.{head-part}
+use Rattle.bits.proofs.WordLaws.{head-part}
 use Rattle.reader.proofs.bad_form.Statement.{statement}
 use Rattle.reader.proofs.bad_form.Tie as tie
 

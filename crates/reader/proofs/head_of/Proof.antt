@@ -1,7 +1,7 @@
 use mathlib.Core.Path.{refl}
 use lib.Dec.{lit<, lit≤}
 use Rattle.rules.specs.Message.{isExecution, mapOf}
-use Rattle.reader.proofs.WordLaws.{head-part}
+use Rattle.bits.proofs.WordLaws.{head-part}
 use Rattle.reader.proofs.head_of.Statement.{statement}
 use Rattle.reader.proofs.head_of.Tie as tie
 

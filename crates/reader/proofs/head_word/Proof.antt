@@ -1,6 +1,6 @@
 use native.Mathlib.Omega.{arith}
 use Rattle.rules.proofs.ListLaws.{Under, all-of}
-use Rattle.reader.proofs.WordLaws.{head-read}
+use Rattle.bits.proofs.WordLaws.{head-read}
 use Rattle.reader.proofs.head_word.Statement.{statement}
 use Rattle.reader.proofs.head_word.Tie as tie
 

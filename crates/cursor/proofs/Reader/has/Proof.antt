@@ -47,10 +47,10 @@ use Rattle.rules.specs.Message.{bitsOf}
 use Rattle.cursor.specs.declared.Reader.{Reader}
 use Rattle.cursor.proofs.Reader as T
 use Rattle.cursor.proofs.Reader.Laws as T′
-use Rattle.reader.proofs.bits.has_at as step
-use Rattle.reader.proofs.bits.has_at.Symbol as step-def
-use Rattle.reader.proofs.bits.has_at.Symbol.{name as #step}
-use Rattle.reader.proofs.bits.has_at.Met as step-thm
+use Rattle.bits.proofs.has_at as step
+use Rattle.bits.proofs.has_at.Symbol as step-def
+use Rattle.bits.proofs.has_at.Symbol.{name as #step}
+use Rattle.bits.proofs.has_at.Met as step-thm
 use Rattle.cursor.proofs.Reader.has.Key.{name as #has}
 use Rattle.cursor.proofs.Reader.has as has
 use Rattle.cursor.proofs.Reader.has.Statement as stated
@@ -160,4 +160,4 @@ has-spec 𝓤 H 𝓜 𝓖 𝓡 =
     entered 𝓤 H (tripleOf 𝓤 H (𝓖 .A) has.signature (has.spec 𝓤 H (𝓖 .A) (𝓜 .mem) (𝓡 .run)))
     (tables 𝓤 H 𝓜 𝓡 code.env .C) (tables 𝓤 H 𝓜 𝓡 code.env .Λ) #has code.function (code.unfolded 𝓤 H 𝓜 𝓡)
     (has-meets 𝓤 H (𝓖 .A) (givenOf 𝓤 H 𝓜 𝓖) (𝓜 .mem) (𝓡 .run) (tablesOf 𝓤 H 𝓜 (tables 𝓤 H 𝓜 𝓡 code.env))
-    (cited 𝓤 H (StepAt 𝓤 H (𝓖 .A) (𝓜 .mem) (𝓡 .run)) 𝓜 𝓡 code.env #step step-def.routine code.calls-reader·bits·has-at (step-thm.met 𝓤 H 𝓜 𝓖 𝓡)))
+    (cited 𝓤 H (StepAt 𝓤 H (𝓖 .A) (𝓜 .mem) (𝓡 .run)) 𝓜 𝓡 code.env #step step-def.routine code.calls-bits·has-at (step-thm.met 𝓤 H 𝓜 𝓖 𝓡)))

@@ -47,15 +47,15 @@ use denote.Exit.{yes}
 use denote.Signature.{Slot, plain, namedLft}
 use Rattle.rules.specs.Message.{bitsOf, field}
 use Rattle.cursor.specs.declared.Reader.{Reader}
-use Rattle.reader.specs.declared.bits.Taken.{Taken}
+use Rattle.bits.specs.declared.Taken.{Taken}
 use Rattle.cursor.proofs.Reader as T
 use Rattle.cursor.proofs.Reader.Laws as T′
-use Rattle.reader.proofs.bits.Taken as K
-use Rattle.reader.proofs.bits.Taken.Laws as K′
-use Rattle.reader.proofs.bits.take_at as step
-use Rattle.reader.proofs.bits.take_at.Symbol as step-def
-use Rattle.reader.proofs.bits.take_at.Symbol.{name as #step}
-use Rattle.reader.proofs.bits.take_at.Met as step-thm
+use Rattle.bits.proofs.Taken as K
+use Rattle.bits.proofs.Taken.Laws as K′
+use Rattle.bits.proofs.take_at as step
+use Rattle.bits.proofs.take_at.Symbol as step-def
+use Rattle.bits.proofs.take_at.Symbol.{name as #step}
+use Rattle.bits.proofs.take_at.Met as step-thm
 use Rattle.cursor.proofs.Reader.take.Key.{name as #take}
 use Rattle.cursor.proofs.Reader.take as f
 use Rattle.cursor.proofs.Reader.take.Statement as stated
@@ -192,4 +192,4 @@ take-spec 𝓤 H 𝓜 𝓖 𝓡 =
     entered 𝓤 H (tripleOf 𝓤 H (𝓖 .A) f.signature (f.spec 𝓤 H (𝓖 .A) (𝓜 .mem) (𝓡 .run)))
     (tables 𝓤 H 𝓜 𝓡 code.env .C) (tables 𝓤 H 𝓜 𝓡 code.env .Λ) #take code.function (code.unfolded 𝓤 H 𝓜 𝓡)
     (meets 𝓤 H (𝓖 .A) (givenOf 𝓤 H 𝓜 𝓖) (𝓜 .mem) (𝓡 .run) (tablesOf 𝓤 H 𝓜 (tables 𝓤 H 𝓜 𝓡 code.env))
-    (cited 𝓤 H (Step 𝓤 H (𝓖 .A) (𝓜 .mem) (𝓡 .run)) 𝓜 𝓡 code.env #step step-def.routine code.calls-reader·bits·take-at (step-thm.met 𝓤 H 𝓜 𝓖 𝓡)))
+    (cited 𝓤 H (Step 𝓤 H (𝓖 .A) (𝓜 .mem) (𝓡 .run)) 𝓜 𝓡 code.env #step step-def.routine code.calls-bits·take-at (step-thm.met 𝓤 H 𝓜 𝓖 𝓡)))

@@ -1,7 +1,7 @@
 use native.Mathlib.Omega.{arith}
-use Rattle.reader.specs.Bits.{wordAt}
-use Rattle.reader.proofs.bits.four_at.Statement.{statement}
-use Rattle.reader.proofs.bits.four_at.Tie as tie
+use Rattle.bits.specs.Bits.{wordAt}
+use Rattle.bits.proofs.four_at.Statement.{statement}
+use Rattle.bits.proofs.four_at.Tie as tie
 
 shared-slice-read-joined : tie.Need-shared-slice-read-joined
 shared-slice-read-joined c = omega arith

@@ -12,7 +12,7 @@ use lib.ListN.{length, take, drop, getD, length-drop, List·getD-eq-default}
 use Rattle.rules.specs.Message.{headWidth, value, field, bitsOf}
 use Rattle.rules.proofs.ListLaws.{Under}
 use Rattle.rules.proofs.BitLaws.{length-bitsOf, bitsOf-under, field-add, field-inner, word, field-word, word-four}
-use Rattle.reader.specs.Bits.{wordAt}
+use Rattle.bits.specs.Bits.{wordAt}
 
 pub word-past : (bytes : List ℕ) (i : ℕ) → length bytes ≤ i → 0 ≡ wordAt bytes i
 unfolding wordAt

@@ -1,8 +1,8 @@
 use native.Mathlib.Omega.{arith}
 use borrow.Author.Needs.{needs}
-use Rattle.reader.proofs.WordLaws.{shifted-one}
-use Rattle.reader.proofs.bits.power.Statement.{statement}
-use Rattle.reader.proofs.bits.power.Tie as tie
+use Rattle.bits.proofs.WordLaws.{shifted-one}
+use Rattle.bits.proofs.power.Statement.{statement}
+use Rattle.bits.proofs.power.Tie as tie
 
 shl-result : tie.Need-shl-result
 shl-result c = search needs

@@ -4,7 +4,7 @@ ghost use Prim.Native.Nat.{_+_, _*_, _-_, _/_, _%_, _^_, _<_, _≤_, min};
 ghost use lib.Dec.{leb};
 ghost use lib.ListN.{length, getD};
 ghost use Rattle.rules.specs.Message.{bitsOf, field};
-ghost use Rattle.reader.specs.Bits.{wordAt};
+ghost use Rattle.bits.specs.Bits.{wordAt};
 
 // Four bytes as one number, the first highest.
 fn joined(a: u8, b: u8, c: u8, d: u8) -> u64

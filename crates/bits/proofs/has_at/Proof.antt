@@ -1,8 +1,8 @@
 -- `bits::has_at` meets its contract: the bytes up to the last bit's are there exactly when the bit is.
 use native.Mathlib.Omega.{arith}
-use Rattle.reader.proofs.WordLaws.{has-all, has-not}
-use Rattle.reader.proofs.bits.has_at.Statement.{statement}
-use Rattle.reader.proofs.bits.has_at.Tie as tie
+use Rattle.bits.proofs.WordLaws.{has-all, has-not}
+use Rattle.bits.proofs.has_at.Statement.{statement}
+use Rattle.bits.proofs.has_at.Tie as tie
 
 add-end : tie.Need-add-end
 add-end c = omega arith

@@ -3,9 +3,9 @@ use Prim.Native.Nat.{_+_, _*_, _<_}
 use mathlib.Core.Path.{sym, _∙_}
 use native.Mathlib.Omega.{arith}
 use lib.ListN.{length}
-use Rattle.reader.proofs.WordLaws.{all-had, not-had}
-use Rattle.reader.proofs.bits.there_at.Statement.{statement}
-use Rattle.reader.proofs.bits.there_at.Tie as tie
+use Rattle.bits.proofs.WordLaws.{all-had, not-had}
+use Rattle.bits.proofs.there_at.Statement.{statement}
+use Rattle.bits.proofs.there_at.Tie as tie
 
 -- where some of the bits are beyond the end
 beyond : (c : tie.Else1) → 8 * length (c .before .before .before .args .s .now) < c .before .before .before .args .at + c .before .before .before .args .width

@@ -1,9 +1,9 @@
 -- `bits::bits_at` meets its contract: a field is that of its bits that are there.
 use mathlib.Core.Path.{sym, _∙_}
 use native.Mathlib.Omega.{arith}
-use Rattle.reader.proofs.WordLaws.{field-there, field-none}
-use Rattle.reader.proofs.bits.bits_at.Statement.{statement}
-use Rattle.reader.proofs.bits.bits_at.Tie as tie
+use Rattle.bits.proofs.WordLaws.{field-there, field-none}
+use Rattle.bits.proofs.bits_at.Statement.{statement}
+use Rattle.bits.proofs.bits_at.Tie as tie
 
 there-at-requires : tie.Need-there-at-requires
 there-at-requires c κs = c .before .pre

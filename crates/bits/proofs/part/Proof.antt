@@ -5,8 +5,8 @@ use native.Mathlib.Omega.{arith}
 use native.Mathlib.Nat.{mod-lt}
 use lib.Bits.{and-mask, mask-lt}
 use lib.Pow.{pow-pos, pow-mono}
-use Rattle.reader.proofs.bits.part.Statement.{statement}
-use Rattle.reader.proofs.bits.part.Tie as tie
+use Rattle.bits.proofs.part.Statement.{statement}
+use Rattle.bits.proofs.part.Tie as tie
 
 shr-result : tie.Need-shr-result
 shr-result c = omega arith

@@ -2,8 +2,8 @@ use mathlib.Core.Path.{sym}
 use lib.ListN.{List·getD-eq-default}
 use borrow.Author.Needs.{needs}
 use native.Mathlib.Omega.{arith}
-use Rattle.reader.proofs.bits.byte_at.Statement.{statement}
-use Rattle.reader.proofs.bits.byte_at.Tie as tie
+use Rattle.bits.proofs.byte_at.Statement.{statement}
+use Rattle.bits.proofs.byte_at.Tie as tie
 
 shared-slice-read-result : tie.Need-shared-slice-read-result
 shared-slice-read-result c = omega arith

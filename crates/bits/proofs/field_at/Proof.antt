@@ -2,9 +2,9 @@
 use mathlib.Core.Path.{_∙_}
 use native.Mathlib.Omega.{arith}
 use Rattle.rules.proofs.ListLaws.{Under, all-of}
-use Rattle.reader.proofs.WordLaws.{field-read}
-use Rattle.reader.proofs.bits.field_at.Statement.{statement}
-use Rattle.reader.proofs.bits.field_at.Tie as tie
+use Rattle.bits.proofs.WordLaws.{field-read}
+use Rattle.bits.proofs.field_at.Statement.{statement}
+use Rattle.bits.proofs.field_at.Tie as tie
 
 sub-below : tie.Need-sub-below
 sub-below c = omega arith

@@ -2,8 +2,8 @@ use Prim.Native.Nat.{_+_, _-_, _^_, min}
 use mathlib.Core.Path.{ap, _∙_}
 use native.Mathlib.Omega.{arith}
 use Rattle.rules.specs.Message.{bitsOf, field}
-use Rattle.reader.proofs.bits.take_at.Statement.{statement}
-use Rattle.reader.proofs.bits.take_at.Tie as tie
+use Rattle.bits.proofs.take_at.Statement.{statement}
+use Rattle.bits.proofs.take_at.Tie as tie
 
 least-requires : tie.Need-least-requires
 least-requires c κs = tt

@@ -3,10 +3,10 @@ use Prim.Native.Nat.{_+_, _*_, _-_, _/_, _^_, _<_}
 use mathlib.Core.Path.{_∙_}
 use native.Mathlib.Omega.{arith}
 use Rattle.rules.proofs.ListLaws.{Under, all-of}
-use Rattle.reader.specs.Bits.{wordAt}
-use Rattle.reader.proofs.WordLaws.{slot-read}
-use Rattle.reader.proofs.bits.slot_at.Statement.{statement}
-use Rattle.reader.proofs.bits.slot_at.Tie as tie
+use Rattle.bits.specs.Bits.{wordAt}
+use Rattle.bits.proofs.WordLaws.{slot-read}
+use Rattle.bits.proofs.slot_at.Statement.{statement}
+use Rattle.bits.proofs.slot_at.Tie as tie
 
 add-end : tie.Need-add-end
 add-end c = omega arith

@@ -1,8 +1,8 @@
 use native.Mathlib.Omega.{arith}
-use Rattle.reader.specs.Bits.{wordAt}
-use Rattle.reader.proofs.WordLaws.{word-past}
-use Rattle.reader.proofs.bits.word_at.Statement.{statement}
-use Rattle.reader.proofs.bits.word_at.Tie as tie
+use Rattle.bits.specs.Bits.{wordAt}
+use Rattle.bits.proofs.WordLaws.{word-past}
+use Rattle.bits.proofs.word_at.Statement.{statement}
+use Rattle.bits.proofs.word_at.Tie as tie
 
 returns : tie.Need-returns
 returns c = (word-past _ _ (omega arith), omega arith)
