@@ -21,9 +21,10 @@ use Rattle.session.proofs.ImageLaws.{closed-as, standing-as}
 use Rattle.session.proofs.SoundLaws.{open-stage}
 use Rattle.session.proofs.StepLaws.{open-row}
 use Rattle.ceilings.specs.Ceilings.{ceilingAt}
-use Rattle.closing.specs.Passes.{PassesTurn, closedTurn}
+use Rattle.turns.specs.Passes.{PassesTurn}
+use Rattle.closing.specs.Closed.{closedTurn}
 use Rattle.validation.proofs.TurnLaws.{reached-first, reached-next, reached-end}
-use Rattle.closing.proofs.RoomLaws.{kept-start}
+use Rattle.turns.proofs.RoomLaws.{kept-start}
 
 -- 2: "closing [..] twice"
 module _ (s : Session) where

@@ -1,4 +1,1 @@
-pub mod RoomLaws
-pub mod TakeLaws
-pub mod PassLaws
 pub mod CloseLaws

@@ -4,7 +4,7 @@ ghost use Rattle.rules.specs.DayBook.{close};
 ghost use Rattle.session.specs.Steps.{Met};
 ghost use Rattle.session.specs.Parts.{Within, Entered};
 ghost use Rattle.changes.specs.Changes.{closingTurn};
-ghost use Rattle.closing.specs.Passes.{closedTurn};
+ghost use Rattle.closing.specs.Closed.{closedTurn};
 use ceilings::ceilings_of;
 use changes::ClosingTurn;
 use changes::closing_refused;
@@ -21,8 +21,6 @@ use turns::DEFAULT;
 use turns::NORMAL;
 use turns::OFFERS;
 use turns::pass;
-
-mod turns;
 
 // The verdicts of the standing lodgements: "normal executions, default executions, offers". It is all that closing changes
 // beside the mark.

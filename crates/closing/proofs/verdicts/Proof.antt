@@ -6,7 +6,7 @@ use Rattle.closing.proofs.verdicts.Tie as tie
 use Rattle.closing.proofs.verdicts.Reads as reads
 use Rattle.closing.proofs.verdicts.Lts as lts
 use Rattle.ceilings.proofs.ceilings_of.Reads as ceilings-of-reads
-use Rattle.closing.proofs.turns.pass.Reads as pass-reads
+use Rattle.turns.proofs.pass.Reads as pass-reads
 use Rattle.holders.proofs.holders_of.Reads as holders-of-reads
 use Rattle.loads.proofs.loads_of.Reads as loads-of-reads
 use Rattle.session.proofs.no_verdict.Reads as no-verdict-reads

@@ -1,6 +1,6 @@
-use Rattle.closing.specs.Passes.{turnIn}
-use Rattle.closing.proofs.turns.turn_of.Statement.{statement}
-use Rattle.closing.proofs.turns.turn_of.Tie as tie
+use Rattle.turns.specs.Passes.{turnIn}
+use Rattle.turns.proofs.turn_of.Statement.{statement}
+use Rattle.turns.proofs.turn_of.Tie as tie
 
 returns : tie.Need-returns
 unfolding turnIn

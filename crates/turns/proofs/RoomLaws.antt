@@ -38,7 +38,7 @@ use Rattle.validation.specs.Turns.{standingAt, verdictAt, isTaken, hasPassed, v
 use Rattle.validation.proofs.CountLaws.{length-from, places-at}
 use Rattle.validation.proofs.StandingLaws.{loaded-at}
 use Rattle.validation.proofs.JudgeLaws.{unit-placed, judge-given}
-use Rattle.closing.specs.Passes.{usedIn, placeIn, Kept}
+use Rattle.turns.specs.Passes.{usedIn, placeIn, Kept}
 
 -- Marks of what is accepted on a unit
 

@@ -18,7 +18,7 @@ use Rattle.loads.proofs.LoadLaws.{and-false}
 use Rattle.keys.specs.Keys.{hiding}
 use Rattle.validation.specs.Turns.{standingAt, isTaken}
 use Rattle.validation.proofs.StandingLaws.{lodgement-at}
-use Rattle.closing.specs.Passes.{turnIn, TakesAt}
+use Rattle.turns.specs.Passes.{turnIn, TakesAt}
 
 module _ (s : Session) (b : Book) (e : s ≡ image b) (i : ℕ) (h : i < s .standing) where
   turn-at : (d : Lodgement) → turnIn (getD (s .lodgements) i d .key) ≡ turnOf (standingAt b i)

@@ -2,13 +2,13 @@ use Prim.Native.Nat.{_≤_, _-_}
 use mathlib.Core.Path.{_≡_, refl, _∙_}
 use native.Mathlib.Omega.{arith}
 use lib.ListN.{length, length-set}
-use Rattle.closing.proofs.PassLaws.{holder-in, Left, left-start, left-end, left-admitted, left-refused, left-past}
+use Rattle.turns.proofs.PassLaws.{holder-in, Left, left-start, left-end, left-admitted, left-refused, left-past}
 use borrow.Author.Needs.{needs}
-use Rattle.closing.proofs.turns.pass.Statement.{statement}
-use Rattle.closing.proofs.turns.pass.Tie as tie
-use Rattle.closing.proofs.turns.pass.Reads as reads
-use Rattle.closing.proofs.turns.pass.Lts as lts
-use Rattle.closing.proofs.turns.takes.Reads as takes-reads
+use Rattle.turns.proofs.pass.Statement.{statement}
+use Rattle.turns.proofs.pass.Tie as tie
+use Rattle.turns.proofs.pass.Reads as reads
+use Rattle.turns.proofs.pass.Lts as lts
+use Rattle.turns.proofs.takes.Reads as takes-reads
 use Rattle.room.proofs.admits.Reads as admits-reads
 use Rattle.validation.proofs.accepted.Reads as accepted-reads
 use Rattle.validation.proofs.judge_place.Reads as judge-place-reads
@@ -19,104 +19,81 @@ Inv-loop s loads holders room₀ turn given₀ lodgements n hours passed₀ room
 abbrev μ-loop : tie.MeasureT-loop
 μ-loop s loads holders room₀ turn given₀ lodgements n hours passed₀ room given passed = s .standing - passed
 
--- src/turns.rt:70:17
 cast-hours : tie.Need-cast-hours Inv-loop μ-loop
 cast-hours c = search needs
 
--- src/turns.rt:72:5
 loop-holds : tie.Need-loop-holds Inv-loop μ-loop
 loop-holds c = (omega arith, omega arith, c .before .before .pre .3, left-start _ _ _ _ _ (omega arith))
 
--- src/turns.rt:73:9
 add-passed : tie.Need-add-passed Inv-loop μ-loop
 add-passed c = search needs
 
--- src/turns.rt:74:18
 sub-at : tie.Need-sub-at Inv-loop μ-loop
 sub-at c = search needs
 
--- src/turns.rt:75:17
 mul-l : tie.Need-mul-l Inv-loop μ-loop
 mul-l c = search needs
 
--- src/turns.rt:75:17
 array-copy-out-l : tie.Need-array-copy-out-l Inv-loop μ-loop
 array-copy-out-l c = search needs
 
--- src/turns.rt:76:12
 takes-requires : tie.Need-takes-requires Inv-loop μ-loop
 takes-requires c κs = search needs
 
--- src/turns.rt:77:21
 mul-p : tie.Need-mul-p Inv-loop μ-loop
 mul-p c = search needs
 
--- src/turns.rt:77:21
 element-copy-out-p : tie.Need-element-copy-out-p Inv-loop μ-loop
 element-copy-out-p c = search needs
 
--- src/turns.rt:78:16
 admits-requires : tie.Need-admits-requires Inv-loop μ-loop
 admits-requires c κs = (holder-in (c .before .before .before .before .before .before .before .before .before .args .s) _ (c .before .before .before .before .before .before .before .before .before .pre .0) (c .before .before .before .before .before .before .before .before .before .pre .2) _, omega arith, c .before .before .before .before .before .before .before .before .before .pre .0 .hours, c .before .before .before .before .before .before .loop .inv .2)
 
--- src/turns.rt:79:21
 accepted-requires : tie.Need-accepted-requires Inv-loop μ-loop
 accepted-requires c κs = search needs
 
--- src/turns.rt:80:17
 mul-given : tie.Need-mul-given Inv-loop μ-loop
 mul-given c = search needs
 
--- src/turns.rt:80:17
 array-set-from-given : tie.Need-array-set-from-given Inv-loop μ-loop
 array-set-from-given c = search needs
 
--- src/turns.rt:72:5
 loop-less : tie.Need-loop-less Inv-loop μ-loop
 loop-less c = search needs
 
--- src/turns.rt:72:5
 loop-again : tie.Need-loop-again Inv-loop μ-loop
 loop-again c =
     let a = c .before .before .before .before .before .before .before .before .before .before .before .before .args in
     let s = c .before .before .before .before .before .before .before .before .before .loop in
     (omega arith, (simp length-set) ∙ s .inv .1, c .before .before .admits .ensures .0, left-admitted (a .s) (a .turn) (a .verdicts) (a .room .now) (a .s .standing - s .passed) _ _ (s .given) (s .room) (omega arith) (omega arith) (omega arith) (s .inv .3) (c .before .before .before .before .before .before .takes .result) (c .before .before .before .before .before .before .takes .ensures _ (omega arith) refl) (c .before .before .before .before .before .if1 .taken) (omega arith) (c .before .before .before .before .before .before .before .before .before .before .before .before .pre .0) (a .loads .now) _ (c .before .before .before .before .before .before .before .before .before .before .before .before .pre .1) _ (c .before .before .before .before .before .before .before .before .before .before .before .before .pre .2 .at _ (omega arith)) (c .accepted .result) (c .before .before .admits .result) (c .before .before .admits .ensures .1) (c .before .if2 .taken) (c .accepted .ensures))
 
--- src/turns.rt:82:21
 judge-place-requires : tie.Need-judge-place-requires Inv-loop μ-loop
 judge-place-requires c κs = (c .before .before .before .before .before .before .before .before .before .before .before .pre .0, omega arith, c .before .before .before .before .before .before .before .before .before .before .before .pre .1)
 
--- src/turns.rt:83:17
 mul-given-2 : tie.Need-mul-given-2 Inv-loop μ-loop
 mul-given-2 c = search needs
 
--- src/turns.rt:83:17
 array-set-from-given-2 : tie.Need-array-set-from-given-2 Inv-loop μ-loop
 array-set-from-given-2 c = search needs
 
--- src/turns.rt:72:5
 loop-less-2 : tie.Need-loop-less-2 Inv-loop μ-loop
 loop-less-2 c = search needs
 
--- src/turns.rt:72:5
 loop-again-2 : tie.Need-loop-again-2 Inv-loop μ-loop
 loop-again-2 c =
     let a = c .before .before .before .before .before .before .before .before .before .before .before .before .args in
     let s = c .before .before .before .before .before .before .before .before .before .loop in
     (omega arith, (simp length-set) ∙ s .inv .1, c .before .before .admits .ensures .0, left-refused (a .s) (a .turn) (a .verdicts) (a .room .now) (a .s .standing - s .passed) _ _ (s .given) (s .room) (omega arith) (omega arith) (omega arith) (s .inv .3) (c .before .before .before .before .before .before .takes .result) (c .before .before .before .before .before .before .takes .ensures _ (omega arith) refl) (c .before .before .before .before .before .if1 .taken) (omega arith) (c .before .before .before .before .before .before .before .before .before .before .before .before .pre .0) (a .loads .now) _ (c .before .before .before .before .before .before .before .before .before .before .before .before .pre .1) _ (c .before .before .before .before .before .before .before .before .before .before .before .before .pre .2 .at _ (omega arith)) (c .judge-place .result) (c .before .before .admits .result) (c .before .before .admits .ensures .1) (c .before .if2 .left) (c .judge-place .ensures))
 
--- src/turns.rt:72:5
 loop-less-3 : tie.Need-loop-less-3 Inv-loop μ-loop
 loop-less-3 c = search needs
 
--- src/turns.rt:72:5
 loop-again-3 : tie.Need-loop-again-3 Inv-loop μ-loop
 loop-again-3 c =
     let a = c .before .before .before .before .before .before .before .args in
     let s = c .before .before .before .before .loop in
     (omega arith, s .inv .1, s .inv .2, left-past (a .s) (a .turn) (a .verdicts) (a .room .now) (a .s .standing - s .passed) _ _ (s .given) (s .room) (omega arith) (omega arith) (omega arith) (s .inv .3) (c .before .takes .result) (c .before .takes .ensures _ (omega arith) refl) (c .if1 .left))
 
--- src/turns.rt:56:1
 returns : tie.Need-returns Inv-loop μ-loop
 returns c =
     let a = c .before .before .before .before .args in

@@ -1,7 +1,7 @@
-use Rattle.closing.proofs.TakeLaws.{takes-other, takes-normal, takes-shown}
+use Rattle.turns.proofs.TakeLaws.{takes-other, takes-normal, takes-shown}
 use borrow.Author.Needs.{needs}
-use Rattle.closing.proofs.turns.takes.Statement.{statement}
-use Rattle.closing.proofs.turns.takes.Tie as tie
+use Rattle.turns.proofs.takes.Statement.{statement}
+use Rattle.turns.proofs.takes.Tie as tie
 
 turn-of-requires : tie.Need-turn-of-requires
 turn-of-requires c κs = search needs

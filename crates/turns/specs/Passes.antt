@@ -1,19 +1,16 @@
 -- What the turns of a closing promise to each other.
 use Prim.Native.Nat.{ℕ, suc, _+_, _*_, _≤_, _<_}
 use mathlib.Core.Path.{_≡_}
-use mathlib.Core.Bool.{Bool, true, cond}
+use mathlib.Core.Bool.{Bool, cond}
 use mathlib.Core.List.{List, map}
 use lib.ListN.{getD, take}
 use Rattle.rules.specs.Lists.{from, sumOf}
 use Rattle.rules.specs.Book.{Book}
 use Rattle.session.specs.Image.{image, Sound}
 use Rattle.session.specs.Parts.{numberIs, placeOf}
-use Rattle.changes.specs.Changes.{withVerdicts}
 use Rattle.session.specs.declared.Key.{Key}
 use Rattle.session.specs.declared.Verdict.{Verdict}
 use Rattle.session.specs.declared.Session.{Session}
-use Rattle.session.specs.declared.Turn.{Turn}
-use Rattle.session.specs.declared.Answer.the-variants.{Done}
 use Rattle.loads.specs.Loads.{marked, energyIn}
 use Rattle.ceilings.specs.Ceilings.{ceilingAt}
 use Rattle.holders.specs.Holders.{holderAt}
@@ -52,7 +49,3 @@ pub record Along (s : Session) (b : Book) (turn i : ℕ) (vs : List Verdict) (ro
 -- the verdicts after a turn, and the room
 abbrev pub PassesTurn : Session → ℕ → List Verdict → List ℕ → List Verdict → List ℕ → Type 0
 PassesTurn s turn vs room r rest = (b : Book) → Sound b → s ≡ image b → Along s b turn (s .standing) vs room → Along s b turn 0 r rest
-
--- the session once closed
-abbrev pub closedTurn : Session → List Verdict → Turn
-closedTurn s vs = record { session = withVerdicts s true vs; answer = Done }

@@ -5,7 +5,7 @@ ghost use lib.ListN.{getD, length};
 ghost use Rattle.session.specs.Image.{noLodgement};
 ghost use Rattle.session.specs.Parts.{Within};
 ghost use Rattle.validation.specs.Turns.{Loaded};
-ghost use Rattle.closing.specs.Passes.{turnIn, TakesAt, Held, PassesTurn};
+ghost use Rattle.turns.specs.Passes.{turnIn, TakesAt, Held, PassesTurn};
 use keys::is_hidden;
 use room::admits;
 use session::Key;

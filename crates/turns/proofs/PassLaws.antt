@@ -18,8 +18,8 @@ use Rattle.room.proofs.FitLaws.{held, admitted-taken, admitted-left}
 use Rattle.validation.specs.Turns.{isTaken, Loaded, JudgesAt, verdictBy}
 use Rattle.validation.proofs.TurnLaws.{reached-past, reached-taken}
 use Rattle.validation.proofs.JudgeLaws.{unit-placed}
-use Rattle.closing.specs.Passes.{TakesAt, Held, Along, PassesTurn}
-use Rattle.closing.proofs.RoomLaws.{kept-refused, kept-accepted, not-yet, admitted, refused}
+use Rattle.turns.specs.Passes.{TakesAt, Held, Along, PassesTurn}
+use Rattle.turns.proofs.RoomLaws.{kept-refused, kept-accepted, not-yet, admitted, refused}
 
 -- each one's unit has a row of the room
 pub holder-in : (s : Session) (holders : List ℕ) → Within s → Held s holders → (j : ℕ) → getD holders j 0 < 65
