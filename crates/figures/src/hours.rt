@@ -1,15 +1,14 @@
 // An hour given line by line, cleared, and its figures shown.
-use crate::Numbers;
-use crate::put;
-use crate::put_number;
 use borders::Executions;
 use hour::Figures;
 use hour::Hour;
 use matching::Offers;
+use questions::Numbers;
+use questions::STDOUT;
+use questions::put;
+use questions::put_number;
 ghost use mathlib.Core.Path.{_≡_};
 ghost use Prim.Native.Nat.{_≤_, _<_};
-
-const STDOUT: i32 = 1;
 
 // Whether a line gives a part of an hour, or ends it.
 pub fn is_part(kind: u8) -> bool {

@@ -2,12 +2,12 @@ use Prim.Native.Nat.{_≤_, _-_}
 use mathlib.Core.Path.{_≡_}
 use lib.ListN.{length}
 use borrow.Author.Needs.{needs}
-use Rattle.figures.proofs.numbers_of.Statement.{statement}
-use Rattle.figures.proofs.numbers_of.Tie as tie
-use Rattle.figures.proofs.numbers_of.Reads as reads
-use Rattle.figures.proofs.numbers_of.Lts as lts
-use Rattle.figures.proofs.ended.Reads as ended-reads
-use Rattle.figures.proofs.with_byte.Reads as with-byte-reads
+use Rattle.questions.proofs.numbers_of.Statement.{statement}
+use Rattle.questions.proofs.numbers_of.Tie as tie
+use Rattle.questions.proofs.numbers_of.Reads as reads
+use Rattle.questions.proofs.numbers_of.Lts as lts
+use Rattle.questions.proofs.ended.Reads as ended-reads
+use Rattle.questions.proofs.with_byte.Reads as with-byte-reads
 
 abbrev Inv-loop : tie.InvT-loop
 Inv-loop line hex n₀ i₀ i-end n i = (i ≤ length line) × (i-end ≡ length line)
@@ -15,35 +15,27 @@ Inv-loop line hex n₀ i₀ i-end n i = (i ≤ length line) × (i-end ≡ length
 abbrev μ-loop : tie.MeasureT-loop
 μ-loop line hex n₀ i₀ i-end n i = length line - i
 
--- src/main.rt:111:5
 loop-holds : tie.Need-loop-holds Inv-loop μ-loop
 loop-holds c = search needs
 
--- src/main.rt:112:33
 shared-slice-read-with-byte : tie.Need-shared-slice-read-with-byte Inv-loop μ-loop
 shared-slice-read-with-byte c = search needs
 
--- src/main.rt:112:13
 with-byte-requires : tie.Need-with-byte-requires Inv-loop μ-loop
 with-byte-requires c κs = search needs
 
--- src/main.rt:111:9
 add-i : tie.Need-add-i Inv-loop μ-loop
 add-i c = search needs
 
--- src/main.rt:111:5
 loop-less : tie.Need-loop-less Inv-loop μ-loop
 loop-less c = search needs
 
--- src/main.rt:111:5
 loop-again : tie.Need-loop-again Inv-loop μ-loop
 loop-again c = search needs
 
--- src/main.rt:115:5
 ended-requires : tie.Need-ended-requires Inv-loop μ-loop
 ended-requires c κs = search needs
 
--- src/main.rt:104:1
 returns : tie.Need-returns Inv-loop μ-loop
 returns c = search needs
 

@@ -2,10 +2,10 @@ use Prim.Native.Nat.{_≤_, _-_}
 use mathlib.Core.Path.{_≡_}
 use lib.ListN.{length}
 use borrow.Author.Needs.{needs}
-use Rattle.figures.proofs.fields_given.Statement.{statement}
-use Rattle.figures.proofs.fields_given.Tie as tie
-use Rattle.figures.proofs.fields_given.Reads as reads
-use Rattle.figures.proofs.fields_given.Lts as lts
+use Rattle.questions.proofs.fields_given.Statement.{statement}
+use Rattle.questions.proofs.fields_given.Tie as tie
+use Rattle.questions.proofs.fields_given.Reads as reads
+use Rattle.questions.proofs.fields_given.Lts as lts
 
 abbrev Inv-loop : tie.InvT-loop
 Inv-loop n energies₀ prices₀ i₀ energies prices i = (i ≤ 25) × (length energies ≡ 25) × (length prices ≡ 25)
@@ -13,83 +13,63 @@ Inv-loop n energies₀ prices₀ i₀ energies prices i = (i ≤ 25) × (length 
 abbrev μ-loop : tie.MeasureT-loop
 μ-loop n energies₀ prices₀ i₀ energies prices i = 25 - i
 
--- src/main.rt:216:5
 loop-holds : tie.Need-loop-holds Inv-loop μ-loop
 loop-holds c = search needs
 
--- src/main.rt:217:32
 add-energies : tie.Need-add-energies Inv-loop μ-loop
 add-energies c = search needs
 
--- src/main.rt:217:23
 mul-energies : tie.Need-mul-energies Inv-loop μ-loop
 mul-energies c = search needs
 
--- src/main.rt:217:23
 element-copy-out-energies : tie.Need-element-copy-out-energies Inv-loop μ-loop
 element-copy-out-energies c = search needs
 
--- src/main.rt:217:9
 mul-energies-2 : tie.Need-mul-energies-2 Inv-loop μ-loop
 mul-energies-2 c = search needs
 
--- src/main.rt:217:9
 array-write-energies : tie.Need-array-write-energies Inv-loop μ-loop
 array-write-energies c = search needs
 
--- src/main.rt:218:30
 add-prices : tie.Need-add-prices Inv-loop μ-loop
 add-prices c = search needs
 
--- src/main.rt:218:21
 mul-prices : tie.Need-mul-prices Inv-loop μ-loop
 mul-prices c = search needs
 
--- src/main.rt:218:21
 element-copy-out-prices : tie.Need-element-copy-out-prices Inv-loop μ-loop
 element-copy-out-prices c = search needs
 
--- src/main.rt:218:9
 mul-prices-2 : tie.Need-mul-prices-2 Inv-loop μ-loop
 mul-prices-2 c = search needs
 
--- src/main.rt:218:9
 array-write-prices : tie.Need-array-write-prices Inv-loop μ-loop
 array-write-prices c = search needs
 
--- src/main.rt:216:9
 add-i : tie.Need-add-i Inv-loop μ-loop
 add-i c = search needs
 
--- src/main.rt:216:5
 loop-less : tie.Need-loop-less Inv-loop μ-loop
 loop-less c = search needs
 
--- src/main.rt:216:5
 loop-again : tie.Need-loop-again Inv-loop μ-loop
 loop-again c = search needs
 
--- src/main.rt:221:20
 element-copy-out-t21 : tie.Need-element-copy-out-t21 Inv-loop μ-loop
 element-copy-out-t21 c = search needs
 
--- src/main.rt:222:18
 element-copy-out-t25 : tie.Need-element-copy-out-t25 Inv-loop μ-loop
 element-copy-out-t25 c = search needs
 
--- src/main.rt:223:15
 element-copy-out-t29 : tie.Need-element-copy-out-t29 Inv-loop μ-loop
 element-copy-out-t29 c = search needs
 
--- src/main.rt:224:19
 element-copy-out-t32 : tie.Need-element-copy-out-t32 Inv-loop μ-loop
 element-copy-out-t32 c = search needs
 
--- src/main.rt:225:14
 element-copy-out-t35 : tie.Need-element-copy-out-t35 Inv-loop μ-loop
 element-copy-out-t35 c = search needs
 
--- src/main.rt:213:1
 returns : tie.Need-returns Inv-loop μ-loop
 returns c = search needs
 

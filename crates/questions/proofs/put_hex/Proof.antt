@@ -2,12 +2,12 @@ use Prim.Native.Nat.{_≤_, _-_}
 use mathlib.Core.Path.{_≡_}
 use lib.ListN.{length}
 use borrow.Author.Needs.{needs}
-use Rattle.figures.proofs.put_hex.Statement.{statement}
-use Rattle.figures.proofs.put_hex.Tie as tie
-use Rattle.figures.proofs.put_hex.Reads as reads
-use Rattle.figures.proofs.put_hex.Lts as lts
-use Rattle.figures.proofs.put.Reads as put-reads
-use Rattle.figures.proofs.wide.Reads as wide-reads
+use Rattle.questions.proofs.put_hex.Statement.{statement}
+use Rattle.questions.proofs.put_hex.Tie as tie
+use Rattle.questions.proofs.put_hex.Reads as reads
+use Rattle.questions.proofs.put_hex.Lts as lts
+use Rattle.questions.proofs.put.Reads as put-reads
+use Rattle.questions.proofs.wide.Reads as wide-reads
 use Rattle.io.proofs.print_hex.Reads as print-hex-reads
 
 abbrev Inv-loop : tie.InvT-loop
@@ -16,51 +16,39 @@ Inv-loop s i₀ t3 t4 i-end i = (i ≤ length s) × (i-end ≡ length s)
 abbrev μ-loop : tie.MeasureT-loop
 μ-loop s i₀ t3 t4 i-end i = length s - i
 
--- src/main.rt:243:5
 loop-holds : tie.Need-loop-holds Inv-loop μ-loop
 loop-holds c = search needs
 
--- src/main.rt:244:13
 slice-aggregate-put : tie.Need-slice-aggregate-put Inv-loop μ-loop
 slice-aggregate-put c = search needs
 
--- src/main.rt:244:9
 put-requires : tie.Need-put-requires Inv-loop μ-loop
 put-requires c κs = search needs
 
--- src/main.rt:245:36
 shared-slice-read-wide : tie.Need-shared-slice-read-wide Inv-loop μ-loop
 shared-slice-read-wide c = search needs
 
--- src/main.rt:245:31
 wide-requires : tie.Need-wide-requires Inv-loop μ-loop
 wide-requires c κs = search needs
 
--- src/main.rt:245:9
 print-hex-requires : tie.Need-print-hex-requires Inv-loop μ-loop
 print-hex-requires c κs = search needs
 
--- src/main.rt:243:9
 add-i : tie.Need-add-i Inv-loop μ-loop
 add-i c = search needs
 
--- src/main.rt:243:5
 loop-less : tie.Need-loop-less Inv-loop μ-loop
 loop-less c = search needs
 
--- src/main.rt:243:5
 loop-again : tie.Need-loop-again Inv-loop μ-loop
 loop-again c = search needs
 
--- src/main.rt:247:9
 slice-aggregate-put-2 : tie.Need-slice-aggregate-put-2 Inv-loop μ-loop
 slice-aggregate-put-2 c = search needs
 
--- src/main.rt:247:5
 put-requires-2 : tie.Need-put-requires-2 Inv-loop μ-loop
 put-requires-2 c κs = search needs
 
--- src/main.rt:242:1
 returns : tie.Need-returns Inv-loop μ-loop
 returns c = search needs
 

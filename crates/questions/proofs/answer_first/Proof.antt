@@ -1,25 +1,21 @@
 use mathlib.Core.Path.{sym}
 use lib.Seq.{length-take-le}
 use borrow.Author.Needs.{needs}
-use Rattle.figures.proofs.answer_first.Statement.{statement}
-use Rattle.figures.proofs.answer_first.Tie as tie
-use Rattle.figures.proofs.answer_first.Reads as reads
-use Rattle.figures.proofs.answer_first.Lts as lts
-use Rattle.figures.proofs.answer_bytes.Reads as answer-bytes-reads
+use Rattle.questions.proofs.answer_first.Statement.{statement}
+use Rattle.questions.proofs.answer_first.Tie as tie
+use Rattle.questions.proofs.answer_first.Reads as reads
+use Rattle.questions.proofs.answer_first.Lts as lts
+use Rattle.questions.proofs.answer_bytes.Reads as answer-bytes-reads
 
--- src/main.rt:209:9
 returns : tie.Need-returns
 returns c = search needs
 
--- src/main.rt:211:18
 slice-aggregate-answer-bytes : tie.Need-slice-aggregate-answer-bytes
 slice-aggregate-answer-bytes c = sym (length-take-le _ _ (c .before .if1 .left))
 
--- src/main.rt:211:5
 answer-bytes-requires : tie.Need-answer-bytes-requires
 answer-bytes-requires c κs = search needs
 
--- src/main.rt:207:1
 returns-2 : tie.Need-returns-2
 returns-2 c = search needs
 

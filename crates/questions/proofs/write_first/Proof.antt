@@ -1,33 +1,27 @@
 use mathlib.Core.Path.{sym}
 use lib.Seq.{length-take-le}
 use borrow.Author.Needs.{needs}
-use Rattle.figures.proofs.write_first.Statement.{statement}
-use Rattle.figures.proofs.write_first.Tie as tie
-use Rattle.figures.proofs.write_first.Reads as reads
-use Rattle.figures.proofs.write_first.Lts as lts
-use Rattle.figures.proofs.write_and_show.Reads as write-and-show-reads
+use Rattle.questions.proofs.write_first.Statement.{statement}
+use Rattle.questions.proofs.write_first.Tie as tie
+use Rattle.questions.proofs.write_first.Reads as reads
+use Rattle.questions.proofs.write_first.Lts as lts
+use Rattle.questions.proofs.write_and_show.Reads as write-and-show-reads
 
--- src/main.rt:265:9
 returns : tie.Need-returns
 returns c = search needs
 
--- src/main.rt:267:23
 slice-relend-prefix-write-and-show : tie.Need-slice-relend-prefix-write-and-show
 slice-relend-prefix-write-and-show c = search needs
 
--- src/main.rt:267:23
 slice-aggregate-write-and-show : tie.Need-slice-aggregate-write-and-show
 slice-aggregate-write-and-show c = sym (length-take-le _ _ (c .before .if1 .left))
 
--- src/main.rt:267:5
 write-and-show-requires : tie.Need-write-and-show-requires
 write-and-show-requires c κs = search needs
 
--- src/main.rt:263:1
 same-length : tie.Need-same-length
 same-length c = search needs
 
--- src/main.rt:263:1
 returns-2 : tie.Need-returns-2
 returns-2 c = search needs
 
