@@ -1,10 +1,4 @@
 // A line run on a session.
-use crate::telling::Said;
-use crate::telling::Told;
-use asking::BILATERAL_MAXIMUM;
-use asking::MARKET_MAXIMUM;
-use asking::PRICE;
-use asking::VERDICT;
 use asking::reply_to;
 use calendar::Date;
 use message::Fields;
@@ -12,6 +6,9 @@ use queries::Reply;
 use session::Answer;
 use session::Session;
 use session::Turn;
+use telling::Said;
+use telling::Told;
+use wording::asked::question_of;
 use wording::kinds::ANNUL;
 use wording::kinds::AVAILABLE;
 use wording::kinds::CAPACITY;
@@ -28,13 +25,10 @@ use wording::messages::message;
 use wording::records::Record;
 use wording::words::Scan;
 use wording::words::after;
-use wording::words::ended;
 use wording::words::find;
 use wording::words::is_ended;
 use wording::words::next_word;
-use wording::words::number;
 use wording::words::number_in;
-use wording::words::one_of;
 
 fn unknown(s: Session) -> Told {
     Told {
@@ -158,61 +152,6 @@ fn run_message(line: &[u8], p: Scan, execution: bool, s: Session) -> Told {
 }
 
 // Queries
-
-// What is asked for: a lodging number, a unit or a border; a direction, import 1; an hour.
-struct Question {
-    good: bool,
-    of: u32,
-    import: u32,
-    hour: u32,
-}
-
-// price 3
-fn ask_hour(line: &[u8], p: Scan) -> Question {
-    let hour = number(line, p);
-    let end = ended(line, hour);
-    Question {
-        good: end.good,
-        of: hour.value,
-        import: 0,
-        hour: hour.value,
-    }
-}
-
-// matched 7 3
-fn ask_pair(line: &[u8], p: Scan) -> Question {
-    let of = number(line, p);
-    let hour = number(line, of);
-    let end = ended(line, hour);
-    Question {
-        good: end.good,
-        of: of.value,
-        import: 0,
-        hour: hour.value,
-    }
-}
-
-// market-maximum 1 export 3
-fn ask_direction(line: &[u8], p: Scan) -> Question {
-    let of = number(line, p);
-    let direction = one_of(line, of, b"export", b"import");
-    let hour = number(line, direction);
-    let end = ended(line, hour);
-    Question {
-        good: end.good,
-        of: of.value,
-        import: direction.value,
-        hour: hour.value,
-    }
-}
-
-fn question_of(line: &[u8], p: Scan, kind: u8) -> Question {
-    match kind {
-        VERDICT | PRICE => ask_hour(line, p),
-        MARKET_MAXIMUM | BILATERAL_MAXIMUM => ask_direction(line, p),
-        _ => ask_pair(line, p),
-    }
-}
 
 fn run_query(line: &[u8], p: Scan, kind: u8, s: Session) -> Told {
     let q = question_of(line, p, kind);

@@ -11,7 +11,6 @@ ghost use Prim.Native.Nat.{_≤_};
 ghost use lib.ListN.{length};
 
 mod lines;
-mod telling;
 
 const STDIN: i32 = 0;
 

@@ -1,5 +1,6 @@
-// The lines of a rehearsal read (docs/REHEARSAL.md): words and numbers, the records of calls, the fields of messages. Nothing of
-// a session.
+// The lines of a rehearsal read (docs/REHEARSAL.md): words and numbers, the records of calls, the fields of messages, what
+// queries ask for. Nothing of a session.
+pub mod asked;
 pub mod kinds;
 pub mod messages;
 pub mod records;

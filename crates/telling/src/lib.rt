@@ -1,4 +1,4 @@
-// What a line is answered with.
+// What a line of a rehearsal is answered with, and how that is written.
 use queries::Reply;
 use report::replies::put_refusal;
 use report::replies::put_reply;
