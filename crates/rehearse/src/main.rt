@@ -10,8 +10,6 @@ use wording::words::is_blank;
 ghost use Prim.Native.Nat.{_≤_};
 ghost use lib.ListN.{length};
 
-mod lines;
-
 const STDIN: i32 = 0;
 
 // The session, and the counts: lines, calls and queries, those refused, lines that are neither.

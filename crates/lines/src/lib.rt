@@ -1,4 +1,4 @@
-// A line run on a session.
+// A line of a rehearsal run on a session.
 use asking::reply_to;
 use calendar::Date;
 use message::Fields;

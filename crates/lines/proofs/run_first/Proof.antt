@@ -1,8 +1,8 @@
 use mathlib.Core.Path.{sym}
 use lib.Seq.{length-take-le}
 use borrow.Author.Needs.{needs}
-use Rattle.rehearse.proofs.lines.run_first.Statement.{statement}
-use Rattle.rehearse.proofs.lines.run_first.Tie as tie
+use Rattle.lines.proofs.run_first.Statement.{statement}
+use Rattle.lines.proofs.run_first.Tie as tie
 
 slice-aggregate-run : tie.Need-slice-aggregate-run
 slice-aggregate-run c = sym (length-take-le _ _ (c .before .if1 .left))
