@@ -32,15 +32,14 @@ use Rattle.hour.proofs.ReadyLaws.{ready-told}
 use Rattle.session.specs.declared.Session.{Session}
 use Rattle.session.specs.declared.Unit.{Unit}
 use Rattle.session.specs.declared.Cleared.{Cleared}
-use Rattle.session.specs.declared.Judged.the-variants.{No, Clear}
 use Rattle.session.specs.declared.Answer.the-variants.{Steps}
 use Rattle.session.specs.Laid.{pad}
 use Rattle.session.specs.Image as I
 use Rattle.session.specs.Steps.{said, isRefusal}
 use Rattle.changes.specs.Changes.{withFigures}
-use Rattle.session.specs.Parts.{Judges, Entered}
+use Rattle.session.specs.Parts.{Entered}
 use Rattle.session.proofs.LaidLaws.{map-last, set-pad}
-use Rattle.session.proofs.ImageLaws.{closed-as, cleared-as, hours-as, units-as, enrolled-as}
+use Rattle.session.proofs.ImageLaws.{hours-as, units-as, enrolled-as}
 use Rattle.clearing.specs.declared.HourEnd.{HourEnd}
 use Rattle.borders.specs.declared.Executions.{Executions}
 use Rattle.loads.specs.declared.Places.{Places}
@@ -140,21 +139,6 @@ hours-next s k figures steps x r a c q h b sound closed e =
     )
 
 -- The call
-
-module _ (s : Session) where
-  -- "clearing twice"
-  pub clear-twice : s .cleared ≡ true → Judges s D.clear (No 2 0)
-  unfolding D.rowsOf row firstRow
-  clear-twice h b e = by-bool (b .closed) (λ t. rw (t, cleared-as s b e, h)) (λ t. rw t)
-
-  -- "clearing [..] before closing"
-  pub clear-early : s .closed ≡ false → Judges s D.clear (No 2 0)
-  unfolding D.rowsOf row firstRow
-  clear-early h b e = rw (closed-as s b e, h)
-
-  pub clear-0 : s .closed ≡ true → s .cleared ≡ false → Judges s D.clear Clear
-  unfolding D.rowsOf row firstRow
-  clear-0 h k b e = rw (closed-as s b e, h, cleared-as s b e, k)
 
 module _ (b : B.Book) (o : firstRow (D.rowsOf b D.clear) ≡ nothing) where
   closed-now : b .closed ≡ true

@@ -2,7 +2,7 @@
 ghost use Prim.Native.Nat.{_<_};
 ghost use Rattle.rules.specs.DayBook.{clear};
 ghost use Rattle.session.specs.Steps.{Met};
-ghost use Rattle.session.specs.Parts.{Within, Judges, Entered};
+ghost use Rattle.session.specs.Parts.{Within, Entered};
 ghost use Rattle.changes.specs.Changes.{clearingTurn};
 ghost use mathlib.Core.List.{List};
 ghost use Rattle.session.specs.declared.Unit.{Unit};
@@ -17,6 +17,7 @@ use session::GATE;
 use session::Judged;
 use session::Session;
 use session::Turn;
+use stages::judge_clear;
 
 // An hour's withdrawal steps and figures.
 pub struct HourEnd {
@@ -109,19 +110,6 @@ fn clear_hours(s: Session) -> DayEnd
         steps += arrays::wide(e.steps);
     }
     DayEnd { steps, figures }
-}
-
-// The refusal that applies to clearing: 2, "clearing [..] before closing", "closing or clearing twice".
-fn judge_clear(s: Session) -> Judged
-    ensures { λ r. ⌜ Judges s clear r ⌝ }
-{
-    if s.cleared {
-        return Judged::No(GATE, 0);
-    }
-    if s.closed {
-        return Judged::Clear;
-    }
-    Judged::No(GATE, 0)
 }
 
 // "clearing gives the figures of Queries by the rules above and answers the step count"

@@ -1,6 +1,6 @@
-use Rattle.clearing.proofs.EndLaws.{clear-early, clear-twice, clear-0}
-use Rattle.clearing.proofs.judge_clear.Statement.{statement}
-use Rattle.clearing.proofs.judge_clear.Tie as tie
+use Rattle.stages.proofs.StageLaws.{clear-early, clear-twice, clear-0}
+use Rattle.stages.proofs.judge_clear.Statement.{statement}
+use Rattle.stages.proofs.judge_clear.Tie as tie
 
 returns : tie.Need-returns
 returns c = clear-twice _ (c .if1 .taken)
