@@ -1,11 +1,28 @@
--- A response loses nothing of the reply that it tells: the reply is found again.
+-- A response by its fields; and that it loses nothing of the reply that it tells: the reply is found again.
+use Prim.Native.Nat.{ℕ}
 use mathlib.Core.Path.{_≡_, refl, sym, _∙_, ap}
 use mathlib.Core.Bool.{cond}
 use lib.Dec.{eqb}
+use lib.IntN.{ℤ}
 use Rattle.queries.specs.declared.Reply.{Reply}
 use Rattle.queries.specs.declared.Reply.the-variants as R
 use Rattle.response.specs.declared.Response.{Response}
 use Rattle.replies.specs.Told.{ofReply}
+
+uncounted : (a : Reply) → record { kind = ofReply a .kind; row = ofReply a .row; hour = ofReply a .hour; value = ofReply a .value; count = 0 } ≡ ofReply a
+unfolding ofReply
+uncounted R.Accepted = refl
+uncounted (R.Refused n h) = refl
+uncounted R.Hidden = refl
+uncounted (R.Limit n h) = refl
+uncounted (R.Number z) = refl
+uncounted R.Absent = refl
+
+-- a reply counts no steps, so a response of its other fields tells it
+module _ (a : Reply) where
+  pub told-by-fields : {k n h : ℕ} {z : ℤ} → k ≡ ofReply a .kind → n ≡ ofReply a .row → h ≡ ofReply a .hour → z ≡ ofReply a .value
+      → record { kind = k; row = n; hour = h; value = z; count = 0 } ≡ ofReply a
+  told-by-fields e f g i = rw (e, f, g, i) (uncounted a)
 
 unfoldable replyOf : Response → Reply
 replyOf r =

@@ -24,52 +24,66 @@ const LIMIT: u32 = 5;
 
 const ABSENT: u32 = 7;
 
+// A reply told: its response is made in one place, since each further one costs a copy.
 fn of_reply(a: Reply) -> Response
     ensures { λ r. ⌜ r ≡ ofReply a ⌝ }
 {
+    let kind = kind_of(a);
+    let row = row_of(a);
+    let hour = hour_of(a);
+    let value = value_of(a);
+    Response { kind, row, hour, value, count: 0 }
+}
+
+fn kind_of(a: Reply) -> u32
+    ensures { λ r. ⌜ r ≡ ofReply a .kind ⌝ }
+{
     match a {
-        Reply::Refused(row, hour) => Response {
-            kind: REFUSED,
-            row: row,
-            hour: hour,
-            value: 0,
-            count: 0,
-        },
-        Reply::Accepted => Response {
-            kind: ACCEPTED,
-            row: 0,
-            hour: 0,
-            value: 0,
-            count: 0,
-        },
-        Reply::Hidden => Response {
-            kind: HIDDEN,
-            row: 0,
-            hour: 0,
-            value: 0,
-            count: 0,
-        },
-        Reply::Limit(row, hour) => Response {
-            kind: LIMIT,
-            row: row,
-            hour: hour,
-            value: 0,
-            count: 0,
-        },
-        Reply::Number(figure) => Response {
-            kind: FIGURE,
-            row: 0,
-            hour: 0,
-            value: figure,
-            count: 0,
-        },
-        Reply::Absent => Response {
-            kind: ABSENT,
-            row: 0,
-            hour: 0,
-            value: 0,
-            count: 0,
-        },
+        Reply::Refused(_, _) => REFUSED,
+        Reply::Accepted => ACCEPTED,
+        Reply::Hidden => HIDDEN,
+        Reply::Limit(_, _) => LIMIT,
+        Reply::Number(_) => FIGURE,
+        Reply::Absent => ABSENT,
+    }
+}
+
+fn row_of(a: Reply) -> u32
+    ensures { λ r. ⌜ r ≡ ofReply a .row ⌝ }
+{
+    match a {
+        Reply::Refused(row, _) => row,
+        Reply::Accepted => 0,
+        Reply::Hidden => 0,
+        Reply::Limit(row, _) => row,
+        Reply::Number(_) => 0,
+        Reply::Absent => 0,
+    }
+}
+
+fn hour_of(a: Reply) -> u32
+    ensures { λ r. ⌜ r ≡ ofReply a .hour ⌝ }
+{
+    match a {
+        Reply::Refused(_, hour) => hour,
+        Reply::Accepted => 0,
+        Reply::Hidden => 0,
+        Reply::Limit(_, hour) => hour,
+        Reply::Number(_) => 0,
+        Reply::Absent => 0,
+    }
+}
+
+fn value_of(a: Reply) -> i64
+    ensures { λ r. ⌜ r ≡ ofReply a .value ⌝ }
+{
+    match a {
+        Reply::Refused(_, _) => 0,
+        Reply::Accepted => 0,
+        Reply::Hidden => 0,
+        Reply::Limit(_, _) => 0,
+        Reply::Number(figure) => figure,
+        Reply::Absent => 0,
     }
 }
 

@@ -1,65 +1,25 @@
+use mathlib.Core.Path.{_∙_}
 use mir.Syntax.{w64}
 use mir.ValLaws.{toZ-ofZ}
-use Rattle.replies.specs.Told.{ofReply}
 use borrow.Author.Needs.{needs}
+use Rattle.replies.proofs.TellLaws.{told-by-fields}
 use Rattle.replies.proofs.of_reply.Statement.{statement}
 use Rattle.replies.proofs.of_reply.Tie as tie
 
-enum-known-a : tie.Need-enum-known-a
-enum-known-a c = search needs
+kind-of-requires : tie.Need-kind-of-requires
+kind-of-requires c κs = search needs
 
-enum-told : tie.Need-enum-told
-enum-told c = search needs
+row-of-requires : tie.Need-row-of-requires
+row-of-requires c κs = search needs
 
-enum-told-2 : tie.Need-enum-told-2
-enum-told-2 c = search needs
+hour-of-requires : tie.Need-hour-of-requires
+hour-of-requires c κs = search needs
 
-enum-known-a-2 : tie.Need-enum-known-a-2
-enum-known-a-2 c = search needs
-
-enum-known-a-3 : tie.Need-enum-known-a-3
-enum-known-a-3 c = search needs
-
-enum-told-3 : tie.Need-enum-told-3
-enum-told-3 c = search needs
+value-of-requires : tie.Need-value-of-requires
+value-of-requires c κs = search needs
 
 returns : tie.Need-returns
-unfolding ofReply
-returns c = rw (c .before .a .given .1)
-
-returns-2 : tie.Need-returns-2
-unfolding ofReply
-returns-2 c = rw (c .enum-told .given .1)
-
-returns-3 : tie.Need-returns-3
-unfolding ofReply
-returns-3 c = rw (c .enum-told2 .given .1)
-
-returns-4 : tie.Need-returns-4
-unfolding ofReply
-returns-4 c = rw (c .before .a2 .given .1)
-
-returns-5 : tie.Need-returns-5
-unfolding ofReply
-returns-5 c = rw (c .before .a3 .given .1, toZ-ofZ w64 (c .before .a3 .given .0 .0) (search needs))
-
-returns-6 : tie.Need-returns-6
-unfolding ofReply
-returns-6 c = rw (c .enum-told3 .given .1)
+returns c = told-by-fields _ (c .before .before .before .kind-of .ensures) (c .before .before .row-of .ensures) (c .before .hour-of .ensures) (toZ-ofZ w64 (c .value-of .result) (search needs) ∙ c .value-of .ensures)
 
 pub of-reply-spec : {M : Type 1} → statement M
-of-reply-spec =
-    tie.close
-    (tie.spec
-    enum-known-a
-    enum-told
-    enum-told-2
-    enum-known-a-2
-    enum-known-a-3
-    enum-told-3
-    returns
-    returns-2
-    returns-3
-    returns-4
-    returns-5
-    returns-6)
+of-reply-spec = tie.close (tie.spec kind-of-requires row-of-requires hour-of-requires value-of-requires returns)
