@@ -17,6 +17,7 @@ use mir.Val.{Val, vbool, vint, vptr}
 use base.Logic.{SProp, ent, sep, emp, via, fst∗}
 use base.Fml.{GName, Lft, Share, ftrue, fat, froom, fdies, flft, fres, fobor, fshr-bor}
 use lib.Dec.{T as Tᵇ, eqb, ltb, ltb→lt, nltb→le}
+use lib.ListN.{length, getD, take}
 use lib.WfN.{Nat·lt-wfRel}
 use prog.Wp.{Heap, Env, Out, Wp, afterSeq, afterBlock, afterTurn, atReturn, Calls, Loops, WpFn, Tables}
 use prog.Wp.{returns as returned}
@@ -40,8 +41,9 @@ use denote.Triple.Entry.{onEntry}
 use denote.Triple.Spec.{Meets}
 use denote.Triple.Walked.{says, Stays, stay-none-ref, stay-none, walkOf, AllGo, goes-none-ref, goes-none, Walks, ends-at, walked, walk-meets}
 use denote.Exit.{yes}
-use Rattle.session.specs.Parts.{Within}
+use Rattle.session.specs.Parts.{Within, placeOf}
 use Rattle.session.specs.declared.Session.{Session}
+use Rattle.session.proofs.PlaceLaws.{reach, reach-start, reach-here, reach-next, reach-end}
 use Rattle.session.proofs.Session as T
 use Rattle.session.proofs.Session.Laws as T′
 use Rattle.lent.proofs.Outcomes.{decide, reflected, refuted, is-true, is-false}
@@ -49,9 +51,15 @@ use Rattle.lent.proofs.Cell.{sv}
 use Rattle.lent.proofs.SessionCell.{Good}
 use Rattle.lent.proofs.unit_at as shape
 
--- what is searched: an array of the session, of which the first elements count
-pub record Searched : Type 0 where
+-- what is searched: an array of the session, of which the first elements count, by the number of each
+pub record Searched : Type 1 where
+  pub element : Type 0
+  pub blank : element
+  pub number-of : element → ℕ
+  pub list : Session → List element
+  pub count : Session → ℕ
   pub many : ℕ
+  -- where it lies: fields and their places, and the elements' type and size
   pub counter : ℕ
   pub counter-at : ℕ
   pub array : ℕ
@@ -61,13 +69,22 @@ pub record Searched : Type 0 where
   pub wide : ℕ
   pub numbered : ℕ
   pub number-at : ℕ
-  pub count : Session → ℕ
-  pub number : Session → ℕ → ℕ
-  -- the place of a number, and the place that is come to from one
-  pub place-of : Session → ℕ → ℕ
-  pub reach : Session → ℕ → ℕ → ℕ
 
--- what the walk needs of it: where the parts lie, and that the places are those of the numbers
+module _ (g : Searched) where
+  abbrev has : ℕ → g .element → Bool
+  has n x = eqb (g .number-of x) n
+
+  abbrev pub number : Session → ℕ → ℕ
+  number s i = g .number-of (getD (g .list s) i (g .blank))
+
+  -- the place of a number, and the place that is come to from one
+  abbrev place-of : Session → ℕ → ℕ
+  place-of s n = placeOf (has n) (take (g .count s) (g .list s))
+
+  abbrev reached : Session → ℕ → ℕ → ℕ
+  reached s n i = reach (has n) (g .list s) (g .count s) i
+
+-- what the walk needs of it: that the numbers fit, and where the parts lie
 pub record Laws (g : Searched) : Type 2 where
   pub many-fits : Tᵇ (ltb (g .many) (2 ^ 64))
   pub wide-fits : Tᵇ (ltb (g .wide) (2 ^ 64))
@@ -75,7 +92,8 @@ pub record Laws (g : Searched) : Type 2 where
   pub below : (i : ℕ) → i ≤ g .many → i < 2 ^ 64
   pub guards : (s : Session) → Within s → g .count s ≤ g .many
   pub counted : (s : Session) → Good s → g .count s < 2 ^ 64
-  pub small : (s : Session) → Good s → (i : ℕ) → i < g .many → g .number s i < 2 ^ 32
+  pub long : (s : Session) → Good s → length (g .list s) ≡ g .many
+  pub small : (s : Session) → Good s → (i : ℕ) → i < g .many → number g s i < 2 ^ 32
   pub at-counter : {M : Type 1} {𝓤 : URA M} {H : Heap 𝓤} {A : Atoms 𝓤} {K : Type 0} {W : Given 𝓤 H A} {Γ : List (Item 𝓤)}
       → K → {E : Env 𝓤 H} {b o : ℕ} → Walks′ K W Γ E (T′.mir, b, o) (field (g .counter) ∷ []) (tyInt w64, b, o + g .counter-at)
   pub read-counter : {M : Type 1} {𝓤 : URA M} {H : Heap 𝓤} {A : Atoms 𝓤} {K : Type 0} {W : Given 𝓤 H A} {Γ : List (Item 𝓤)}
@@ -85,11 +103,20 @@ pub record Laws (g : Searched) : Type 2 where
   pub at-number : {M : Type 1} {𝓤 : URA M} {H : Heap 𝓤} {A : Atoms 𝓤} {K : Type 0} {W : Given 𝓤 H A} {Γ : List (Item 𝓤)}
       → K → {E : Env 𝓤 H} {b o : ℕ} → Walks′ K W Γ E (g .type, b, o) (field (g .numbered) ∷ []) (tyInt w32, b, o + g .number-at)
   pub read-number : {M : Type 1} {𝓤 : URA M} {H : Heap 𝓤} {A : Atoms 𝓤} {K : Type 0} {W : Given 𝓤 H A} {Γ : List (Item 𝓤)}
-      → K → {q : Share} {b o : ℕ} (s : Session) → Good s → (i : ℕ) → i < g .many → Reads K W (‵ (fat q T′.mir b o (sv s)) ∷ Γ) (tyInt w32) b (i * g .wide + (o + g .array-at) + g .number-at) (vint w32 (g .number s i))
-  pub reach-start : (s : Session) (n : ℕ) → g .reach s n 0 ≡ g .place-of s n
-  pub reach-here : (s : Session) → Good s → g .count s ≤ g .many → (n i : ℕ) → i < g .count s → eqb (g .number s i) n ≡ true → g .reach s n i ≡ i
-  pub reach-next : (s : Session) → Good s → g .count s ≤ g .many → (n i : ℕ) → i < g .count s → eqb (g .number s i) n ≡ false → g .reach s n i ≡ g .reach s n (i + 1)
-  pub reach-end : (s : Session) → Good s → g .count s ≤ g .many → (n i : ℕ) → i ≡ g .count s → g .reach s n i ≡ g .count s
+      → K → {q : Share} {b o : ℕ} (s : Session) → Good s → (i : ℕ) → i < g .many → Reads K W (‵ (fat q T′.mir b o (sv s)) ∷ Γ) (tyInt w32) b (i * g .wide + (o + g .array-at) + g .number-at) (vint w32 (number g s i))
+
+module _ (g : Searched) (law : Laws g) (s : Session) (good : Good s) (few : g .count s ≤ g .many) (n i : ℕ) where
+  enough : g .count s ≤ length (g .list s)
+  enough = omega (arith, few, law .long s good)
+
+  here : i < g .count s → eqb (number g s i) n ≡ true → reached g s n i ≡ i
+  here h e = reach-here (has g n) (g .blank) (g .list s) (g .count s) i h enough e
+
+  next-one : i < g .count s → eqb (number g s i) n ≡ false → reached g s n i ≡ reached g s n (i + 1)
+  next-one h e = reach-next (has g n) (g .blank) (g .list s) (g .count s) i h enough e
+
+  at-end : i ≡ g .count s → reached g s n i ≡ g .count s
+  at-end e = reach-end (has g n) (g .list s) (g .count s) i e enough
 
 -- the MIR of such a function
 
@@ -122,7 +149,7 @@ function g = record {
 
 -- its promise
 abbrev pub Found : Searched → Session → ℕ → ℕ → Type 0
-Found g s n r = Within s → r ≡ g .place-of s n
+Found g s n r = Within s → r ≡ place-of g s n
 
 abbrev pub clauses : Searched → {M : Type 1} (𝓤 : URA M) → Clauses 𝓤 shape.ended
 clauses g 𝓤 κs a = record { ghost = Unit {0}; requires = λ _. emp 𝓤; ensures = λ _ r e. fact 𝓤 (Found g (now (a .0)) (a .1 .0) r) }
@@ -174,7 +201,7 @@ module _ (g : Searched) (law : Laws g) {M : Type 1} (𝓤 : URA M) (H : Heap �
     module _ (few : g .count h ≤ g .many) where
       -- the place that it has come to
       abbrev Upto : Type 0
-      Upto = (i : ℕ) × (i ≤ g .count h) × (g .reach h t i ≡ g .place-of h t)
+      Upto = (i : ℕ) × (i ≤ g .count h) × (reached g h t i ≡ place-of g h t)
 
       abbrev Nearer : Upto → Upto → Type 0
       Nearer v u = g .count h - v .0 < g .count h - u .0
@@ -192,10 +219,10 @@ module _ (g : Searched) (law : Laws g) {M : Type 1} (𝓤 : URA M) (H : Heap �
         further : u .0 + 1 ≤ g .count h
         further = omega (arith, less)
 
-        abbrev next : eqb (g .number h (u .0)) t ≡ false → Upto
-        next e = (u .0 + 1, further, sym (law .reach-next h was few t (u .0) less e) ∙ u .2)
+        abbrev next : eqb (number g h (u .0)) t ≡ false → Upto
+        next e = (u .0 + 1, further, sym (next-one g law h was few t (u .0) less e) ∙ u .2)
 
-        nearer : (e : eqb (g .number h (u .0)) t ≡ false) → Nearer (next e) u
+        nearer : (e : eqb (number g h (u .0)) t ≡ false) → Nearer (next e) u
         nearer e = add-one-dec (g .count h) (u .0) less
 
       -- what the loop keeps: the borrow, open; _10; …; .. _0; …; res
@@ -220,7 +247,7 @@ module _ (g : Searched) (law : Laws g) {M : Type 1} (𝓤 : URA M) (H : Heap �
           first ! $ branches ! (load ! (from ! (stop !)) (look ! 12 refl))
           (λ y. assigns ! (of-opd ! (load ! (from ! (stop !)) (look ! 16 refl))) (from ! (stop !)) (init ! 24 refl (tt, record { fits = omega (arith, fits u less) })) $
           forget ! 4 refl $ forget ! 6 refl $ forget ! 8 refl $ forget ! 10 refl $ forget ! 12 refl $ forget ! 16 refl $ forget ! 18 refl $
-          leaves (u .0) (omega (arith, fits u less)) (λ w. sym (law .reach-here h was few t (u .0) less (is-true _ y)) ∙ u .2) _ refl)
+          leaves (u .0) (omega (arith, fits u less)) (λ w. sym (here g law h was few t (u .0) less (is-true _ y)) ∙ u .2) _ refl)
           (λ n. skips ! $ exec ! C Λ En step (anyQ (Turned u)) $
           assigns-last ! (bin ! (load ! (from ! (stop !)) (look ! 16 refl)) (lit ! tt) (record { fits = fits u less })) (from ! (stop !)) (store ! 16 refl (tt, record { fits = fits u less })) $
           forget ! 4 refl $ forget ! 6 refl $ forget ! 8 refl $ forget ! 10 refl $ forget ! 12 refl $ again ! Nearer At u (next u less (is-false _ n)) (nearer u less (is-false _ n))))
@@ -228,10 +255,10 @@ module _ (g : Searched) (law : Laws g) {M : Type 1} (𝓤 : URA M) (H : Heap �
           rewrite ! 12 (λ (y : Bool). ‵ (fat fullShare tyBool l₆ 0 (vbool y))) e refl $ leaves-loop ! (load ! (from ! (stop !)) (look ! 12 refl)) $ exec ! C Λ En after (atRet En Ends) $
           assigns ! (of-opd ! (load ! (from ! (stop !)) (look ! 18 refl))) (from ! (stop !)) (init ! 24 refl (tt, record { fits = law .counted h was })) $
           forget ! 12 refl $ forget ! 16 refl $ forget ! 18 refl $
-          leaves (g .count h) (law .counted h was) (λ w. sym (law .reach-end h was few t (u .0) over) ∙ u .2) _ refl)
+          leaves (g .count h) (law .counted h was) (λ w. sym (at-end g law h was few t (u .0) over) ∙ u .2) _ refl)
 
-      looped : Sq W (At (0, omega arith, law .reach-start h t)) (runs C Λ En (looping g) (atRet En Ends))
-      looped = first ! $ blocks ! $ loops ! 𝓣 Nearer Nearer-wf At turns (0, omega arith, law .reach-start h t)
+      looped : Sq W (At (0, omega arith, reach-start (has g t) (g .list h) (g .count h))) (runs C Λ En (looping g) (atRet En Ends))
+      looped = first ! $ blocks ! $ loops ! 𝓣 Nearer Nearer-wf At turns (0, omega arith, reach-start (has g t) (g .list h) (g .count h))
 
   walk : (𝓣 : Tables 𝓤 H) → ent 𝓤 (onEntry 𝓤 H A shape.signature (κ, tt) (q, tt) x at) (WpFn 𝓤 H (𝓣 .C) (𝓣 .Λ) (function g) (vptr b o ∷ vint w32 t ∷ []) Ends)
   walk 𝓣 =

@@ -77,7 +77,7 @@ put-capacities s cs = withRegistry s (s .enrolled) (s .units) (s .notices) cs
 -- What is known of the parts, and of the session with one stored
 
 module _ (s : Session) (g : Good s) where
-  all-units : All U.the-field U′.the-field-laws 64 (s .units)
+  pub all-units : All U.the-field U′.the-field-laws 64 (s .units)
   all-units = LL.owed T.the-type T′.the-laws s _ g .1 .1 .1 .0
 
   pub long-units : length (s .units) ≡ 64
@@ -105,7 +105,7 @@ module _ (s : Session) (g : Good s) where
       let w = LL.owed T.the-type T′.the-laws s _ g in
       LL.owes T.the-type T′.the-laws (put-notice s i x) (w .0, (w .1 .0, (w .1 .1 .0, (w .1 .1 .1 .0, (stored X.the-field X′.the-field-laws 64 (s .notices) all-notices i x o, (w .1 .1 .1 .1 .1 .0, (w .1 .1 .1 .1 .1 .1 .0, (w .1 .1 .1 .1 .1 .1 .1 .0, (w .1 .1 .1 .1 .1 .1 .1 .1 .0, (w .1 .1 .1 .1 .1 .1 .1 .1 .1 .0, (w .1 .1 .1 .1 .1 .1 .1 .1 .1 .1 .0, (w .1 .1 .1 .1 .1 .1 .1 .1 .1 .1 .1 .0, (w .1 .1 .1 .1 .1 .1 .1 .1 .1 .1 .1 .1 .0, (w .1 .1 .1 .1 .1 .1 .1 .1 .1 .1 .1 .1 .1 .0, tt))))))))))))))
 
-  all-lodgements : All L.the-field L′.the-field-laws 128 (s .lodgements)
+  pub all-lodgements : All L.the-field L′.the-field-laws 128 (s .lodgements)
   all-lodgements = LL.owed T.the-type T′.the-laws s _ g .1 .1 .1 .1 .1 .1 .1 .0
 
   pub long-lodgements : length (s .lodgements) ≡ 128

@@ -32,7 +32,13 @@ fn of_reply(a: Reply) -> Response
     let row = row_of(a);
     let hour = hour_of(a);
     let value = value_of(a);
-    Response { kind, row, hour, value, count: 0 }
+    Response {
+        kind,
+        row,
+        hour,
+        value,
+        count: 0,
+    }
 }
 
 fn kind_of(a: Reply) -> u32

@@ -1,27 +1,22 @@
 -- `lent::unit_at` meets its contract, by the law of its shape.
-use mathlib.Core.Path.{refl, _∙_}
-use Prim.Native.Nat.{ℕ, _<_, _≤_}
+use mathlib.Core.Path.{refl}
 use native.Mathlib.Omega.{arith}
 use contract.Running.{givenOf, tables, tablesOf}
 use mir.Syntax.{tyArray}
-use lib.ListN.{length, getD}
+use lib.ListN.{getD}
 use types.Run.{stop, fld}
 use denote.Struct.Laws as LL
 use denote.Triple.Spec.{tripleOf}
 use denote.Triple.Table.{entered}
 use Rattle.session.specs.Image.{noUnit}
-use Rattle.session.specs.Parts.{Within}
-use Rattle.session.specs.declared.Session.{Session}
-use Rattle.session.specs.Parts.{numberIs}
-use Rattle.energies.specs.Parts.{unitPlace}
-use Rattle.session.proofs.PlaceLaws as P
+use Rattle.session.specs.declared.Unit.{Unit}
 use Rattle.session.proofs.Session as T
 use Rattle.session.proofs.Session.Laws as T′
 use Rattle.session.proofs.Unit as E
 use Rattle.session.proofs.Unit.Laws as E′
-use Rattle.lent.proofs.ArrayLaws.{vals, vals-get, length-vals}
+use Rattle.lent.proofs.ArrayLaws.{vals, long-vals, val-at}
 use Rattle.lent.proofs.Cell.{field-read, element-field-read}
-use Rattle.lent.proofs.SessionCell.{Good, long-units, good-unit, at-enrolled, at-units}
+use Rattle.lent.proofs.SessionCell.{all-units, long-units, good-unit, at-enrolled, at-units}
 use Rattle.lent.proofs.Searched as law
 use Rattle.lent.proofs.unit_at.Key.{name as #entry}
 use Rattle.lent.proofs.unit_at as f
@@ -30,6 +25,11 @@ use Rattle.lent.proofs.unit_at.Code as code
 
 abbrev searched : law.Searched
 searched = record {
+  element = Unit;
+  blank = noUnit;
+  number-of = λ x. x .number;
+  list = λ s. s .units;
+  count = λ s. s .enrolled;
   many = 64;
   counter = 2;
   counter-at = 16;
@@ -40,17 +40,7 @@ searched = record {
   wide = 24;
   numbered = 0;
   number-at = 0;
-  count = λ s. s .enrolled;
-  number = λ s i. getD (s .units) i noUnit .number;
-  place-of = unitPlace;
-  reach = λ s n i. P.reach (numberIs n) (s .units) (s .enrolled) i;
 }
-
-enough : (s : Session) → Good s → s .enrolled ≤ 64 → s .enrolled ≤ length (s .units)
-enough s g few = omega (arith, few, long-units s g)
-
-inside : (s : Session) → Good s → (i : ℕ) → i < 64 → i < length (s .units)
-inside s g i h = omega (arith, h, long-units s g)
 
 laws : law.Laws searched
 laws = record {
@@ -60,18 +50,15 @@ laws = record {
   below = λ i h. omega (arith, h);
   guards = λ s w. w .enrolled;
   counted = λ s g. LL.owed T.the-type T′.the-laws s _ g .1 .1 .0 .1;
+  long = long-units;
   small = λ s g i h. LL.owed E.the-type E′.the-laws (getD (s .units) i noUnit) _ (good-unit s g noUnit i h) .0 .1;
   at-counter = λ k. at-enrolled k;
-  read-counter = λ k s. field-read k 0 2 refl refl refl;
   at-array = λ k. at-units k;
   at-number = λ k. fld k refl (stop k);
+  read-counter = λ k s. field-read k 0 2 refl refl refl;
   read-number = λ k s g i h.
-      element-field-read k (vals E.the-field E′.the-field-laws (s .units)) 3 i 0 refl refl h (length-vals E.the-field E′.the-field-laws (s .units) ∙ long-units s g)
-      (vals-get E.the-field E′.the-field-laws noUnit (s .units) i (inside s g i h)) refl refl;
-  reach-start = λ s n. P.reach-start (numberIs n) (s .units) (s .enrolled);
-  reach-here = λ s g few n i h e. P.reach-here (numberIs n) noUnit (s .units) (s .enrolled) i h (enough s g few) e;
-  reach-next = λ s g few n i h e. P.reach-next (numberIs n) noUnit (s .units) (s .enrolled) i h (enough s g few) e;
-  reach-end = λ s g few n i e. P.reach-end (numberIs n) (s .units) (s .enrolled) i e (enough s g few);
+      element-field-read k (vals E.the-field E′.the-field-laws (s .units)) 3 i 0 refl refl h (long-vals E.the-field E′.the-field-laws 64 (s .units) (all-units s g))
+      (val-at E.the-field E′.the-field-laws 64 (s .units) (all-units s g) noUnit i h) refl refl;
 }
 
 pub unit-at-spec : {M : Type 1} → stated.statement M
