@@ -42,7 +42,7 @@ use Rattle.session.proofs.LaidLaws.{map-last, set-pad}
 use Rattle.session.proofs.ImageLaws.{hours-as, units-as, enrolled-as}
 use Rattle.clearing.specs.declared.HourEnd.{HourEnd}
 use Rattle.borders.specs.declared.Executions.{Executions}
-use Rattle.loads.specs.declared.Places.{Places}
+use Rattle.arrays.specs.declared.Places.{Places}
 use Rattle.gathering.specs.declared.Gathered.{Gathered}
 use Rattle.gathering.specs.Columns.{Column}
 use Rattle.gathering.specs.Built.{UnitPlaces, Holders, Held, holdersIn, pickedAt, unitAt, Gather}

@@ -21,7 +21,7 @@ use Rattle.session.specs.Image as I
 use Rattle.session.specs.Parts.{numberIs}
 use Rattle.session.proofs.PlaceLaws.{getD-map}
 use Rattle.session.proofs.ImageLaws.{units-as, standing-as}
-use Rattle.loads.specs.declared.Places.{Places}
+use Rattle.arrays.specs.declared.Places.{Places}
 use Rattle.gathering.specs.Built.{unitAmong, holderIn, Holders, bareEnergies, counts, countsAt, energyOn, Chosen}
 use Rattle.gathering.proofs.ListLaws.{front-places, all-places, laid-at, first-map}
 

@@ -33,7 +33,7 @@ use Rattle.session.specs.Laid.{pad}
 use Rattle.session.specs.Image as I
 use Rattle.session.proofs.PlaceLaws.{getD-map}
 use Rattle.session.proofs.ImageLaws.{capacities-as}
-use Rattle.loads.specs.declared.Places.{Places}
+use Rattle.arrays.specs.declared.Places.{Places}
 use Rattle.gathering.specs.declared.HourCapacities.{HourCapacities}
 use Rattle.gathering.specs.Columns.{Column}
 use Rattle.gathering.specs.Built.{Holders, Held, holdersIn, numberAt, unitAt, borderAt, sideAt, legacyAt, energyOn, priceOn, energyAt, priceAt, noticeAt, givenAt, capacityAt, bareNotice, Given, Built}

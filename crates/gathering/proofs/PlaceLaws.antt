@@ -22,7 +22,7 @@ use Rattle.session.specs.Image.{noUnit, noNotice, noLodgement, noVerdict}
 use Rattle.session.proofs.PlaceLaws.{place-first}
 use Rattle.loads.specs.Loads.{PutAt}
 use Rattle.holders.specs.Holders.{holderAt}
-use Rattle.loads.specs.declared.Places.{Places}
+use Rattle.arrays.specs.declared.Places.{Places}
 use Rattle.gathering.specs.declared.Day.{Day}
 use Rattle.gathering.specs.declared.Gathered.{Gathered}
 use Rattle.borders.specs.declared.Executions.{Executions}

@@ -18,7 +18,7 @@ use Rattle.holders.specs.Holders.{holderAt}
 use Rattle.matching.specs.declared.Offers.{Offers}
 use Rattle.borders.specs.declared.Executions.{Executions}
 use Rattle.hour.specs.declared.Hour.{Hour}
-use Rattle.loads.specs.declared.Places.{Places}
+use Rattle.arrays.specs.declared.Places.{Places}
 use Rattle.gathering.specs.declared.Slots.{Slots}
 use Rattle.gathering.specs.declared.Day.{Day}
 use Rattle.gathering.specs.declared.Gathered.{Gathered}

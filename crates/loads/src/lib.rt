@@ -6,13 +6,8 @@ ghost use lib.ListN.{getD, take, length};
 ghost use Rattle.rules.specs.Lists.{from, lowest};
 ghost use Rattle.rules.specs.Lodging.{passedAt};
 ghost use Rattle.loads.specs.Loads.{marked, PutAt, LoadsOf, loadBy, laid};
+use arrays::Places;
 use session::Energies;
-
-// Places of lodgements, `count` of them in front of the array.
-pub struct Places {
-    pub count: usize,
-    pub at: [usize; 128],
-}
 
 // The places of those of the first n lodgements that are counted.
 pub fn counted_places(counted: &[bool; 128], n: usize) -> Places
