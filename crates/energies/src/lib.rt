@@ -17,7 +17,7 @@ use session::units::bad_number;
 use session::units::place;
 
 // The place of a unit among the registered ones, or their number. Any place is one of a session that the guard rejects.
-pub fn unit_at(s: Session, unit: u32) -> usize
+fn unit_at(s: Session, unit: u32) -> usize
     ensures { λ r. ⌜ UnitFound s unit r ⌝ }
 {
     if 64 < s.enrolled {

@@ -1,6 +1,6 @@
 // The C interface (include/gate.h). "The session is lent to each call and changed in place": thin entries that apply the
-// by-value steps of `response` and store what these change (`lent`). The numbers at each are the rows of the refusal table
-// that it can answer with.
+// by-value steps of `response` and `replies` and store what these change (`lent`). The numbers at each are the rows of the
+// refusal table that it can answer with.
 ghost use mathlib.Core.Path.{_≡_};
 ghost use lib.ListN.{length};
 ghost use Rattle.rules.specs.Hours.{hoursAt, clockAt, hourAt};
@@ -148,7 +148,7 @@ pub extern "C" fn gate_clear(s: &mut Session) -> Response
     settle_clearing(s, t)
 }
 
-// Queries
+// Queries. A step by value would copy an array whole to read one of its elements, so that is read here, through the reference.
 
 // "a lodging number's verdict", after closing: 2, 13.
 #[no_mangle]

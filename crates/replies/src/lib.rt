@@ -24,7 +24,7 @@ const LIMIT: u32 = 5;
 
 const ABSENT: u32 = 7;
 
-// A reply told: its response is made in one place, since each further one costs a copy.
+// A reply told, field by field.
 fn of_reply(a: Reply) -> Response
     ensures { λ r. ⌜ r ≡ ofReply a ⌝ }
 {
