@@ -9,8 +9,9 @@ use Rattle.session.specs.declared.Turn.{Turn}
 use Rattle.session.specs.declared.Answer.{Answer}
 use Rattle.daybook.specs.Runs as R
 use Rattle.daybook.proofs.DemandLaws.{demand-3}
-use Rattle.response.specs.Told.{Stepped, ofAnswer}
-use Rattle.response.specs.declared.Response.{Response}
+use Rattle.told.specs.Told.{ofAnswer}
+use Rattle.response.specs.Told.{Stepped}
+use Rattle.told.specs.declared.Response.{Response}
 use Rattle.gate.specs.Lent.{Lends, registers, notifies, avails, lodges, annuls, closes, clears, LentTo, ended, then, Lent, LentDemanded}
 
 -- the call's own contract, with the answer that its response tells

@@ -15,9 +15,11 @@ use Rattle.session.specs.declared.Unit.{Unit}
 use Rattle.session.specs.declared.Key.{Key}
 use Rattle.queries.specs.declared.Reply.{Reply}
 use Rattle.daybook.specs.Demand3.{Demand3}
-use Rattle.response.specs.Told.{Stepped, ofAnswer, availableIn, capacityIn, OpensAs, MetAs}
-use Rattle.replies.specs.Told.{ofReply, AnsweredAs}
-use Rattle.response.specs.declared.Response.{Response}
+use Rattle.told.specs.Told.{ofAnswer}
+use Rattle.response.specs.Told.{Stepped, availableIn, capacityIn, OpensAs, MetAs}
+use Rattle.told.specs.Told.{ofReply}
+use Rattle.replies.specs.Told.{AnsweredAs}
+use Rattle.told.specs.declared.Response.{Response}
 use Rattle.response.specs.declared.Availability.{Availability}
 use Rattle.response.specs.declared.Capacities.{Capacities}
 use Rattle.response.specs.declared.Opening.{Opening}

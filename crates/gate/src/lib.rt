@@ -10,7 +10,8 @@ ghost use Rattle.rules.specs.Queries as Q;
 ghost use Rattle.calendar.specs.View.{dateIn, clockIn, countedAs, namedAs};
 ghost use Rattle.message.specs.View.{fieldsIn, readingAs, writtenAs};
 ghost use Rattle.session.specs.Image.{unitIn, keyIn};
-ghost use Rattle.response.specs.Told.{ofCounted, ofNamed, availableIn, capacityIn, OpensAs, MetAs};
+ghost use Rattle.told.specs.Told.{ofCounted, ofNamed};
+ghost use Rattle.response.specs.Told.{availableIn, capacityIn, OpensAs, MetAs};
 ghost use Rattle.replies.specs.Told.{AnsweredAs};
 use calendar::Clock;
 use calendar::Date;
@@ -23,12 +24,12 @@ use message::Reading;
 use message::Written;
 use response::Availability;
 use response::Capacities;
-use response::ClockName;
 use response::Opening;
-use response::Response;
 use session::Key;
 use session::Session;
 use session::Unit;
+use told::ClockName;
+use told::Response;
 
 // Dates
 

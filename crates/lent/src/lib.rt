@@ -9,8 +9,8 @@ use response::Closed;
 use response::DayCleared;
 use response::Lodged;
 use response::Registered;
-use response::Response;
 use session::Session;
+use told::Response;
 
 // Units and notices: all capacities, the count, one unit and its notice.
 pub fn settle_registry(s: &mut Session, t: Registered) -> Response

@@ -1,4 +1,4 @@
-// The queries answered with the plain struct of `response`, which C can be handed. What a query reads at a place is passed beside the
+// The queries answered with the plain struct of `told`. What a query reads at a place is passed beside the
 // session, as whoever lends the session reads it there and copies no array.
 ghost use mathlib.Core.Path.{_≡_};
 ghost use Rattle.rules.specs.Queries as Q;
@@ -6,92 +6,14 @@ ghost use Rattle.queries.specs.Parts.{figuresIn};
 ghost use Rattle.verdicts.specs.Parts.{LodgedFound, verdictAt};
 ghost use Rattle.energies.specs.Parts.{UnitFound};
 ghost use Rattle.maxima.specs.Parts.{capacityIn};
-ghost use Rattle.replies.specs.Told.{ofReply, AnsweredAs};
+ghost use Rattle.replies.specs.Told.{AnsweredAs};
 use queries::Reply;
-use response::ACCEPTED;
-use response::FIGURE;
-use response::REFUSED;
-use response::Response;
 use session::Cleared;
 use session::Notice;
 use session::Session;
 use session::Verdict;
-
-// Kinds, beside those of `response`
-const HIDDEN: u32 = 4;
-
-const LIMIT: u32 = 5;
-
-const ABSENT: u32 = 7;
-
-// A reply told, field by field.
-fn of_reply(a: Reply) -> Response
-    ensures { λ r. ⌜ r ≡ ofReply a ⌝ }
-{
-    let kind = kind_of(a);
-    let row = row_of(a);
-    let hour = hour_of(a);
-    let value = value_of(a);
-    Response {
-        kind,
-        row,
-        hour,
-        value,
-        count: 0,
-    }
-}
-
-fn kind_of(a: Reply) -> u32
-    ensures { λ r. ⌜ r ≡ ofReply a .kind ⌝ }
-{
-    match a {
-        Reply::Refused(_, _) => REFUSED,
-        Reply::Accepted => ACCEPTED,
-        Reply::Hidden => HIDDEN,
-        Reply::Limit(_, _) => LIMIT,
-        Reply::Number(_) => FIGURE,
-        Reply::Absent => ABSENT,
-    }
-}
-
-fn row_of(a: Reply) -> u32
-    ensures { λ r. ⌜ r ≡ ofReply a .row ⌝ }
-{
-    match a {
-        Reply::Refused(row, _) => row,
-        Reply::Accepted => 0,
-        Reply::Hidden => 0,
-        Reply::Limit(row, _) => row,
-        Reply::Number(_) => 0,
-        Reply::Absent => 0,
-    }
-}
-
-fn hour_of(a: Reply) -> u32
-    ensures { λ r. ⌜ r ≡ ofReply a .hour ⌝ }
-{
-    match a {
-        Reply::Refused(_, hour) => hour,
-        Reply::Accepted => 0,
-        Reply::Hidden => 0,
-        Reply::Limit(_, hour) => hour,
-        Reply::Number(_) => 0,
-        Reply::Absent => 0,
-    }
-}
-
-fn value_of(a: Reply) -> i64
-    ensures { λ r. ⌜ r ≡ ofReply a .value ⌝ }
-{
-    match a {
-        Reply::Refused(_, _) => 0,
-        Reply::Accepted => 0,
-        Reply::Hidden => 0,
-        Reply::Limit(_, _) => 0,
-        Reply::Number(figure) => figure,
-        Reply::Absent => 0,
-    }
-}
+use told::Response;
+use told::of_reply;
 
 // "a lodging number's verdict", after closing: 2, 13.
 pub fn verdict(s: Session, at: usize, v: Verdict, number: u32) -> Response

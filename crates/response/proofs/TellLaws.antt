@@ -1,10 +1,8 @@
--- What a call promises, from the contract under it; and that a response loses nothing of what it tells.
-use Prim.Native.Nat.{ℕ, _<_}
+-- What a call promises, from the contract under it.
+use Prim.Native.Nat.{_<_}
 use mathlib.Core.Path.{_≡_, refl, sym, _∙_, ap, subst}
-use mathlib.Core.Bool.{true, cond}
+use mathlib.Core.Bool.{true}
 use native.Mathlib.Omega.{arith}
-use lib.Dec.{eqb}
-use lib.IntN.{ℤ, pos, negsuc}
 use Rattle.rules.specs.DayBook as D
 use Rattle.session.specs.Steps.{Met, isRefusal}
 use Rattle.changes.specs.Changes.{Placed, registryTurn, standingTurn, closingTurn, clearingTurn}
@@ -16,8 +14,9 @@ use Rattle.changes.specs.declared.ClosingTurn.{ClosingTurn}
 use Rattle.changes.specs.declared.ClearingTurn.{ClearingTurn}
 use Rattle.session.specs.declared.Answer.{Answer}
 use Rattle.session.specs.declared.Answer.the-variants as A
-use Rattle.response.specs.Told.{Stepped, ofAnswer, steppedAs, registeredAs, lodgedAs, closedAs, dayClearedAs, registryLeft, standingLeft, closingLeft, clearingLeft, MetAs}
-use Rattle.response.specs.declared.Response.{Response}
+use Rattle.response.specs.Told.{Stepped, steppedAs, registeredAs, lodgedAs, closedAs, dayClearedAs, registryLeft, standingLeft, closingLeft, clearingLeft, MetAs}
+use Rattle.told.specs.declared.Response.{Response}
+use Rattle.told.specs.Told.{ofAnswer}
 use Rattle.response.specs.declared.Registered.{Registered}
 use Rattle.response.specs.declared.Lodged.{Lodged}
 use Rattle.response.specs.declared.Closed.{Closed}
@@ -58,22 +57,3 @@ told-refused (A.Steps n) e = absurd (omega (arith, e))
 
 pub refused-kept : (s : Session) (c : D.Call) (r : Stepped) → MetAs s c r → r .response .kind ≡ 1 → r .session ≡ s
 refused-kept s c r m e = m .met .kept (told-refused (m .answer) (sym (ap (λ (x : Response). x .kind) (m .told)) ∙ e))
-
--- Nothing is lost: an answer is found again from what it is told as
-
-natural : ℤ → ℕ
-natural (pos n) = n
-natural (negsuc n) = n
-
-unfoldable answerOf : Response → Answer
-answerOf r = cond (eqb (r .kind) 0) A.Done (cond (eqb (r .kind) 1) (A.Refused (r .row) (r .hour)) (cond (eqb (r .kind) 2) (A.Numbered (natural (r .value))) (A.Steps (r .count))))
-
-answer-back : (a : Answer) → answerOf (ofAnswer a) ≡ a
-unfolding answerOf ofAnswer natural
-answer-back A.Done = refl
-answer-back (A.Refused n h) = refl
-answer-back (A.Numbered n) = refl
-answer-back (A.Steps n) = refl
-
-pub answer-told-once : (a b : Answer) → ofAnswer a ≡ ofAnswer b → a ≡ b
-answer-told-once a b e = sym (answer-back a) ∙ ap answerOf e ∙ answer-back b

@@ -1,14 +1,7 @@
--- Answers as the plain struct that C is handed, and what the calls promise of it.
-use Prim.Native.Nat.{ℕ}
+-- What the calls promise of the plain struct that tells their answers.
 use mathlib.Core.Path.{_≡_}
-use mathlib.Core.Bool.{false}
-use lib.IntN.{pos}
 use Rattle.rules.specs.Hours as H
 use Rattle.rules.specs.DayBook as D
-use Rattle.calendar.specs.declared.Counted.{Counted}
-use Rattle.calendar.specs.declared.Counted.the-variants as C
-use Rattle.calendar.specs.declared.Named.{Named}
-use Rattle.calendar.specs.declared.Named.the-variants as N
 use Rattle.session.specs.Laid.{counted}
 use Rattle.session.specs.Image.{capacitiesIn}
 use Rattle.changes.specs.Changes.{withVerdicts, withFigures, registryWith, standingWith}
@@ -20,8 +13,8 @@ use Rattle.changes.specs.declared.StandingTurn.{StandingTurn}
 use Rattle.changes.specs.declared.ClosingTurn.{ClosingTurn}
 use Rattle.changes.specs.declared.ClearingTurn.{ClearingTurn}
 use Rattle.session.specs.declared.Answer.{Answer}
-use Rattle.session.specs.declared.Answer.the-variants as A
-use Rattle.response.specs.declared.Response.{Response}
+use Rattle.told.specs.declared.Response.{Response}
+use Rattle.told.specs.Told.{ofAnswer}
 use Rattle.response.specs.declared.Registered.{Registered}
 use Rattle.response.specs.declared.Lodged.{Lodged}
 use Rattle.response.specs.declared.Closed.{Closed}
@@ -29,23 +22,6 @@ use Rattle.response.specs.declared.DayCleared.{DayCleared}
 use Rattle.response.specs.declared.Availability.{Availability}
 use Rattle.response.specs.declared.Capacities.{Capacities}
 use Rattle.response.specs.declared.Opening.{Opening}
-use Rattle.response.specs.declared.ClockName.{ClockName}
-
--- kind 0 accepted, 1 refused, 2 numbered, 3 steps
-unfoldable pub ofAnswer : Answer → Response
-ofAnswer A.Done = record { kind = 0; row = 0; hour = 0; value = pos 0; count = 0 }
-ofAnswer (A.Refused n h) = record { kind = 1; row = n; hour = h; value = pos 0; count = 0 }
-ofAnswer (A.Numbered n) = record { kind = 2; row = 0; hour = 0; value = pos n; count = 0 }
-ofAnswer (A.Steps n) = record { kind = 3; row = 0; hour = 0; value = pos 0; count = n }
-
--- a figure, or a refusal, whose row has no hour of its own
-unfoldable pub ofCounted : Counted → Response
-ofCounted (C.Refused n) = record { kind = 1; row = n; hour = 0; value = pos 0; count = 0 }
-ofCounted (C.Given n) = record { kind = 6; row = 0; hour = 0; value = pos n; count = 0 }
-
-unfoldable pub ofNamed : Named → ClockName
-ofNamed (N.Refused n) = record { row = n; name = 0; second = false }
-ofNamed (N.Given c) = record { row = 0; name = c .name; second = c .second }
 
 -- what a call leaves and says
 pub record Stepped : Type 0 where

@@ -1,5 +1,4 @@
-// Dates and calls answered with a plain struct, `Response`, which C can be handed: an enum cannot be exported. The queries are in
-// `replies`.
+// Dates and calls answered with the plain struct of `told`. The queries are in `replies`.
 ghost use mathlib.Core.Path.{_≡_};
 ghost use Prim.Native.Nat.{_<_};
 ghost use Rattle.rules.specs.Hours.{hoursAt, clockAt, hourAt};
@@ -7,10 +6,8 @@ ghost use Rattle.rules.specs.DayBook.{register, available, capacity, lodge, ann
 ghost use Rattle.calendar.specs.View.{dateIn, clockIn, countedAs, namedAs};
 ghost use Rattle.session.specs.Image.{unitIn, keyIn};
 ghost use Rattle.changes.specs.Changes.{Placed};
+ghost use Rattle.told.specs.Told.{ofCounted, ofNamed};
 ghost use Rattle.response.specs.Told.{
-  ofAnswer,
-  ofCounted,
-  ofNamed,
   registeredAs,
   lodgedAs,
   registryLeft,
@@ -23,34 +20,22 @@ ghost use Rattle.response.specs.Told.{
   MetAs,
 };
 use calendar::Clock;
-use calendar::Counted;
 use calendar::Date;
-use calendar::Named;
 use changes::RegistryChange;
 use changes::RegistryTurn;
 use changes::StandingChange;
 use changes::StandingTurn;
-use session::Answer;
 use session::Cleared;
 use session::Key;
 use session::Published;
 use session::Session;
 use session::Unit;
 use session::Verdict;
-
-// An answer or a reply. Its kind says which of the other fields hold something; those that do not are 0.
-#[repr(C)]
-pub struct Response {
-    pub kind: u32,
-    // The refusal table's number of a refusal or of a limit.
-    pub row: u32,
-    // Its hour, 0 where the table gives none.
-    pub hour: u32,
-    // A lodging number, or a figure.
-    pub value: i64,
-    // The steps of a clearing.
-    pub count: u64,
-}
+use told::ClockName;
+use told::Response;
+use told::of_answer;
+use told::of_counted;
+use told::of_named;
 
 // An unavailability notice: `count` available energies of a unit.
 #[repr(C)]
@@ -71,14 +56,6 @@ pub struct Capacities {
 pub struct Opening {
     pub response: Response,
     pub session: Session,
-}
-
-// An hour's clock name and mark with row 0, or the refusal table's number with name 0 and no mark.
-#[repr(C)]
-pub struct ClockName {
-    pub row: u32,
-    pub name: u32,
-    pub second: bool,
 }
 
 // What a call changes of units and notices, and says.
@@ -105,92 +82,6 @@ pub struct DayCleared {
     pub figures: [Cleared; 25],
     pub cleared: bool,
     pub response: Response,
-}
-
-// Kinds
-pub const ACCEPTED: u32 = 0;
-
-pub const REFUSED: u32 = 1;
-
-const NUMBERED: u32 = 2;
-
-const STEPS: u32 = 3;
-
-pub const FIGURE: u32 = 6;
-
-// Answers
-
-fn of_answer(a: Answer) -> Response
-    ensures { λ r. ⌜ r ≡ ofAnswer a ⌝ }
-{
-    match a {
-        Answer::Refused(row, hour) => Response {
-            kind: REFUSED,
-            row: row,
-            hour: hour,
-            value: 0,
-            count: 0,
-        },
-        Answer::Done => Response {
-            kind: ACCEPTED,
-            row: 0,
-            hour: 0,
-            value: 0,
-            count: 0,
-        },
-        Answer::Numbered(number) => Response {
-            kind: NUMBERED,
-            row: 0,
-            hour: 0,
-            value: number as i64,
-            count: 0,
-        },
-        Answer::Steps(steps) => Response {
-            kind: STEPS,
-            row: 0,
-            hour: 0,
-            value: 0,
-            count: steps,
-        },
-    }
-}
-
-fn of_counted(c: Counted) -> Response
-    ensures { λ r. ⌜ r ≡ ofCounted c ⌝ }
-{
-    match c {
-        Counted::Refused(row) => Response {
-            kind: REFUSED,
-            row: row,
-            hour: 0,
-            value: 0,
-            count: 0,
-        },
-        Counted::Given(number) => Response {
-            kind: FIGURE,
-            row: 0,
-            hour: 0,
-            value: number as i64,
-            count: 0,
-        },
-    }
-}
-
-fn of_named(n: Named) -> ClockName
-    ensures { λ r. ⌜ r ≡ ofNamed n ⌝ }
-{
-    match n {
-        Named::Refused(row) => ClockName {
-            row: row,
-            name: 0,
-            second: false,
-        },
-        Named::Given(c) => ClockName {
-            row: 0,
-            name: c.name,
-            second: c.second,
-        },
-    }
 }
 
 // What a call changes stays as it is, and its answer is told.

@@ -42,14 +42,14 @@ use Rattle.rules.specs.DayBook as D
 use Rattle.response.specs.Told.{Stepped, MetAs}
 use Rattle.changes.specs.Changes.{Placed, standingWith}
 use Rattle.session.specs.declared.Session.{Session}
-use Rattle.response.specs.declared.Response.{Response}
+use Rattle.told.specs.declared.Response.{Response}
 use Rattle.response.specs.declared.Lodged.{Lodged}
 use Rattle.session.proofs.Session as T
 use Rattle.session.proofs.Session.Laws as T′
 use Rattle.response.proofs.Lodged as G
 use Rattle.response.proofs.Lodged.Laws as G′
-use Rattle.response.proofs.Response as N
-use Rattle.response.proofs.Response.Laws as N′
+use Rattle.told.proofs.Response as N
+use Rattle.told.proofs.Response.Laws as N′
 use Rattle.response.proofs.lodge as step
 use Rattle.response.proofs.lodge.Symbol as step-def
 use Rattle.response.proofs.lodge.Symbol.{name as #step}

@@ -42,8 +42,8 @@ use Rattle.session.proofs.Session.Laws as T′
 use Rattle.session.proofs.Cleared.Laws as E′
 use Rattle.response.proofs.DayCleared as G
 use Rattle.response.proofs.DayCleared.Laws as G′
-use Rattle.response.proofs.Response as N
-use Rattle.response.proofs.Response.Laws as N′
+use Rattle.told.proofs.Response as N
+use Rattle.told.proofs.Response.Laws as N′
 use Rattle.lent.proofs.Cell.{sv, field-read, field-stored}
 use Rattle.lent.proofs.settle_clearing.Key.{name as #entry}
 use Rattle.lent.proofs.settle_clearing as f

@@ -42,8 +42,8 @@ use Rattle.session.proofs.Session.Laws as T′
 use Rattle.session.proofs.Verdict.Laws as E′
 use Rattle.response.proofs.Closed as G
 use Rattle.response.proofs.Closed.Laws as G′
-use Rattle.response.proofs.Response as N
-use Rattle.response.proofs.Response.Laws as N′
+use Rattle.told.proofs.Response as N
+use Rattle.told.proofs.Response.Laws as N′
 use Rattle.lent.proofs.Cell.{sv, field-read, field-stored}
 use Rattle.lent.proofs.settle_closing.Key.{name as #entry}
 use Rattle.lent.proofs.settle_closing as f

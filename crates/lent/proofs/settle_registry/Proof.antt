@@ -50,8 +50,8 @@ use Rattle.changes.proofs.RegistryChange as C
 use Rattle.changes.proofs.RegistryChange.Laws as C′
 use Rattle.response.proofs.Registered as G
 use Rattle.response.proofs.Registered.Laws as G′
-use Rattle.response.proofs.Response as N
-use Rattle.response.proofs.Response.Laws as N′
+use Rattle.told.proofs.Response as N
+use Rattle.told.proofs.Response.Laws as N′
 use Rattle.lent.proofs.ArrayLaws.{vals, All, One}
 use Rattle.lent.proofs.Outcomes.{is-true, is-false}
 use Rattle.lent.proofs.Cell.{sv, field-read, nested-read}

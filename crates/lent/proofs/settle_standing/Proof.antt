@@ -58,8 +58,8 @@ use Rattle.changes.proofs.StandingChange as S
 use Rattle.changes.proofs.StandingChange.Laws as S′
 use Rattle.response.proofs.Lodged as G
 use Rattle.response.proofs.Lodged.Laws as G′
-use Rattle.response.proofs.Response as N
-use Rattle.response.proofs.Response.Laws as N′
+use Rattle.told.proofs.Response as N
+use Rattle.told.proofs.Response.Laws as N′
 use Rattle.lent.proofs.ArrayLaws.{One}
 use Rattle.lent.proofs.Outcomes.{decide, reflected, refuted, is-true, is-false}
 use Rattle.lent.proofs.Cell.{sv, field-read, nested-read}

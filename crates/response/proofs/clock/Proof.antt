@@ -1,5 +1,5 @@
 use mathlib.Core.Path.{_∙_, ap}
-use Rattle.response.specs.Told.{ofNamed}
+use Rattle.told.specs.Told.{ofNamed}
 use borrow.Author.Needs.{needs}
 use Rattle.response.proofs.clock.Statement.{statement}
 use Rattle.response.proofs.clock.Tie as tie

@@ -2,9 +2,9 @@ use mathlib.Core.Path.{_∙_}
 use mir.Syntax.{w64}
 use mir.ValLaws.{toZ-ofZ}
 use borrow.Author.Needs.{needs}
-use Rattle.replies.proofs.TellLaws.{told-by-fields}
-use Rattle.replies.proofs.of_reply.Statement.{statement}
-use Rattle.replies.proofs.of_reply.Tie as tie
+use Rattle.told.proofs.TellLaws.{told-by-fields}
+use Rattle.told.proofs.of_reply.Statement.{statement}
+use Rattle.told.proofs.of_reply.Tie as tie
 
 kind-of-requires : tie.Need-kind-of-requires
 kind-of-requires c κs = search needs

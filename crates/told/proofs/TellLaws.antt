@@ -1,13 +1,15 @@
--- A response by its fields; and that it loses nothing of the reply that it tells: the reply is found again.
+-- A reply's response by its fields; and that a response loses nothing of what it tells.
 use Prim.Native.Nat.{ℕ}
 use mathlib.Core.Path.{_≡_, refl, sym, _∙_, ap}
 use mathlib.Core.Bool.{cond}
 use lib.Dec.{eqb}
-use lib.IntN.{ℤ}
+use lib.IntN.{ℤ, pos, negsuc}
+use Rattle.session.specs.declared.Answer.{Answer}
+use Rattle.session.specs.declared.Answer.the-variants as A
 use Rattle.queries.specs.declared.Reply.{Reply}
 use Rattle.queries.specs.declared.Reply.the-variants as R
-use Rattle.response.specs.declared.Response.{Response}
-use Rattle.replies.specs.Told.{ofReply}
+use Rattle.told.specs.Told.{ofAnswer, ofReply}
+use Rattle.told.specs.declared.Response.{Response}
 
 uncounted : (a : Reply) → record { kind = ofReply a .kind; row = ofReply a .row; hour = ofReply a .hour; value = ofReply a .value; count = 0 } ≡ ofReply a
 unfolding ofReply
@@ -49,3 +51,22 @@ reply-back R.Absent = refl
 
 pub reply-told-once : (a b : Reply) → ofReply a ≡ ofReply b → a ≡ b
 reply-told-once a b e = sym (reply-back a) ∙ ap replyOf e ∙ reply-back b
+
+-- an answer is found again too
+
+natural : ℤ → ℕ
+natural (pos n) = n
+natural (negsuc n) = n
+
+unfoldable answerOf : Response → Answer
+answerOf r = cond (eqb (r .kind) 0) A.Done (cond (eqb (r .kind) 1) (A.Refused (r .row) (r .hour)) (cond (eqb (r .kind) 2) (A.Numbered (natural (r .value))) (A.Steps (r .count))))
+
+answer-back : (a : Answer) → answerOf (ofAnswer a) ≡ a
+unfolding answerOf ofAnswer natural
+answer-back A.Done = refl
+answer-back (A.Refused n h) = refl
+answer-back (A.Numbered n) = refl
+answer-back (A.Steps n) = refl
+
+pub answer-told-once : (a b : Answer) → ofAnswer a ≡ ofAnswer b → a ≡ b
+answer-told-once a b e = sym (answer-back a) ∙ ap answerOf e ∙ answer-back b

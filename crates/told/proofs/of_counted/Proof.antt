@@ -1,9 +1,9 @@
 use native.Mathlib.Omega.{arith}
 use Rattle.queries.proofs.SignedLaws.{as-is}
-use Rattle.response.specs.Told.{ofCounted}
+use Rattle.told.specs.Told.{ofCounted}
 use borrow.Author.Needs.{needs}
-use Rattle.response.proofs.of_counted.Statement.{statement}
-use Rattle.response.proofs.of_counted.Tie as tie
+use Rattle.told.proofs.of_counted.Statement.{statement}
+use Rattle.told.proofs.of_counted.Tie as tie
 
 enum-known-c : tie.Need-enum-known-c
 enum-known-c c = search needs

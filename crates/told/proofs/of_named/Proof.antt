@@ -1,7 +1,7 @@
-use Rattle.response.specs.Told.{ofNamed}
+use Rattle.told.specs.Told.{ofNamed}
 use borrow.Author.Needs.{needs}
-use Rattle.response.proofs.of_named.Statement.{statement}
-use Rattle.response.proofs.of_named.Tie as tie
+use Rattle.told.proofs.of_named.Statement.{statement}
+use Rattle.told.proofs.of_named.Tie as tie
 
 enum-known-n : tie.Need-enum-known-n
 enum-known-n c = search needs

@@ -1,9 +1,9 @@
 use native.Mathlib.Omega.{arith}
 use Rattle.queries.proofs.SignedLaws.{as-is}
-use Rattle.response.specs.Told.{ofAnswer}
+use Rattle.told.specs.Told.{ofAnswer}
 use borrow.Author.Needs.{needs}
-use Rattle.response.proofs.of_answer.Statement.{statement}
-use Rattle.response.proofs.of_answer.Tie as tie
+use Rattle.told.proofs.of_answer.Statement.{statement}
+use Rattle.told.proofs.of_answer.Tie as tie
 
 enum-known-a : tie.Need-enum-known-a
 enum-known-a c = search needs
