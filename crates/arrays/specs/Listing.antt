@@ -14,7 +14,7 @@ unfoldable pub behind : List ℕ → ℕ → ℕ
 behind at zero = 0
 behind at (suc k) = getD at k 0 + 1
 
--- a list has places below n, by rising place, and between them the array is 0
+-- a list has places below n, by rising place; before, between and behind them the array is 0
 pub record Listed (a : List ℕ) (n : ℕ) (at : List ℕ) : Type 0 where
   pub few : length at ≤ n
   pub inside : (k : ℕ) → k < length at → getD at k 0 < n

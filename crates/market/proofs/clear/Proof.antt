@@ -3,7 +3,6 @@ use native.Mathlib.Omega.{arith}
 use lib.ListN.{replicate}
 use Rattle.borders.proofs.FlowLaws.{market-flows}
 use Rattle.market.proofs.MarketLaws.{market-said}
-use borrow.Author.Needs.{needs}
 use Rattle.market.proofs.clear.Statement.{statement}
 use Rattle.market.proofs.clear.Tie as tie
 
