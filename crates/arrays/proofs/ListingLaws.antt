@@ -32,6 +32,7 @@ unfolding behind
 listed-none = record {
   few = omega arith;
   inside = λ k h. absurd (omega arith);
+  filled = λ k h. absurd (omega arith);
   before = λ k h. absurd (omega arith);
   last = record { forward = omega arith; empty = λ m h k. absurd (omega arith) };
 }
@@ -42,6 +43,7 @@ module _ {a at : List ℕ} {i : ℕ} (l : Listed a i at) where
   listed-passed z = record {
     few = omega (arith, l .few);
     inside = λ k h. omega (arith, l .inside k h);
+    filled = l .filled;
     before = l .before;
     last = record {
       forward = omega (arith, l .last .forward);
@@ -50,22 +52,23 @@ module _ {a at : List ℕ} {i : ℕ} (l : Listed a i at) where
   }
 
   -- a place noted
-  listed-noted : Listed a (i + 1) (at ++ (i ∷ []))
-  listed-noted =
+  listed-noted : 0 < getD a i 0 → Listed a (i + 1) (at ++ (i ∷ []))
+  listed-noted z =
       let here = getD-append-seam at i [] 0 in
       let long = length-append at (i ∷ []) in
       let kept : (k : ℕ) → k < length at → getD (at ++ (i ∷ [])) k 0 ≡ getD at k 0 = λ k o. List·getD-append at (i ∷ []) 0 k o in
       record {
         few = omega (arith, l .few, long);
         inside = λ k o. up-to k (length at) (omega (arith, long)) (λ k. getD (at ++ (i ∷ [])) k 0 < i + 1) (omega arith) (λ o. omega (arith, kept k o, l .inside k o));
+        filled = λ k o. up-to k (length at) (omega (arith, long)) (λ k. 0 < getD a (getD (at ++ (i ∷ [])) k 0) 0) (rw here z) (λ o. rw (kept k o) (l .filled k o));
         before = λ k o. up-to k (length at) (omega (arith, long)) (λ k. Gap a (behind (at ++ (i ∷ [])) k) (getD (at ++ (i ∷ [])) k 0))
             (rw (here, behind-kept at (i ∷ []) (length at) (omega arith)) (l .last)) (λ o. rw (kept k o, behind-kept at (i ∷ []) k (omega arith)) (l .before k o));
         last = rw (long, behind-next (at ++ (i ∷ [])) (length at), here) (record { forward = omega arith; empty = λ m o u. absurd (omega arith) });
       }
 
 -- in front of an array
-pub listed-set : (a at : List ℕ) (i c : ℕ) → c < length at → Listed a i (take c at) → Listed a (i + 1) (take (c + 1) (set at c i))
-listed-set a at i c h l = rw (add-one c, take-suc-set at c i h) (listed-noted l)
+pub listed-set : (a at : List ℕ) (i c : ℕ) → c < length at → 0 < getD a i 0 → Listed a i (take c at) → Listed a (i + 1) (take (c + 1) (set at c i))
+listed-set a at i c h z l = rw (add-one c, take-suc-set at c i h) (listed-noted l z)
 
 -- How a loop along it stands for one along all places: what holds on passing each place with 0 holds on passing a gap
 

@@ -14,9 +14,10 @@ unfoldable pub behind : List ℕ → ℕ → ℕ
 behind at zero = 0
 behind at (suc k) = getD at k 0 + 1
 
--- a list has places below n, by rising place; before, between and behind them the array is 0
+-- a list has the places below n at which the array is not 0, by rising place: before, between and behind them it is 0
 pub record Listed (a : List ℕ) (n : ℕ) (at : List ℕ) : Type 0 where
   pub few : length at ≤ n
   pub inside : (k : ℕ) → k < length at → getD at k 0 < n
+  pub filled : (k : ℕ) → k < length at → 0 < getD a (getD at k 0) 0
   pub before : (k : ℕ) → k < length at → Gap a (behind at k) (getD at k 0)
   pub last : Gap a (behind at (length at)) n

@@ -23,7 +23,7 @@ loop-again c = let l = c .before .before .before .loop in (omega arith, omega ar
 loop-again-2 : tie.Need-loop-again-2 Inv-loop μ-loop
 loop-again-2 c =
     let l = c .before .before .before .loop in
-    (omega arith, omega arith, (simp length-set) ∙ l .inv .2, listed-set (c .before .before .before .before .args .a .now) (l .at) (l .i) (l .count) (omega arith) (l .inv .3))
+    (omega arith, omega arith, (simp length-set) ∙ l .inv .2, listed-set (c .before .before .before .before .args .a .now) (l .at) (l .i) (l .count) (omega arith) (omega arith) (l .inv .3))
 
 returns : tie.Need-returns Inv-loop μ-loop
 returns c =
