@@ -19,10 +19,11 @@ use Rattle.rules.proofs.BoolLaws.{by-bool, neither}
 use Rattle.message.specs.View.{fieldsIn}
 use Rattle.message.specs.declared.Fields.{Fields}
 use Rattle.session.specs.Image.{image, keyIn, noUnit}
-use Rattle.session.specs.Parts.{Within, told}
+use Rattle.session.specs.Parts.{Within, told, Holds}
 use Rattle.session.specs.declared.Session.{Session}
 use Rattle.session.specs.declared.Energies.{Energies}
 use Rattle.session.specs.declared.Unit.{Unit}
+use Rattle.session.specs.declared.Holder.{Holder}
 use Rattle.session.specs.declared.Notice.{Notice}
 use Rattle.session.specs.declared.Key.{Key}
 use Rattle.session.specs.declared.Judged.{Judged}
@@ -31,8 +32,7 @@ use Rattle.session.proofs.ImageLaws.{hours-as, last-as, standing-as, capacities
 use Rattle.loads.specs.Loads.{loadIn, loadBy}
 use Rattle.limits.specs.Limits.{judgedIn}
 use Rattle.limits.proofs.NoticeLaws.{judged-by}
-use Rattle.keys.specs.Keys.{keyFor, keyPlace, Holds}
-use Rattle.keys.specs.declared.Holder.{Holder}
+use Rattle.keys.specs.Keys.{keyFor, keyPlace}
 use Rattle.keys.proofs.KeyLaws.{stands-at}
 use Rattle.keys.proofs.TakenLaws.{left-in, left-most}
 use Rattle.beside.specs.Beside.{same, besideMarks}

@@ -14,7 +14,6 @@ use changes::standing_refused;
 use changes::with_standing;
 use keys::bad_holder;
 use keys::bad_key;
-use keys::holder_of;
 use keys::key_place;
 use keys::left_of;
 use session::Answer;
@@ -27,6 +26,7 @@ use session::Session;
 use session::Turn;
 use session::no_energies;
 use session::no_lodgement;
+use session::units::holder_of;
 
 // The refusal table's number for a key that does not stand.
 pub const ABSENT: u32 = 13;

@@ -1,19 +1,15 @@
 -- A message's key, and what is looked for among the session's lodgements and units by a key.
-use Prim.Native.Nat.{ℕ, _-_, _<_}
-use mathlib.Core.Path.{_≡_}
+use Prim.Native.Nat.{ℕ, _-_}
 use mathlib.Core.Bool.{Bool, cond}
-use mathlib.Core.List.{List}
 use lib.Dec.{ltb}
-use lib.ListN.{take, getD}
+use lib.ListN.{take}
 use Rattle.rules.specs.Lodging.{sameKey, hides}
 use Rattle.message.specs.declared.Fields.{Fields}
-use Rattle.session.specs.Image.{keyIn, noUnit}
-use Rattle.session.specs.Parts.{numberIs, placeOf}
+use Rattle.session.specs.Image.{keyIn}
+use Rattle.session.specs.Parts.{placeOf}
 use Rattle.session.specs.declared.Key.{Key}
 use Rattle.session.specs.declared.Lodgement.{Lodgement}
 use Rattle.session.specs.declared.Session.{Session}
-use Rattle.session.specs.declared.Unit.{Unit}
-use Rattle.keys.specs.declared.Holder.{Holder}
 
 -- the key of a message
 abbrev pub keyFor : Fields → Key
@@ -34,8 +30,3 @@ keyPlace s k = placeOf (ofKey k) (take (s .standing) (s .lodgements))
 -- how many of n are left without the one at place p, if p is one of their places
 unfoldable pub leftOf : ℕ → ℕ → ℕ
 leftOf n p = cond (ltb p n) (n - 1) n
-
--- the unit of a number among the first n: its place, or behind the last, and what stands there
-pub record Holds (units : List Unit) (n number : ℕ) (h : Holder) : Type 0 where
-  pub place : h .at ≡ placeOf (numberIs number) (take n units)
-  pub unit : h .at < n → h .unit ≡ getD units (h .at) noUnit

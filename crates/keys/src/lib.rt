@@ -8,15 +8,14 @@ ghost use Rattle.rules.specs.Lodging.{sameButDefault, sameKey, hides, badKey};
 ghost use Rattle.rules.specs.Book.{Book};
 ghost use Rattle.rules.specs.DayBook.{badHolder};
 ghost use Rattle.session.specs.Image.{image, keyIn};
-ghost use Rattle.session.specs.Parts.{Within, placeOf};
-ghost use Rattle.keys.specs.Keys.{keyFor, ofKey, leftOf, hiding, Holds};
+ghost use Rattle.session.specs.Parts.{placeOf, Holds};
+ghost use Rattle.keys.specs.Keys.{keyFor, ofKey, leftOf, hiding};
 use message::Fields;
 use message::judge::bad_contract;
+use session::Holder;
 use session::Key;
 use session::Lodgement;
 use session::Session;
-use session::Unit;
-use session::no_unit;
 use session::units::bad_number;
 
 // The key of a message.
@@ -115,27 +114,6 @@ pub fn bad_key(key: Key) -> bool
         return true;
     }
     bad_contract(key.execution, key.contract)
-}
-
-// The unit of a number, found once for all that ask about it: its place, behind the last where there is none, and what stands there.
-pub struct Holder {
-    pub at: usize,
-    pub unit: Unit,
-}
-
-// Of the first n units.
-pub fn holder_of(units: [Unit; 64], n: usize, number: u32) -> Holder
-    requires { ⌜ n ≤ 64 ⌝ }
-    ensures { λ r. ⌜ Holds units n number r ⌝ }
-{
-    for i in 0..n {
-        let u = units[i];
-        if u.number == number {
-            return Holder { at: i, unit: u };
-        }
-    }
-    let unit = no_unit();
-    Holder { at: n, unit: unit }
 }
 
 // Row 6, of a key, by its unit: "unregistered, or domestic for an execution".

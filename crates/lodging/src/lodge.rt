@@ -8,13 +8,13 @@ use admission::judge_fields;
 use changes::StandingTurn;
 use changes::standing_refused;
 use changes::with_standing;
-use keys::holder_of;
 use reader::bad_form;
 use reader::fields_of;
 use session::GATE;
 use session::Judged;
 use session::Session;
 use session::Turn;
+use session::units::holder_of;
 
 // The refusal table's number for a wrong form.
 pub const FORM: u32 = 3;

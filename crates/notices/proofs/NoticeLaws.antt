@@ -20,13 +20,14 @@ use Rattle.rules.proofs.ElementLaws.{pairwise-weaken}
 use Rattle.rules.proofs.RefusalLaws.{accepted-rows}
 use Rattle.rules.proofs.HoursLaws.{hours-most}
 use Rattle.session.specs.Laid.{pad, counted}
-use Rattle.session.specs.Image.{image, Sound, verdictsIn, hoursIn, unitOf, noticeOf, noticeAs, noNotice}
+use Rattle.session.specs.Image.{image, Sound, verdictsIn, hoursIn, unitOf, noticeOf, noticeAs, noNotice, noUnit}
 use Rattle.changes.specs.Changes.{withRegistry, registryTurn}
 use Rattle.session.specs.Steps.{said, isRefusal}
-use Rattle.session.specs.Parts.{numberIs, placeOf, Judges, Entered}
+use Rattle.session.specs.Parts.{numberIs, placeOf, Holds, Judges, Entered}
 use Rattle.notices.specs.Notices.{keptAs, notedAt}
 use Rattle.session.specs.declared.Session.{Session}
 use Rattle.session.specs.declared.Unit.{Unit}
+use Rattle.session.specs.declared.Holder.{Holder}
 use Rattle.session.specs.declared.Judged.the-variants.{No, Clear}
 use Rattle.session.proofs.LaidLaws.{length-counted, any-counted, pad-counted}
 use Rattle.session.proofs.PlaceLaws.{Once}
@@ -125,8 +126,8 @@ count-of-hours b n count es o =
     let k = not-false (eqb (length (counted count es)) (B.hours b)) (all-head (all-tail (accepted-rows _ o))) in
     omega (arith, eqb-true (length (counted count es)) (B.hours b) k, length-counted count es, hours-most (b .date))
 
--- a notice at the unit's place
-pub available-entered : (s : Session) (n count : ℕ) (es : List ℕ) (d : Unit) (p : ℕ) → p ≡ placeOf (numberIs n) (take (s .enrolled) (s .units)) → p < s .enrolled
+-- a notice at a unit's place
+available-entered : (s : Session) (n count : ℕ) (es : List ℕ) (d : Unit) (p : ℕ) → p ≡ placeOf (numberIs n) (take (s .enrolled) (s .units)) → p < s .enrolled
     → Entered s (D.available n (counted count es)) (registryTurn s (notedAt s p (getD (s .units) p d) count es))
 unfolding said isRefusal D.reply D.rowsOf
 available-entered s n count es d p at h = record {
@@ -140,3 +141,8 @@ available-entered s n count es d p at h = record {
       };
   fine = refl;
 }
+
+-- and at that of the unit found
+pub available-held : (s : Session) (n count : ℕ) (es : List ℕ) (u : Holder) → Holds (s .units) (s .enrolled) n u → u .at < s .enrolled
+    → Entered s (D.available n (counted count es)) (registryTurn s (notedAt s (u .at) (u .unit) count es))
+available-held s n count es u held h = rw (held .unit h) (available-entered s n count es noUnit (u .at) (held .place) h)

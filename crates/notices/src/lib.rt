@@ -24,7 +24,7 @@ use session::Session;
 use session::Turn;
 use session::Unit;
 use session::units::bad_number;
-use session::units::place;
+use session::units::holder_of;
 
 // Row 5: one of `count` energies is above the limit.
 pub fn bad_energies(count: usize, energies: [u32; 25]) -> bool
@@ -123,14 +123,13 @@ pub fn available_change(s: Session, number: u32, count: usize, energies: [u32; 2
         return registry_refused(s, GATE, 0);
     }
     let units = s.units;
-    let at = place(units, s.enrolled, number);
+    let holder = holder_of(units, s.enrolled, number);
+    let at = holder.at;
+    let unit = holder.unit;
     let j = judge_available(s, at, number, count, energies);
     match j {
         Judged::No(row, hour) => registry_refused(s, row, hour),
-        Judged::Clear => {
-            let unit = units[at];
-            note_available(s, at, unit, count, energies)
-        }
+        Judged::Clear => note_available(s, at, unit, count, energies),
     }
 }
 

@@ -1,16 +1,18 @@
 -- What the parts of a call promise to each other: of use inside the crates of the session only.
-use Prim.Native.Nat.{ℕ, suc, _≤_}
+use Prim.Native.Nat.{ℕ, suc, _≤_, _<_}
 use mathlib.Core.Path.{_≡_}
 use mathlib.Core.Bool.{Bool, false, cond, _&&_}
 use mathlib.Core.List.{List, [], _∷_}
 use mathlib.Core.Option.{Option, some, none}
 use lib.Dec.{leb, eqb}
+use lib.ListN.{take, getD}
 use Rattle.rules.specs.Refusals.{Row, firstRow}
 use Rattle.rules.specs.Book.{Book}
 use Rattle.rules.specs.DayBook as D
-use Rattle.session.specs.Image.{image, Sound}
+use Rattle.session.specs.Image.{image, Sound, noUnit}
 use Rattle.session.specs.Steps.{As, isRefusal}
 use Rattle.session.specs.declared.Unit.{Unit}
+use Rattle.session.specs.declared.Holder.{Holder}
 use Rattle.session.specs.declared.Session.{Session}
 use Rattle.session.specs.declared.Answer.the-variants.{Refused}
 use Rattle.session.specs.declared.Judged.{Judged}
@@ -55,3 +57,9 @@ placeOf p (x ∷ xs) = cond (p x) 0 (suc (placeOf p xs))
 
 abbrev pub numberIs : ℕ → Unit → Bool
 numberIs n u = eqb (u .number) n
+
+-- the unit of a number among the first n: its place, or behind the last, and what stands there
+pub record Holds (units : List Unit) (n number : ℕ) (h : Holder) : Type 0 where
+  pub place : h .at ≡ placeOf (numberIs number) (take n units)
+  pub most : h .at ≤ n
+  pub unit : h .at < n → h .unit ≡ getD units (h .at) noUnit

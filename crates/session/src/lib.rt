@@ -96,6 +96,12 @@ pub struct Session {
     pub figures: [Cleared; 25],
 }
 
+// The unit of a number, found once for all that ask about it: its place, behind the last where there is none, and what stands there.
+pub struct Holder {
+    pub at: usize,
+    pub unit: Unit,
+}
+
 // What the gate says: a refusal has the table's number and an hour, 0 where the table gives none.
 pub enum Answer {
     Refused(u32, u32),

@@ -2,11 +2,12 @@
 ghost use mathlib.Core.Path.{_≡_};
 ghost use Prim.Native.Nat.{_≤_, _<_};
 ghost use lib.ListN.{take};
-ghost use Rattle.rules.specs.Lists.{any};
 ghost use Rattle.rules.specs.Units.{badNumber};
-ghost use Rattle.session.specs.Parts.{numberIs, placeOf};
+ghost use Rattle.session.specs.Parts.{numberIs, placeOf, Holds};
+use crate::Holder;
 use crate::Session;
 use crate::Unit;
+use crate::no_unit;
 
 // Numbers of units and agents are 1 to 65,535.
 pub fn bad_number(n: u32) -> bool
@@ -18,24 +19,26 @@ pub fn bad_number(n: u32) -> bool
     Session::MAX_NUMBER < n
 }
 
-// The place of the unit with this number among the first n, or n.
-pub fn place(units: [Unit; 64], n: usize, number: u32) -> usize
+// The unit with this number among the first n.
+pub fn holder_of(units: [Unit; 64], n: usize, number: u32) -> Holder
     requires { ⌜ n ≤ 64 ⌝ }
-    ensures { λ r. ⌜ (r ≡ placeOf (numberIs number) (take n units)) × (r ≤ n) ⌝ }
+    ensures { λ r. ⌜ Holds units n number r ⌝ }
 {
     for i in 0..n {
         let u = units[i];
         if u.number == number {
-            return i;
+            return Holder { at: i, unit: u };
         }
     }
-    n
+    let unit = no_unit();
+    Holder { at: n, unit: unit }
 }
 
-// Whether one of the first n units has this number.
-pub fn is_registered(units: [Unit; 64], n: usize, number: u32) -> bool
+// Its place, or n.
+pub fn place(units: [Unit; 64], n: usize, number: u32) -> usize
     requires { ⌜ n ≤ 64 ⌝ }
-    ensures { λ r. ⌜ r ≡ any (numberIs number) (take n units) ⌝ }
+    ensures { λ r. ⌜ (r ≡ placeOf (numberIs number) (take n units)) × (r ≤ n) ⌝ }
 {
-    place(units, n, number) < n
+    let holder = holder_of(units, n, number);
+    holder.at
 }

@@ -1,56 +1,12 @@
-use Prim.Native.Nat.{_≤_, _-_}
-use mathlib.Core.Path.{_≡_, sym, _∙_}
-use native.Mathlib.Omega.{arith}
-use lib.ListN.{take}
-use borrow.Author.Tests.{eq-eqb, ne-eqb}
-use Rattle.session.specs.Image.{noUnit}
-use Rattle.session.specs.Parts.{numberIs, placeOf}
-use Rattle.session.proofs.PlaceLaws.{reach, reach-start, reach-here, reach-next, reach-end}
 use borrow.Author.Needs.{needs}
 use Rattle.session.proofs.units.place.Statement.{statement}
 use Rattle.session.proofs.units.place.Tie as tie
 
-abbrev Inv-loop : tie.InvT-loop
-Inv-loop n number units i₀ i = (i ≤ n) × (reach (numberIs number) units n i ≡ placeOf (numberIs number) (take n units))
+holder-of-requires : tie.Need-holder-of-requires
+holder-of-requires c κs = search needs
 
-abbrev μ-loop : tie.MeasureT-loop
-μ-loop n number units i₀ i = n - i
-
-loop-holds : tie.Need-loop-holds Inv-loop μ-loop
-loop-holds c = (omega arith, reach-start _ _ _)
-
-mul-u : tie.Need-mul-u Inv-loop μ-loop
-mul-u c = search needs
-
-array-copy-out-u : tie.Need-array-copy-out-u Inv-loop μ-loop
-array-copy-out-u c = search needs
-
-returns : tie.Need-returns Inv-loop μ-loop
-returns c = (sym (reach-here _ noUnit _ _ _ (omega arith) (omega arith) (eq-eqb _ _ (c .if1 .taken))) ∙ c .before .before .before .before .loop .inv .1, omega arith)
-
-add-i : tie.Need-add-i Inv-loop μ-loop
-add-i c = search needs
-
-loop-less : tie.Need-loop-less Inv-loop μ-loop
-loop-less c = search needs
-
-loop-again : tie.Need-loop-again Inv-loop μ-loop
-loop-again c = (omega arith, sym (reach-next _ noUnit _ _ _ (omega arith) (omega arith) (ne-eqb _ _ (c .if1 .left))) ∙ c .before .before .before .before .loop .inv .1)
-
-returns-2 : tie.Need-returns-2 Inv-loop μ-loop
-returns-2 c = (sym (reach-end _ _ _ _ (omega arith) (omega arith)) ∙ c .before .loop .inv .1, omega arith)
+returns : tie.Need-returns
+returns c = (c .holder-of .ensures .place, c .holder-of .ensures .most)
 
 pub place-spec : {M : Type 1} → statement M
-place-spec =
-    tie.close
-    (tie.spec
-    Inv-loop
-    μ-loop
-    loop-holds
-    mul-u
-    array-copy-out-u
-    returns
-    add-i
-    loop-less
-    loop-again
-    returns-2)
+place-spec = tie.close (tie.spec holder-of-requires returns)
