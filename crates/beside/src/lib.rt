@@ -24,7 +24,7 @@ fn is_beside(lodgements: [Lodgement; 128], n: usize, key: Key, l: Lodgement) -> 
     !is_hidden(lodgements, n, k)
 }
 
-// A mark at the place of each that is counted, and whether there is any: mostly there is none.
+// A mark at the place of each that is counted, and whether there is any.
 pub struct Marks {
     pub at: [bool; 128],
     pub some: bool,

@@ -1,5 +1,4 @@
 // Closing: "closing gives each standing one its verdict".
-ghost use mathlib.Core.Path.{_≡_};
 ghost use Rattle.rules.specs.DayBook.{close};
 ghost use Rattle.session.specs.Steps.{Met};
 ghost use Rattle.session.specs.Parts.{Within, Entered};

@@ -16,7 +16,7 @@ use session::Session;
 use session::units::bad_number;
 use session::units::place;
 
-// The place of a unit among the registered ones, or their number. Any place is one of a session that the guard rejects.
+// The place of a unit among the registered ones, or their number. Of a session that the guard refuses, any place will do.
 fn unit_at(s: Session, unit: u32) -> usize
     ensures { λ r. ⌜ UnitFound s unit r ⌝ }
 {

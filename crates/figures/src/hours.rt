@@ -7,7 +7,6 @@ use questions::Numbers;
 use questions::STDOUT;
 use questions::put;
 use questions::put_number;
-ghost use mathlib.Core.Path.{_≡_};
 ghost use Prim.Native.Nat.{_≤_, _<_};
 
 // Whether a line gives a part of an hour, or ends it.

@@ -17,7 +17,6 @@
 use hour::Hour;
 use questions::answer_plain;
 use questions::numbers_of;
-ghost use mathlib.Core.Path.{_≡_};
 ghost use Prim.Native.Nat.{_≤_, _<_};
 ghost use lib.ListN.{length};
 

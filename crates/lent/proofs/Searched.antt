@@ -1,5 +1,5 @@
--- A number looked for among the first elements of a session's array, whichever array: a walk of its MIR, by hand. The borrow is read: a loop reads the number of one element after the other where it lies, and the place
--- where it ends is what `reach` says.
+-- A number looked for among the first elements of a session's array, whichever array: a walk of its MIR, by hand. The borrow is read:
+-- a loop reads the number of one element after the other where it lies, and the place where it ends is what `reach` says.
 -- Assumes nothing.
 use mathlib.Core.Path.{_≡_, refl, sym, _∙_}
 use Prim.Native.Nat.{ℕ, zero, _+_, _-_, _*_, _<_, _≤_, _^_}

@@ -67,7 +67,7 @@ pub fn settle_clearing(s: &mut Session, t: DayCleared) -> Response
     t.response
 }
 
-// The place of a unit among the registered ones, or their number. Any place is one of a session that the guard rejects.
+// The place of a unit among the registered ones, or their number. Of a session that the guard refuses, any place will do.
 pub fn unit_at(s: &Session, unit: u32) -> usize
     ensures { λ r. ⌜ UnitFound (now (s .entry)) unit r ⌝ }
 {
@@ -85,7 +85,7 @@ pub fn unit_at(s: &Session, unit: u32) -> usize
     n
 }
 
-// The place of a lodging number among the standing ones, or their number. Any place is one of a session that the guard rejects.
+// The place of a lodging number among the standing ones, or their number. Of a session that the guard refuses, any place will do.
 pub fn lodged_at(s: &Session, number: u32) -> usize
     ensures { λ r. ⌜ LodgedFound (now (s .entry)) number r ⌝ }
 {

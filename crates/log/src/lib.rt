@@ -1,11 +1,9 @@
 // The call log: calls on a session as bytes, so that a day can be kept, sent and run again (the record of a call is ours, not
 // document 01's; docs/LOG.md says it byte by byte).
 ghost use mathlib.Core.Path.{_≡_};
-ghost use mathlib.Core.List.{map};
 ghost use Prim.Native.Nat.{_≤_, min};
 ghost use Rattle.session.specs.Steps.{said};
 ghost use Rattle.bits.specs.Bits.{wordAt};
-ghost use Rattle.rules.specs.Lists.{from};
 ghost use Rattle.session.specs.Image.{unitIn, keyIn, publishedIn, capacitiesIn};
 ghost use Rattle.log.specs.Calls.{markAt, numbersAt, unitOf, keyOf, directionAt, directionsOf, isCall, answerWord};
 use bits::byte_at;

@@ -4,7 +4,7 @@ use matching::Order;
 ghost use mathlib.Core.Path.{_≡_};
 ghost use mathlib.Core.Bool.{Bool};
 ghost use mathlib.Core.List.{List, map};
-ghost use Prim.Native.Nat.{ℕ, _≤_, _<_};
+ghost use Prim.Native.Nat.{ℕ, _≤_};
 ghost use lib.ListN.{getD, length};
 ghost use Rattle.rules.specs.Units.{maxEnergy};
 ghost use Rattle.rules.specs.Borders.{Execution};

@@ -1,9 +1,8 @@
 // What a message's fields are refused for: 4 and 5 of the table.
 use super::Fields;
 ghost use mathlib.Core.Path.{_≡_};
-ghost use mathlib.Core.Bool.{_||_, not, cond};
-ghost use Prim.Native.Nat.{_+_, _≤_, _<_};
-ghost use lib.Dec.{eqb, ltb};
+ghost use mathlib.Core.Bool.{_||_};
+ghost use Prim.Native.Nat.{_≤_, _<_};
 ghost use Rattle.rules.specs.Lists.{any, from};
 ghost use Rattle.rules.specs.Units.{badNumber};
 ghost use Rattle.rules.specs.Message.{badMap, badContract, badHour, badFields, names, topPrice};

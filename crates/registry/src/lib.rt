@@ -66,6 +66,7 @@ fn same_border_side(u: Unit, v: Unit) -> bool
     u.purchase == v.purchase
 }
 
+// Whether one of two holds.
 fn either(a: bool, b: bool) -> bool
     ensures { λ r. ⌜ r ≡ (a || b) ⌝ }
 {
@@ -75,14 +76,14 @@ fn either(a: bool, b: bool) -> bool
     b
 }
 
-// What the first n units have against u: row 7, one of its number; row 8, one of its agent, border and side. Both in one pass,
-// since a pass copies the units.
-struct Against {
+// Whether one of the first n units refuses u: `taken`, it has its number (row 7); `second`, it has its agent, border and side (row 8).
+// Both in one pass, since a pass copies the units.
+struct Found {
     taken: bool,
     second: bool,
 }
 
-fn clash(units: [Unit; 64], n: usize, u: Unit) -> Against
+fn refusing(units: [Unit; 64], n: usize, u: Unit) -> Found
     requires { ⌜ n ≤ 64 ⌝ }
     ensures { λ r. ⌜ (r .taken ≡ any (numberIs (u .number)) (take n units)) × (r .second ≡ any (besideUnit u) (take n units)) ⌝ }
 {
@@ -95,7 +96,7 @@ fn clash(units: [Unit; 64], n: usize, u: Unit) -> Against
         let beside = same_border_side(u, v);
         second = either(second, beside);
     }
-    Against { taken, second }
+    Found { taken, second }
 }
 
 // The refusal that applies to registering u.
@@ -111,7 +112,7 @@ fn judge_register(s: Session, u: Unit) -> Judged
     }
     let units = s.units;
     let n = s.enrolled;
-    let found = clash(units, n, u);
+    let found = refusing(units, n, u);
     if found.taken {
         return Judged::No(TAKEN, 0);
     }

@@ -7,7 +7,6 @@ ghost use Rattle.verdicts.specs.Parts.{LodgedFound, verdictAt};
 ghost use Rattle.energies.specs.Parts.{UnitFound};
 ghost use Rattle.maxima.specs.Parts.{capacityIn};
 ghost use Rattle.replies.specs.Told.{AnsweredAs};
-use queries::Reply;
 use session::Cleared;
 use session::Notice;
 use session::Session;

@@ -1,4 +1,4 @@
--- What a call promises, from the contract under it.
+-- What a call of `response` promises, from the contract of the call by value.
 use Prim.Native.Nat.{_<_}
 use mathlib.Core.Path.{_≡_, refl, sym, _∙_, ap, subst}
 use mathlib.Core.Bool.{true}

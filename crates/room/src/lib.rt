@@ -1,8 +1,8 @@
 // The room under the ceilings, by unit and hour: what is accepted on a unit takes of it.
 ghost use mathlib.Core.Path.{_≡_};
 ghost use mathlib.Core.Bool.{true};
-ghost use Prim.Native.Nat.{ℕ, _+_, _*_, _<_, _≤_};
-ghost use lib.ListN.{getD, length};
+ghost use Prim.Native.Nat.{_+_, _*_, _<_, _≤_};
+ghost use lib.ListN.{length};
 ghost use Rattle.ceilings.specs.Ceilings.{RowAt};
 ghost use Rattle.room.specs.Room.{leftAt, Fits, Admitted};
 

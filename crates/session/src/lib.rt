@@ -96,7 +96,7 @@ pub struct Session {
     pub figures: [Cleared; 25],
 }
 
-// The unit of a number, found once for all that ask about it: its place, behind the last where there is none, and what stands there.
+// The unit of a number, found once for all that ask about it: its place and itself; behind the last and blank where there is none.
 pub struct Holder {
     pub at: usize,
     pub unit: Unit,

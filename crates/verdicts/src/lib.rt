@@ -42,7 +42,7 @@ fn told(v: Verdict) -> Reply
     Reply::Limit(v.limit, v.hour)
 }
 
-// The place of a lodging number among the standing ones, or their number. Any place is one of a session that the guard rejects.
+// The place of a lodging number among the standing ones, or their number. Of a session that the guard refuses, any place will do.
 fn standing_at(s: Session, number: u32) -> usize
     ensures { λ r. ⌜ LodgedFound s number r ⌝ }
 {

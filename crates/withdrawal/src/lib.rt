@@ -22,8 +22,8 @@ pub struct Ended {
     pub volume: u32,
 }
 
-// One step, of the directions with an excess above 0, and the volume after it. `at` lists the places of the offers at a border, whom alone
-// 1. to 4. concern. 5. "Match again."
+// One step, of the directions with an excess above 0, and the volume after it. `at` lists the places of the offers at a border: they
+// alone keep less, set a price and give way; C and V′ are of all. 5. "Match again."
 pub fn step<'a>(
     offered: &mut [u32; 128],
     matched: &mut [u32; 128],

@@ -16,31 +16,24 @@ Inv-loop a n s₀ i₀ s i = (i ≤ n) × (s ≤ 99999 * i) × (s + sum (vals a 
 abbrev μ-loop : tie.MeasureT-loop
 μ-loop a n s₀ i₀ s i = n - i
 
--- src/lib.rt:48:5
 loop-holds : tie.Need-loop-holds Inv-loop μ-loop
 loop-holds c = search needs
 
--- src/lib.rt:49:14
 mul-s : tie.Need-mul-s Inv-loop μ-loop
 mul-s c = search needs
 
--- src/lib.rt:49:14
 element-copy-out-s : tie.Need-element-copy-out-s Inv-loop μ-loop
 element-copy-out-s c = search needs
 
--- src/lib.rt:49:9
 add-s : tie.Need-add-s Inv-loop μ-loop
 add-s c = omega (arith, c .before .before .before .pre .1 (c .before .before .loop .i))
 
--- src/lib.rt:48:9
 add-i : tie.Need-add-i Inv-loop μ-loop
 add-i c = search needs
 
--- src/lib.rt:48:5
 loop-less : tie.Need-loop-less Inv-loop μ-loop
 loop-less c = search needs
 
--- src/lib.rt:48:5
 loop-again : tie.Need-loop-again Inv-loop μ-loop
 loop-again c =
     let l = c .before .before .loop in
@@ -48,7 +41,6 @@ loop-again c =
     let k = c .before .before .before .pre .1 (l .i) in
     (omega arith, omega arith, omega (arith, total-next (a .a .now) (l .i) (a .n) (omega arith)))
 
--- src/lib.rt:43:1
 returns : tie.Need-returns Inv-loop μ-loop
 returns c = (omega (arith, total-end (c .before .before .args .a .now) (c .before .loop .i) (c .before .before .args .n) (omega arith)), omega arith)
 

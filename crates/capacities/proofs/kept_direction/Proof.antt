@@ -3,20 +3,16 @@ use borrow.Author.Needs.{needs}
 use Rattle.capacities.proofs.kept_direction.Statement.{statement}
 use Rattle.capacities.proofs.kept_direction.Tie as tie
 
--- src/capacities.rt:76:9
 kept-notice-requires : tie.Need-kept-notice-requires
 kept-notice-requires c κs = search needs
 
--- src/capacities.rt:76:9
 returns : tie.Need-returns
 unfolding directionAs
 returns c = rw (c .before .before .if1 .taken) (c .kept-notice .ensures)
 
--- src/capacities.rt:78:5
 no-notice-requires : tie.Need-no-notice-requires
 no-notice-requires c κs = search needs
 
--- src/capacities.rt:71:1
 returns-2 : tie.Need-returns-2
 unfolding directionAs
 returns-2 c = rw (c .before .if1 .left) (c .no-notice .ensures)

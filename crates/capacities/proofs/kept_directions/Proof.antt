@@ -15,47 +15,36 @@ Inv-loop ps next₀ i₀ next i = (i ≤ 8) × (length next ≡ 8) × (take i ne
 abbrev μ-loop : tie.MeasureT-loop
 μ-loop ps next₀ i₀ next i = 8 - i
 
--- src/capacities.rt:85:9
 no-notice-requires : tie.Need-no-notice-requires Inv-loop μ-loop
 no-notice-requires c κs = search needs
 
--- src/capacities.rt:87:5
 loop-holds : tie.Need-loop-holds Inv-loop μ-loop
 loop-holds c = (omega arith, refl, refl)
 
--- src/capacities.rt:88:17
 mul-p : tie.Need-mul-p Inv-loop μ-loop
 mul-p c = search needs
 
--- src/capacities.rt:88:17
 array-copy-out-p : tie.Need-array-copy-out-p Inv-loop μ-loop
 array-copy-out-p c = search needs
 
--- src/capacities.rt:89:13
 kept-direction-requires : tie.Need-kept-direction-requires Inv-loop μ-loop
 kept-direction-requires c κs = search needs
 
--- src/capacities.rt:90:9
 mul-next : tie.Need-mul-next Inv-loop μ-loop
 mul-next c = search needs
 
--- src/capacities.rt:90:9
 array-set-from-next : tie.Need-array-set-from-next Inv-loop μ-loop
 array-set-from-next c = search needs
 
--- src/capacities.rt:87:9
 add-i : tie.Need-add-i Inv-loop μ-loop
 add-i c = search needs
 
--- src/capacities.rt:87:5
 loop-less : tie.Need-loop-less Inv-loop μ-loop
 loop-less c = search needs
 
--- src/capacities.rt:87:5
 loop-again : tie.Need-loop-again Inv-loop μ-loop
 loop-again c = (omega arith, (simp length-set) ∙ c .before .before .before .loop .inv .1, rw (c .kept-direction .ensures) (fill-next directionAs barePublished (c .before .before .before .before .before .args .t1) (c .before .before .before .loop .next) (c .before .before .before .loop .i) (omega arith) (omega arith) (c .before .before .before .loop .inv .2)))
 
--- src/capacities.rt:82:1
 returns : tie.Need-returns Inv-loop μ-loop
 returns c = fill-end directionAs (c .before .before .before .args .t1) (c .before .loop .next) (c .before .loop .i) (omega arith) (omega arith) (c .before .loop .inv .2)
 

@@ -7,20 +7,16 @@ use Rattle.ceilings.proofs.ceiling_at.Reads as reads
 use Rattle.ceilings.proofs.ceiling_at.Lts as lts
 use Rattle.arrays.proofs.lower.Reads as lower-reads
 
--- src/lib.rt:69:9
 lower-requires : tie.Need-lower-requires
 lower-requires c κs = search needs
 
--- src/lib.rt:71:9
 returns : tie.Need-returns
 unfolding ceilingBy
 returns c = rw (not-true (c .before .before .args .given) (c .if1 .taken)) (c .before .lower .ensures)
 
--- src/lib.rt:73:5
 lower-requires-2 : tie.Need-lower-requires-2
 lower-requires-2 c κs = search needs
 
--- src/lib.rt:66:1
 returns-2 : tie.Need-returns-2
 unfolding ceilingBy
 returns-2 c = rw (not-false (c .before .before .before .args .given) (c .before .if1 .left), ← (c .before .before .lower .ensures)) (c .lower2 .ensures)

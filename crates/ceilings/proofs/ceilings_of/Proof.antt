@@ -24,43 +24,33 @@ Inv-loop n units notices lines ceilings₀ p₀ ceilings p = (p ≤ n) × (lengt
 abbrev μ-loop : tie.MeasureT-loop
 μ-loop n units notices lines ceilings₀ p₀ ceilings p = n - p
 
--- src/lib.rt:88:17
 lines-of-requires : tie.Need-lines-of-requires Inv-loop μ-loop
 lines-of-requires c κs = search needs
 
--- src/lib.rt:90:5
 loop-holds : tie.Need-loop-holds Inv-loop μ-loop
 loop-holds c = (omega arith, refl, rows-start _ _, λ k i. absurd (omega arith))
 
--- src/lib.rt:91:17
 mul-u : tie.Need-mul-u Inv-loop μ-loop
 mul-u c = search needs
 
--- src/lib.rt:91:17
 array-copy-out-u : tie.Need-array-copy-out-u Inv-loop μ-loop
 array-copy-out-u c = search needs
 
--- src/lib.rt:92:22
 mul-notice : tie.Need-mul-notice Inv-loop μ-loop
 mul-notice c = search needs
 
--- src/lib.rt:92:22
 array-copy-out-notice : tie.Need-array-copy-out-notice Inv-loop μ-loop
 array-copy-out-notice c = search needs
 
--- src/lib.rt:93:9
 lay-unit-requires : tie.Need-lay-unit-requires Inv-loop μ-loop
 lay-unit-requires c κs = search needs
 
--- src/lib.rt:90:9
 add-p : tie.Need-add-p Inv-loop μ-loop
 add-p c = search needs
 
--- src/lib.rt:90:5
 loop-less : tie.Need-loop-less Inv-loop μ-loop
 loop-less c = search needs
 
--- src/lib.rt:90:5
 loop-again : tie.Need-loop-again Inv-loop μ-loop
 unfolding laidAt
 loop-again c =
@@ -68,7 +58,6 @@ loop-again c =
     let a = c .before .before .before .before .before .before .before .before .args in
     (omega arith, c .lay-unit .ensures .0, rows-next (laidAt (a .t1) (a .t2) (c .before .before .before .before .before .before .before .lines-of .result)) (s .p) _ (s .ceilings) _ (c .lay-unit .ensures .1) (λ h. refl) (s .inv .2), below-more _ _ (s .inv .3) (c .lay-unit .ensures .2))
 
--- src/lib.rt:84:1
 returns : tie.Need-returns Inv-loop μ-loop
 returns c = λ p h i k. rows-end _ _ _ _ (omega arith) (c .before .loop .inv .2) p h i k ∙ laid-as (c .before .before .before .args .t1) (c .before .before .before .args .t2) (c .before .before .before .args .capacities) (c .before .before .lines-of .result) (c .before .loop .p) p h (c .before .loop .inv .3) (omega arith) (omega arith) k (c .before .before .lines-of .ensures)
 

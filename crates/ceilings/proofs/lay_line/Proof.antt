@@ -17,47 +17,36 @@ Inv-loop lines₀ border limit h₀ lines h = (h ≤ 25) × (length lines ≡ 12
 abbrev μ-loop : tie.MeasureT-loop
 μ-loop lines₀ border limit h₀ lines h = 25 - h
 
--- src/lib.rt:37:5
 loop-holds : tie.Need-loop-holds Inv-loop μ-loop
 loop-holds c = (omega arith, omega arith, row-start _ _ _)
 
--- src/lib.rt:38:57
 mul-line-at : tie.Need-mul-line-at Inv-loop μ-loop
 mul-line-at c = search needs
 
--- src/lib.rt:38:57
 element-copy-out-line-at : tie.Need-element-copy-out-line-at Inv-loop μ-loop
 element-copy-out-line-at c = search needs
 
--- src/lib.rt:38:34
 line-at-requires : tie.Need-line-at-requires Inv-loop μ-loop
 line-at-requires c κs = search needs
 
--- src/lib.rt:38:15
 mul-lines : tie.Need-mul-lines Inv-loop μ-loop
 mul-lines c = search needs
 
--- src/lib.rt:38:15
 add-lines : tie.Need-add-lines Inv-loop μ-loop
 add-lines c = search needs
 
--- src/lib.rt:38:9
 mul-lines-2 : tie.Need-mul-lines-2 Inv-loop μ-loop
 mul-lines-2 c = search needs
 
--- src/lib.rt:38:9
 element-write-lines : tie.Need-element-write-lines Inv-loop μ-loop
 element-write-lines c = search needs
 
--- src/lib.rt:37:9
 add-h : tie.Need-add-h Inv-loop μ-loop
 add-h c = search needs
 
--- src/lib.rt:37:5
 loop-less : tie.Need-loop-less Inv-loop μ-loop
 loop-less c = search needs
 
--- src/lib.rt:37:5
 loop-again : tie.Need-loop-again Inv-loop μ-loop
 unfolding lineIn
 loop-again c =
@@ -65,7 +54,6 @@ loop-again c =
     let a = c .before .before .before .before .args in
     (omega arith, (simp length-set) ∙ s .inv .1, row-next (a .border) (lineIn (a .t3)) (a .lines .now) (s .lines) (s .h) (c .line-at .result) (omega arith) (c .line-at .ensures) (s .inv .2))
 
--- src/lib.rt:33:1
 returns : tie.Need-returns Inv-loop μ-loop
 returns c =
     let s = c .before .loop in

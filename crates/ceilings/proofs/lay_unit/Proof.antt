@@ -18,67 +18,51 @@ Inv-loop ceilings₀ p u lines notice row h₀ ceilings h = (h ≤ 25) × (lengt
 abbrev μ-loop : tie.MeasureT-loop
 μ-loop ceilings₀ p u lines notice row h₀ ceilings h = 25 - h
 
--- src/lib.rt:81:9
 line-row-requires : tie.Need-line-row-requires Inv-loop μ-loop
 line-row-requires c κs = search needs
 
--- src/lib.rt:82:5
 loop-holds : tie.Need-loop-holds Inv-loop μ-loop
 loop-holds c = (omega arith, omega arith, row-start _ _ _)
 
--- src/lib.rt:83:68
 mul-ceiling-at : tie.Need-mul-ceiling-at Inv-loop μ-loop
 mul-ceiling-at c = search needs
 
--- src/lib.rt:83:68
 element-copy-out-ceiling-at : tie.Need-element-copy-out-ceiling-at Inv-loop μ-loop
 element-copy-out-ceiling-at c = search needs
 
--- src/lib.rt:83:94
 mul-ceiling-at-2 : tie.Need-mul-ceiling-at-2 Inv-loop μ-loop
 mul-ceiling-at-2 c = search needs
 
--- src/lib.rt:83:94
 add-ceiling-at : tie.Need-add-ceiling-at Inv-loop μ-loop
 add-ceiling-at c = search needs
 
--- src/lib.rt:83:88
 mul-ceiling-at-3 : tie.Need-mul-ceiling-at-3 Inv-loop μ-loop
 mul-ceiling-at-3 c = search needs
 
--- src/lib.rt:83:88
 element-copy-out-ceiling-at-2 : tie.Need-element-copy-out-ceiling-at-2 Inv-loop μ-loop
 element-copy-out-ceiling-at-2 c = search needs
 
--- src/lib.rt:83:32
 ceiling-at-requires : tie.Need-ceiling-at-requires Inv-loop μ-loop
 ceiling-at-requires c κs = search needs
 
--- src/lib.rt:83:18
 mul-ceilings : tie.Need-mul-ceilings Inv-loop μ-loop
 mul-ceilings c = search needs
 
--- src/lib.rt:83:18
 add-ceilings : tie.Need-add-ceilings Inv-loop μ-loop
 add-ceilings c = search needs
 
--- src/lib.rt:83:9
 mul-ceilings-2 : tie.Need-mul-ceilings-2 Inv-loop μ-loop
 mul-ceilings-2 c = search needs
 
--- src/lib.rt:83:9
 element-write-ceilings : tie.Need-element-write-ceilings Inv-loop μ-loop
 element-write-ceilings c = search needs
 
--- src/lib.rt:82:9
 add-h : tie.Need-add-h Inv-loop μ-loop
 add-h c = search needs
 
--- src/lib.rt:82:5
 loop-less : tie.Need-loop-less Inv-loop μ-loop
 loop-less c = search needs
 
--- src/lib.rt:82:5
 loop-again : tie.Need-loop-again Inv-loop μ-loop
 unfolding ceilingIn
 loop-again c =
@@ -86,7 +70,6 @@ loop-again c =
     let a = c .before .before .before .before .before .before .args in
     (omega arith, (simp length-set) ∙ s .inv .1, row-next (a .p) (ceilingIn (a .u) (a .t4) (a .lines .now)) (a .ceilings .now) (s .ceilings) (s .h) (c .ceiling-at .result) (omega arith) (rw (← (c .before .before .before .before .before .line-row .ensures .0)) (c .ceiling-at .ensures)) (s .inv .2))
 
--- src/lib.rt:77:1
 returns : tie.Need-returns Inv-loop μ-loop
 returns c =
     let s = c .before .loop in

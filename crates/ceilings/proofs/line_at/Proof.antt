@@ -7,21 +7,17 @@ use Rattle.ceilings.proofs.line_at.Tie as tie
 use Rattle.ceilings.proofs.line_at.Reads as reads
 use Rattle.ceilings.proofs.line_at.Lts as lts
 
--- src/lib.rt:24:9
 returns : tie.Need-returns
 unfolding lineBy
 returns c = rw (not-true (c .before .args .applies) (c .if1 .taken))
 
--- src/lib.rt:27:16
 cast-result : tie.Need-cast-result
 cast-result c = search needs
 
--- src/lib.rt:27:9
 returns-2 : tie.Need-returns-2
 unfolding lineBy
 returns-2 c = rw (not-false (c .before .before .args .applies) (c .before .if1 .left)) (omega arith)
 
--- src/lib.rt:20:1
 returns-3 : tie.Need-returns-3
 unfolding lineBy
 returns-3 c = rw (not-false (c .before .before .args .applies) (c .before .if1 .left)) (omega arith)

@@ -7,12 +7,10 @@ use Rattle.ceilings.proofs.line_row.Tie as tie
 use Rattle.ceilings.proofs.line_row.Reads as reads
 use Rattle.ceilings.proofs.line_row.Lts as lts
 
--- src/lib.rt:60:9
 returns : tie.Need-returns
 unfolding lineRow
 returns c = (rw (lt-ltb 4 (c .before .args .border) (c .if1 .taken)), omega arith)
 
--- src/lib.rt:56:1
 returns-2 : tie.Need-returns-2
 unfolding lineRow
 returns-2 c = (rw (le-ltb 4 (c .before .args .border) (omega arith)), omega arith)

@@ -19,31 +19,24 @@ Inv-loop capacities lines₀ b₀ lines b = (b ≤ 5) × (length lines ≡ 125) 
 abbrev μ-loop : tie.MeasureT-loop
 μ-loop capacities lines₀ b₀ lines b = 5 - b
 
--- src/lib.rt:47:5
 loop-holds : tie.Need-loop-holds Inv-loop μ-loop
 loop-holds c = (omega arith, refl, rows-start _ _)
 
--- src/lib.rt:48:22
 cast-border : tie.Need-cast-border Inv-loop μ-loop
 cast-border c = search needs
 
--- src/lib.rt:49:13
 border-limit-requires : tie.Need-border-limit-requires Inv-loop μ-loop
 border-limit-requires c κs = search needs
 
--- src/lib.rt:50:9
 lay-line-requires : tie.Need-lay-line-requires Inv-loop μ-loop
 lay-line-requires c κs = search needs
 
--- src/lib.rt:47:9
 add-b : tie.Need-add-b Inv-loop μ-loop
 add-b c = search needs
 
--- src/lib.rt:47:5
 loop-less : tie.Need-loop-less Inv-loop μ-loop
 loop-less c = search needs
 
--- src/lib.rt:47:5
 loop-again : tie.Need-loop-again Inv-loop μ-loop
 loop-again c =
     let s = c .before .before .before .before .loop in
@@ -51,7 +44,6 @@ loop-again c =
     let l = c .before .before .border-limit in
     (omega arith, c .lay-line .ensures .0, rows-next (lineAt cs) (s .b) (lineIn (l .result)) (s .lines) _ (c .lay-line .ensures .1) (λ h. line-as cs (s .b) (l .result) h (l .ensures (suc h))) (s .inv .2))
 
--- src/lib.rt:43:1
 returns : tie.Need-returns Inv-loop μ-loop
 returns c = rows-end _ _ _ _ (omega arith) (c .before .loop .inv .2)
 

@@ -11,35 +11,27 @@ use Rattle.holders.proofs.holders_of.Reads as holders-of-reads
 use Rattle.loads.proofs.loads_of.Reads as loads-of-reads
 use Rattle.session.proofs.no_verdict.Reads as no-verdict-reads
 
--- src/lib.rt:29:9
 no-verdict-requires : tie.Need-no-verdict-requires
 no-verdict-requires c κs = search needs
 
--- src/lib.rt:37:17
 loads-of-requires : tie.Need-loads-of-requires
 loads-of-requires c κs = search needs
 
--- src/lib.rt:38:19
 holders-of-requires : tie.Need-holders-of-requires
 holders-of-requires c κs = search needs
 
--- src/lib.rt:39:20
 ceilings-of-requires : tie.Need-ceilings-of-requires
 ceilings-of-requires c κs = search needs
 
--- src/lib.rt:40:9
 pass-requires : tie.Need-pass-requires
 pass-requires c κs = (c .before .before .before .before .before .before .before .before .before .before .before .before .before .pre, record { room = c .before .before .before .before .before .loads-of .ensures .0; energies = c .before .before .before .before .before .loads-of .ensures .1 }, record { at = c .before .before .before .before .holders-of .ensures .0; most = c .before .before .before .before .holders-of .ensures .1 }, omega arith)
 
--- src/lib.rt:41:9
 pass-requires-2 : tie.Need-pass-requires-2
 pass-requires-2 c κs = (c .before .before .before .before .before .before .before .before .before .before .before .before .before .before .before .before .before .pre, record { room = c .before .before .before .before .before .before .before .before .before .loads-of .ensures .0; energies = c .before .before .before .before .before .before .before .before .before .loads-of .ensures .1 }, record { at = c .before .before .before .before .before .before .before .before .holders-of .ensures .0; most = c .before .before .before .before .before .before .before .before .holders-of .ensures .1 }, c .before .before .before .pass .ensures .0)
 
--- src/lib.rt:42:5
 pass-requires-3 : tie.Need-pass-requires-3
 pass-requires-3 c κs = (c .before .before .before .before .before .before .before .before .before .before .before .before .before .before .before .before .before .before .before .before .before .pre, record { room = c .before .before .before .before .before .before .before .before .before .before .before .before .before .loads-of .ensures .0; energies = c .before .before .before .before .before .before .before .before .before .before .before .before .before .loads-of .ensures .1 }, record { at = c .before .before .before .before .before .before .before .before .before .before .before .before .holders-of .ensures .0; most = c .before .before .before .before .before .before .before .before .before .before .before .before .holders-of .ensures .1 }, c .before .before .before .pass2 .ensures .0)
 
--- src/lib.rt:25:1
 returns : tie.Need-returns
 returns c = close-entered (c .before .before .before .before .before .before .before .before .before .before .before .before .before .before .before .before .before .before .before .before .before .before .args .s) (c .before .before .before .before .before .before .before .before .before .before .before .before .before .before .before .before .before .before .before .before .before .no-verdict .result) (c .before .before .before .before .before .before .before .before .pass .result) (c .before .before .before .before .pass2 .result) (c .pass3 .result) (c .before .before .before .before .before .before .before .before .before .before .before .before .ceilings-of .result) _ _ _ (c .before .before .before .before .before .before .before .before .before .before .before .before .before .before .before .before .before .before .before .before .before .before .pre) (c .before .before .before .before .before .before .before .before .before .before .before .before .before .before .before .before .before .before .before .before .before .no-verdict .ensures) (c .before .before .before .before .before .before .before .before .before .before .before .before .ceilings-of .ensures) (c .before .before .before .before .before .before .before .before .pass .ensures .1) (c .before .before .before .before .pass2 .ensures .1) (c .pass3 .ensures .1) (omega arith)
 

@@ -17,46 +17,36 @@ Inv-loop numbers n firsts₀ i₀ firsts i = (i ≤ n) × (length firsts ≡ 256
 abbrev μ-loop : tie.MeasureT-loop
 μ-loop numbers n firsts₀ i₀ firsts i = i
 
--- src/lib.rt:43:5
 loop-holds : tie.Need-loop-holds Inv-loop μ-loop
 loop-holds c = (omega arith, refl, firsts-start _ _ (omega arith))
 
--- src/lib.rt:44:9
 sub-i : tie.Need-sub-i Inv-loop μ-loop
 sub-i c = search needs
 
--- src/lib.rt:45:22
 mul-number : tie.Need-mul-number Inv-loop μ-loop
 mul-number c = search needs
 
--- src/lib.rt:45:22
 element-copy-out-number : tie.Need-element-copy-out-number Inv-loop μ-loop
 element-copy-out-number c = search needs
 
--- src/lib.rt:46:19
 cast-end : tie.Need-cast-end Inv-loop μ-loop
 cast-end c = search needs
 
--- src/lib.rt:47:9
 mul-firsts : tie.Need-mul-firsts Inv-loop μ-loop
 mul-firsts c = search needs
 
--- src/lib.rt:47:9
 array-write-firsts : tie.Need-array-write-firsts Inv-loop μ-loop
 array-write-firsts c = search needs
 
--- src/lib.rt:43:5
 loop-less : tie.Need-loop-less Inv-loop μ-loop
 loop-less c = search needs
 
--- src/lib.rt:43:5
 loop-again : tie.Need-loop-again Inv-loop μ-loop
 loop-again c =
     let s = c .before .before .loop in
     let e : s .i - 1 + 1 ≡ s .i = omega arith in
     (omega arith, (simp length-set) ∙ s .inv .1, firsts-next _ _ (omega arith) (s .firsts) (s .i - 1) (omega arith) (s .inv .1) (rw e (s .inv .2)))
 
--- src/lib.rt:37:1
 returns : tie.Need-returns Inv-loop μ-loop
 returns c = (c .before .loop .inv .1, firsts-end _ _ (omega arith) (c .before .loop .firsts) (c .before .loop .i) (omega arith) (c .before .loop .inv .2))
 

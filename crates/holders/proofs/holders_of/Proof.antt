@@ -19,54 +19,42 @@ Inv-loop n m lodgements numbers firsts holders₀ j₀ holders j = (j ≤ m) × 
 abbrev μ-loop : tie.MeasureT-loop
 μ-loop n m lodgements numbers firsts holders₀ j₀ holders j = m - j
 
--- src/lib.rt:78:19
 numbers-of-requires : tie.Need-numbers-of-requires Inv-loop μ-loop
 numbers-of-requires c κs = search needs
 
--- src/lib.rt:79:18
 firsts-of-requires : tie.Need-firsts-of-requires Inv-loop μ-loop
 firsts-of-requires c κs = search needs
 
--- src/lib.rt:81:5
 loop-holds : tie.Need-loop-holds Inv-loop μ-loop
 loop-holds c = (omega arith, refl, λ k i. absurd (omega arith), most-start _ 128)
 
--- src/lib.rt:82:17
 mul-l : tie.Need-mul-l Inv-loop μ-loop
 mul-l c = search needs
 
--- src/lib.rt:82:17
 array-copy-out-l : tie.Need-array-copy-out-l Inv-loop μ-loop
 array-copy-out-l c = search needs
 
--- src/lib.rt:83:22
 place-by-requires : tie.Need-place-by-requires Inv-loop μ-loop
 place-by-requires c κs = search needs
 
--- src/lib.rt:83:9
 mul-holders : tie.Need-mul-holders Inv-loop μ-loop
 mul-holders c = search needs
 
--- src/lib.rt:83:9
 array-write-holders : tie.Need-array-write-holders Inv-loop μ-loop
 array-write-holders c = search needs
 
--- src/lib.rt:81:9
 add-j : tie.Need-add-j Inv-loop μ-loop
 add-j c = search needs
 
--- src/lib.rt:81:5
 loop-less : tie.Need-loop-less Inv-loop μ-loop
 loop-less c = search needs
 
--- src/lib.rt:81:5
 loop-again : tie.Need-loop-again Inv-loop μ-loop
 unfolding foundAt
 loop-again c =
     let s = c .before .before .before .before .before .loop in
     (omega arith, (simp length-set) ∙ s .inv .1, written-next (foundAt (c .before .before .before .before .before .before .before .before .numbers-of .result) (c .before .before .before .before .before .before .before .before .before .args .n) (c .before .before .before .before .before .before .before .before .before .args .t3)) (s .holders) (s .j) (c .place-by .result) (omega arith) (c .place-by .ensures .0) (s .inv .2), most-set _ (s .holders) (s .j) (c .place-by .result) (omega arith) (c .place-by .ensures .1) (s .inv .3))
 
--- src/lib.rt:69:1
 returns : tie.Need-returns Inv-loop μ-loop
 returns c = (λ j i. c .before .loop .inv .2 j (omega arith) ∙ found-as (c .before .before .before .before .before .args .units) _ _ j _ (c .before .before .before .before .numbers-of .ensures), c .before .loop .inv .3)
 

@@ -18,42 +18,33 @@ Inv-loop units numbers₀ i₀ numbers i = (i ≤ 64) × (length numbers ≡ 64)
 abbrev μ-loop : tie.MeasureT-loop
 μ-loop units numbers₀ i₀ numbers i = 64 - i
 
--- src/lib.rt:16:5
 loop-holds : tie.Need-loop-holds Inv-loop μ-loop
 loop-holds c = (omega arith, refl, refl)
 
--- src/lib.rt:17:17
 mul-u : tie.Need-mul-u Inv-loop μ-loop
 mul-u c = search needs
 
--- src/lib.rt:17:17
 array-copy-out-u : tie.Need-array-copy-out-u Inv-loop μ-loop
 array-copy-out-u c = search needs
 
--- src/lib.rt:18:9
 mul-numbers : tie.Need-mul-numbers Inv-loop μ-loop
 mul-numbers c = search needs
 
--- src/lib.rt:18:9
 array-write-numbers : tie.Need-array-write-numbers Inv-loop μ-loop
 array-write-numbers c = search needs
 
--- src/lib.rt:16:9
 add-i : tie.Need-add-i Inv-loop μ-loop
 add-i c = search needs
 
--- src/lib.rt:16:5
 loop-less : tie.Need-loop-less Inv-loop μ-loop
 loop-less c = search needs
 
--- src/lib.rt:16:5
 loop-again : tie.Need-loop-again Inv-loop μ-loop
 unfolding numberOf
 loop-again c =
     let s = c .before .before .loop in
     (omega arith, (simp length-set) ∙ s .inv .1, fill-next numberOf noUnit (c .before .before .before .args .t1) (s .numbers) (s .i) (omega arith) (omega arith) (s .inv .2))
 
--- src/lib.rt:12:1
 returns : tie.Need-returns Inv-loop μ-loop
 returns c = fill-end numberOf _ _ (c .before .loop .i) (omega arith) (omega arith) (c .before .loop .inv .2)
 

@@ -9,41 +9,32 @@ use Rattle.holders.proofs.place_by.Reads as reads
 use Rattle.holders.proofs.place_by.Lts as lts
 use Rattle.holders.proofs.place_in.Reads as place-in-reads
 
--- src/lib.rt:57:15
 cast-end : tie.Need-cast-end
 cast-end c = search needs
 
--- src/lib.rt:58:14
 mul-at : tie.Need-mul-at
 mul-at c = search needs
 
--- src/lib.rt:58:14
 element-copy-out-at : tie.Need-element-copy-out-at
 element-copy-out-at c = search needs
 
--- src/lib.rt:60:9
 returns : tie.Need-returns
 returns c = (by-none _ _ (omega arith) (c .before .before .args .number) _ (c .before .before .pre .3 (c .before .before .args .number % 256) (omega arith)) (c .if1 .taken), omega arith)
 
--- src/lib.rt:62:8
 mul-if2 : tie.Need-mul-if2
 mul-if2 c = search needs
 
--- src/lib.rt:62:8
 element-copy-out-if2 : tie.Need-element-copy-out-if2
 element-copy-out-if2 c = search needs
 
--- src/lib.rt:63:9
 returns-2 : tie.Need-returns-2
 returns-2 c =
     let a = c .before .before .before .before .args in
     (by-first (a .numbers .now) (a .n) (omega arith) (a .number) (getD (a .firsts .now) (a .number % 256) 0) (c .before .before .before .before .pre .3 (a .number % 256) (omega arith)) (omega arith) (c .if2 .taken), omega arith)
 
--- src/lib.rt:65:5
 place-in-requires : tie.Need-place-in-requires
 place-in-requires c κs = search needs
 
--- src/lib.rt:53:1
 returns-3 : tie.Need-returns-3
 returns-3 c = search needs
 

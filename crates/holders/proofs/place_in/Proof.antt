@@ -18,37 +18,29 @@ Inv-loop numbers n number i₀ i = (i ≤ n) × (reach (isNumber number) numbers
 abbrev μ-loop : tie.MeasureT-loop
 μ-loop numbers n number i₀ i = n - i
 
--- src/lib.rt:28:5
 loop-holds : tie.Need-loop-holds Inv-loop μ-loop
 loop-holds c = (omega arith, reach-start _ _ _)
 
--- src/lib.rt:29:12
 mul-if1 : tie.Need-mul-if1 Inv-loop μ-loop
 mul-if1 c = search needs
 
--- src/lib.rt:29:12
 element-copy-out-if1 : tie.Need-element-copy-out-if1 Inv-loop μ-loop
 element-copy-out-if1 c = search needs
 
--- src/lib.rt:30:13
 returns : tie.Need-returns Inv-loop μ-loop
 unfolding isNumber
 returns c = (sym (reach-here _ 0 _ _ _ (omega arith) (omega arith) (eq-eqb _ _ (c .if1 .taken))) ∙ c .before .before .before .loop .inv .1, omega arith)
 
--- src/lib.rt:28:9
 add-i : tie.Need-add-i Inv-loop μ-loop
 add-i c = search needs
 
--- src/lib.rt:28:5
 loop-less : tie.Need-loop-less Inv-loop μ-loop
 loop-less c = search needs
 
--- src/lib.rt:28:5
 loop-again : tie.Need-loop-again Inv-loop μ-loop
 unfolding isNumber
 loop-again c = (omega arith, sym (reach-next _ 0 _ _ _ (omega arith) (omega arith) (ne-eqb _ _ (c .if1 .left))) ∙ c .before .before .before .loop .inv .1)
 
--- src/lib.rt:24:1
 returns-2 : tie.Need-returns-2 Inv-loop μ-loop
 returns-2 c = (sym (reach-end _ _ _ _ (omega arith) (omega arith)) ∙ c .before .loop .inv .1, omega arith)
 

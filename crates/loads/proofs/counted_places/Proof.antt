@@ -18,23 +18,18 @@ Inv-loop counted n at₀ count₀ l₀ at count l = (l ≤ n) × (count ≤ l) �
 abbrev μ-loop : tie.MeasureT-loop
 μ-loop counted n at₀ count₀ l₀ at count l = n - l
 
--- src/lib.rt:43:5
 loop-holds : tie.Need-loop-holds Inv-loop μ-loop
 loop-holds c = (omega arith, omega arith, refl, place-start _, λ j k. absurd (omega arith))
 
--- src/lib.rt:44:26
 element-copy-out-is-counted : tie.Need-element-copy-out-is-counted Inv-loop μ-loop
 element-copy-out-is-counted c = search needs
 
--- src/lib.rt:46:13
 add-l : tie.Need-add-l Inv-loop μ-loop
 add-l c = search needs
 
--- src/lib.rt:43:5
 loop-less : tie.Need-loop-less Inv-loop μ-loop
 loop-less c = search needs
 
--- src/lib.rt:43:5
 loop-again : tie.Need-loop-again Inv-loop μ-loop
 loop-again c =
     let s = c .before .before .before .loop in
@@ -46,27 +41,21 @@ loop-again c =
       s .inv .4,
     )
 
--- src/lib.rt:48:9
 mul-at : tie.Need-mul-at Inv-loop μ-loop
 mul-at c = search needs
 
--- src/lib.rt:48:9
 array-write-at : tie.Need-array-write-at Inv-loop μ-loop
 array-write-at c = search needs
 
--- src/lib.rt:49:9
 add-count : tie.Need-add-count Inv-loop μ-loop
 add-count c = search needs
 
--- src/lib.rt:43:9
 add-l-2 : tie.Need-add-l-2 Inv-loop μ-loop
 add-l-2 c = search needs
 
--- src/lib.rt:43:5
 loop-less-2 : tie.Need-loop-less-2 Inv-loop μ-loop
 loop-less-2 c = search needs
 
--- src/lib.rt:43:5
 loop-again-2 : tie.Need-loop-again-2 Inv-loop μ-loop
 loop-again-2 c =
     let s = c .before .before .before .loop in
@@ -78,7 +67,6 @@ loop-again-2 c =
       place-below (a .counted .now) (s .at) (s .l) (s .count) (a .n) (omega arith) (omega arith) (s .inv .4),
     )
 
--- src/lib.rt:37:1
 returns : tie.Need-returns Inv-loop μ-loop
 returns c =
     let s = c .before .loop in

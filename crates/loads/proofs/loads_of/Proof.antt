@@ -15,57 +15,45 @@ Inv-loop wanted n energies loads₀ l₀ loads l = (l ≤ n) × (length loads �
 abbrev μ-loop : tie.MeasureT-loop
 μ-loop wanted n energies loads₀ l₀ loads l = n - l
 
--- src/lib.rt:74:5
 loop-holds : tie.Need-loop-holds Inv-loop μ-loop
 loop-holds c = (omega arith, refl, loads-start _ _)
 
--- src/lib.rt:75:25
 element-copy-out-is-wanted : tie.Need-element-copy-out-is-wanted Inv-loop μ-loop
 element-copy-out-is-wanted c = search needs
 
--- src/lib.rt:77:13
 add-l : tie.Need-add-l Inv-loop μ-loop
 add-l c = search needs
 
--- src/lib.rt:74:5
 loop-less : tie.Need-loop-less Inv-loop μ-loop
 loop-less c = search needs
 
--- src/lib.rt:74:5
 loop-again : tie.Need-loop-again Inv-loop μ-loop
 loop-again c =
     let s = c .before .before .before .loop in
     let a = c .before .before .before .before .args in
     (omega arith, s .inv .1, loads-passed (a .wanted .now) (a .t3) (s .l) (omega arith) (s .loads) (not-true _ (c .if1 .taken)) (s .inv .2))
 
--- src/lib.rt:79:17
 mul-e : tie.Need-mul-e Inv-loop μ-loop
 mul-e c = search needs
 
--- src/lib.rt:79:17
 array-copy-out-e : tie.Need-array-copy-out-e Inv-loop μ-loop
 array-copy-out-e c = search needs
 
--- src/lib.rt:80:9
 put-requires : tie.Need-put-requires Inv-loop μ-loop
 put-requires c κs = search needs
 
--- src/lib.rt:74:9
 add-l-2 : tie.Need-add-l-2 Inv-loop μ-loop
 add-l-2 c = search needs
 
--- src/lib.rt:74:5
 loop-less-2 : tie.Need-loop-less-2 Inv-loop μ-loop
 loop-less-2 c = search needs
 
--- src/lib.rt:74:5
 loop-again-2 : tie.Need-loop-again-2 Inv-loop μ-loop
 loop-again-2 c =
     let s = c .before .before .before .before .before .before .before .loop in
     let a = c .before .before .before .before .before .before .before .before .args in
     (omega arith, c .put .ensures .0, loads-put (a .wanted .now) (a .t3) (s .l) (omega arith) (s .loads) _ (c .put .ensures .1) (s .inv .2))
 
--- src/lib.rt:69:1
 returns : tie.Need-returns Inv-loop μ-loop
 returns c =
     let s = c .before .loop in

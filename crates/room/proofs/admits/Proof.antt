@@ -11,21 +11,17 @@ use Rattle.room.proofs.admits.Lts as lts
 use Rattle.room.proofs.fits.Reads as fits-reads
 use Rattle.room.proofs.take.Reads as take-reads
 
--- src/lib.rt:38:9
 fits-requires : tie.Need-fits-requires
 fits-requires c κs = search needs
 
--- src/lib.rt:39:9
 returns : tie.Need-returns
 returns c = (omega arith, left (fits-as _ _ _ _ (c .before .fits2 .ensures) (not-true (c .before .fits2 .result) (c .if1 .taken))) refl)
 
--- src/lib.rt:41:5
 take-requires : tie.Need-take-requires
 take-requires c κs =
     let q = c .before .before .before .before .pre in
     (q .0, q .1, q .2, q .3, fits-as _ _ _ _ (c .before .before .fits2 .ensures) (not-false (c .before .before .fits2 .result) (c .before .if1 .left)))
 
--- src/lib.rt:34:1
 returns-2 : tie.Need-returns-2
 returns-2 c = (c .take .ensures .0, taken (fits-as _ _ _ _ (c .before .before .before .fits2 .ensures) (not-false (c .before .before .before .fits2 .result) (c .before .before .if1 .left))) (c .take .ensures .1))
 

@@ -15,59 +15,45 @@ Inv-loop room p loads at hours h₀ h = (h ≤ hours) × ((k : ℕ) → k < h �
 abbrev μ-loop : tie.MeasureT-loop
 μ-loop room p loads at hours h₀ h = hours - h
 
--- src/lib.rt:13:5
 loop-holds : tie.Need-loop-holds Inv-loop μ-loop
 loop-holds c = (omega arith, λ k i. absurd (omega arith))
 
--- src/lib.rt:14:17
 mul-if1 : tie.Need-mul-if1 Inv-loop μ-loop
 mul-if1 c = search needs
 
--- src/lib.rt:14:17
 add-if1 : tie.Need-add-if1 Inv-loop μ-loop
 add-if1 c = search needs
 
--- src/lib.rt:14:12
 mul-if1-2 : tie.Need-mul-if1-2 Inv-loop μ-loop
 mul-if1-2 c = search needs
 
--- src/lib.rt:14:12
 element-copy-out-if1 : tie.Need-element-copy-out-if1 Inv-loop μ-loop
 element-copy-out-if1 c = search needs
 
--- src/lib.rt:14:37
 mul-if1-3 : tie.Need-mul-if1-3 Inv-loop μ-loop
 mul-if1-3 c = search needs
 
--- src/lib.rt:14:37
 add-if1-2 : tie.Need-add-if1-2 Inv-loop μ-loop
 add-if1-2 c = search needs
 
--- src/lib.rt:14:31
 mul-if1-4 : tie.Need-mul-if1-4 Inv-loop μ-loop
 mul-if1-4 c = search needs
 
--- src/lib.rt:14:31
 element-copy-out-if1-2 : tie.Need-element-copy-out-if1-2 Inv-loop μ-loop
 element-copy-out-if1-2 c = search needs
 
--- src/lib.rt:15:13
 returns : tie.Need-returns Inv-loop μ-loop
 returns c = lacks (c .before .before .before .before .loop .h) (omega arith) (c .if1 .taken)
 
--- src/lib.rt:13:9
 add-h : tie.Need-add-h Inv-loop μ-loop
 add-h c = search needs
 
--- src/lib.rt:13:5
 loop-less : tie.Need-loop-less Inv-loop μ-loop
 loop-less c = search needs
 
--- src/lib.rt:13:5
 loop-again : tie.Need-loop-again Inv-loop μ-loop
 loop-again c = (omega arith, below-more _ _ (c .before .before .before .before .loop .inv .1) (omega (arith, c .if1 .left)))
 
--- src/lib.rt:9:1
 returns-2 : tie.Need-returns-2 Inv-loop μ-loop
 returns-2 c = holds (λ h i. c .before .loop .inv .1 h (omega arith))
 

@@ -18,43 +18,33 @@ Inv-loop room₀ p loads at hours h₀ room h = (h ≤ hours) × (length room �
 abbrev μ-loop : tie.MeasureT-loop
 μ-loop room₀ p loads at hours h₀ room h = hours - h
 
--- src/lib.rt:27:5
 loop-holds : tie.Need-loop-holds Inv-loop μ-loop
 loop-holds c = (omega arith, omega arith, row-start _ _ _)
 
--- src/lib.rt:28:28
 mul-energy : tie.Need-mul-energy Inv-loop μ-loop
 mul-energy c = search needs
 
--- src/lib.rt:28:28
 add-energy : tie.Need-add-energy Inv-loop μ-loop
 add-energy c = search needs
 
--- src/lib.rt:28:22
 mul-energy-2 : tie.Need-mul-energy-2 Inv-loop μ-loop
 mul-energy-2 c = search needs
 
--- src/lib.rt:28:22
 element-copy-out-energy : tie.Need-element-copy-out-energy Inv-loop μ-loop
 element-copy-out-energy c = search needs
 
--- src/lib.rt:29:33
 mul-room : tie.Need-mul-room Inv-loop μ-loop
 mul-room c = search needs
 
--- src/lib.rt:29:33
 add-room : tie.Need-add-room Inv-loop μ-loop
 add-room c = search needs
 
--- src/lib.rt:29:28
 mul-room-2 : tie.Need-mul-room-2 Inv-loop μ-loop
 mul-room-2 c = search needs
 
--- src/lib.rt:29:28
 element-copy-out-room : tie.Need-element-copy-out-room Inv-loop μ-loop
 element-copy-out-room c = search needs
 
--- src/lib.rt:29:28
 sub-room : tie.Need-sub-room Inv-loop μ-loop
 sub-room c =
     let s = c .before .before .before .loop in
@@ -62,31 +52,24 @@ sub-room c =
     let a = c .before .before .before .before .args in
     omega (arith, held _ _ _ _ (q .4) refl (s .h) (omega arith), s .inv .2 .above (a .p * 25 + s .h) (omega arith))
 
--- src/lib.rt:29:14
 mul-room-3 : tie.Need-mul-room-3 Inv-loop μ-loop
 mul-room-3 c = search needs
 
--- src/lib.rt:29:14
 add-room-2 : tie.Need-add-room-2 Inv-loop μ-loop
 add-room-2 c = search needs
 
--- src/lib.rt:29:9
 mul-room-4 : tie.Need-mul-room-4 Inv-loop μ-loop
 mul-room-4 c = search needs
 
--- src/lib.rt:29:9
 element-write-room : tie.Need-element-write-room Inv-loop μ-loop
 element-write-room c = search needs
 
--- src/lib.rt:27:9
 add-h : tie.Need-add-h Inv-loop μ-loop
 add-h c = search needs
 
--- src/lib.rt:27:5
 loop-less : tie.Need-loop-less Inv-loop μ-loop
 loop-less c = search needs
 
--- src/lib.rt:27:5
 loop-again : tie.Need-loop-again Inv-loop μ-loop
 unfolding leftAt
 loop-again c =
@@ -94,7 +77,6 @@ loop-again c =
     let a = c .before .before .before .before .args in
     (omega arith, (simp length-set) ∙ s .inv .1, row-next (a .p) (leftAt (a .room .now) (a .p) (a .loads .now) (a .at)) (a .room .now) (s .room) (s .h) _ (omega arith) (ap (λ x. x - getD (a .loads .now) (a .at * 25 + s .h) 0) (s .inv .2 .above (a .p * 25 + s .h) (omega arith))) (s .inv .2))
 
--- src/lib.rt:23:1
 returns : tie.Need-returns Inv-loop μ-loop
 returns c =
     let s = c .before .loop in

@@ -15,50 +15,39 @@ Inv-loop loads at energies₀ h₀ energies h = (h ≤ 25) × (length energies �
 abbrev μ-loop : tie.MeasureT-loop
 μ-loop loads at energies₀ h₀ energies h = 25 - h
 
--- src/lib.rt:67:5
 loop-holds : tie.Need-loop-holds Inv-loop μ-loop
 loop-holds c = (omega arith, refl, λ k i. absurd (omega arith))
 
--- src/lib.rt:68:29
 mul-energies : tie.Need-mul-energies Inv-loop μ-loop
 mul-energies c = search needs
 
--- src/lib.rt:68:29
 add-energies : tie.Need-add-energies Inv-loop μ-loop
 add-energies c = search needs
 
--- src/lib.rt:68:23
 mul-energies-2 : tie.Need-mul-energies-2 Inv-loop μ-loop
 mul-energies-2 c = search needs
 
--- src/lib.rt:68:23
 element-copy-out-energies : tie.Need-element-copy-out-energies Inv-loop μ-loop
 element-copy-out-energies c = search needs
 
--- src/lib.rt:68:9
 mul-energies-3 : tie.Need-mul-energies-3 Inv-loop μ-loop
 mul-energies-3 c = search needs
 
--- src/lib.rt:68:9
 array-write-energies : tie.Need-array-write-energies Inv-loop μ-loop
 array-write-energies c = search needs
 
--- src/lib.rt:67:9
 add-h : tie.Need-add-h Inv-loop μ-loop
 add-h c = search needs
 
--- src/lib.rt:67:5
 loop-less : tie.Need-loop-less Inv-loop μ-loop
 loop-less c = search needs
 
--- src/lib.rt:67:5
 loop-again : tie.Need-loop-again Inv-loop μ-loop
 loop-again c =
     let s = c .before .before .loop in
     let a = c .before .before .before .args in
     (omega arith, (simp length-set) ∙ s .inv .1, written-next (λ k. getD (a .loads .now) (a .at * 25 + k) 0) (s .energies) (s .h) _ (omega arith) refl (s .inv .2))
 
--- src/lib.rt:62:1
 returns : tie.Need-returns Inv-loop μ-loop
 returns c = (c .before .loop .inv .1, λ h i. c .before .loop .inv .2 h (omega arith))
 

@@ -6,16 +6,13 @@ use Rattle.message.proofs.judge.bad_contract.Reads as reads
 use Rattle.message.proofs.judge.bad_contract.Lts as lts
 use Rattle.message.proofs.judge.bad_number.Reads as bad-number-reads
 
--- src/judge.rt:42:9
 bad-number-requires : tie.Need-bad-number-requires
 bad-number-requires c κs = search needs
 
--- src/judge.rt:42:9
 returns : tie.Need-returns
 unfolding badContract
 returns c = rw (c .before .if1 .taken) (c .bad-number .ensures)
 
--- src/judge.rt:38:1
 returns-2 : tie.Need-returns-2
 unfolding badContract
 returns-2 c = rw (c .if1 .left)

@@ -19,57 +19,44 @@ Inv-loop m h₀ h = (1 ≤ h) × (h ≤ 26) × (badFrom (fieldsIn m) h ≡ any (
 abbrev μ-loop : tie.MeasureT-loop
 μ-loop m h₀ h = 26 - h
 
--- src/judge.rt:88:5
 loop-holds : tie.Need-loop-holds Inv-loop μ-loop
 unfolding badFrom
 loop-holds c = (omega arith, omega arith, refl)
 
--- src/judge.rt:89:17
 sub-i : tie.Need-sub-i Inv-loop μ-loop
 sub-i c = search needs
 
--- src/judge.rt:90:13
 named-requires : tie.Need-named-requires Inv-loop μ-loop
 named-requires c κs = search needs
 
--- src/judge.rt:91:39
 mul-bad-slot : tie.Need-mul-bad-slot Inv-loop μ-loop
 mul-bad-slot c = search needs
 
--- src/judge.rt:91:39
 element-copy-out-bad-slot : tie.Need-element-copy-out-bad-slot Inv-loop μ-loop
 element-copy-out-bad-slot c = search needs
 
--- src/judge.rt:91:54
 mul-bad-slot-2 : tie.Need-mul-bad-slot-2 Inv-loop μ-loop
 mul-bad-slot-2 c = search needs
 
--- src/judge.rt:91:54
 element-copy-out-bad-slot-2 : tie.Need-element-copy-out-bad-slot-2 Inv-loop μ-loop
 element-copy-out-bad-slot-2 c = search needs
 
--- src/judge.rt:91:12
 bad-slot-requires : tie.Need-bad-slot-requires Inv-loop μ-loop
 bad-slot-requires c κs = search needs
 
--- src/judge.rt:92:13
 returns : tie.Need-returns Inv-loop μ-loop
 returns c = hours-here (fieldsIn (c .before .before .before .before .before .before .before .args .t1)) _ _ _ (c .before .before .before .before .named .ensures) (c .before .bad-slot .ensures) (omega arith) (c .before .before .before .before .before .before .loop .inv .2) (c .if1 .taken)
 
--- src/judge.rt:88:9
 add-h : tie.Need-add-h Inv-loop μ-loop
 add-h c = search needs
 
--- src/judge.rt:88:5
 loop-less : tie.Need-loop-less Inv-loop μ-loop
 loop-less c = search needs
 
--- src/judge.rt:88:5
 loop-again : tie.Need-loop-again Inv-loop μ-loop
 loop-again c =
     (search needs, search needs, hours-later (fieldsIn (c .before .before .before .before .before .before .before .args .t1)) _ _ _ (c .before .before .before .before .named .ensures) (c .before .bad-slot .ensures) (omega arith) (c .before .before .before .before .before .before .loop .inv .2) (c .if1 .left))
 
--- src/judge.rt:85:1
 returns-2 : tie.Need-returns-2 Inv-loop μ-loop
 returns-2 c = hours-past _ _ (omega arith) (c .before .loop .inv .2)
 

@@ -5,12 +5,10 @@ use Rattle.message.proofs.judge.bad_map.Tie as tie
 use Rattle.message.proofs.judge.bad_map.Reads as reads
 use Rattle.message.proofs.judge.bad_map.Lts as lts
 
--- src/judge.rt:22:9
 returns : tie.Need-returns
 unfolding badMap
 returns c = rw (eq-eqb _ _ (c .if1 .taken))
 
--- src/judge.rt:18:1
 returns-2 : tie.Need-returns-2
 unfolding badMap
 returns-2 c = rw (ne-eqb _ _ (c .if1 .left))

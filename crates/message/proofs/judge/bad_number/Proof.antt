@@ -5,12 +5,10 @@ use Rattle.message.proofs.judge.bad_number.Tie as tie
 use Rattle.message.proofs.judge.bad_number.Reads as reads
 use Rattle.message.proofs.judge.bad_number.Lts as lts
 
--- src/judge.rt:32:9
 returns : tie.Need-returns
 unfolding badNumber
 returns c = rw (eq-eqb _ _ (c .if1 .taken))
 
--- src/judge.rt:28:1
 returns-2 : tie.Need-returns-2
 unfolding badNumber
 returns-2 c = rw (ne-eqb _ _ (c .if1 .left))

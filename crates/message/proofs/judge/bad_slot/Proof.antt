@@ -7,31 +7,25 @@ use Rattle.message.proofs.judge.bad_slot.Reads as reads
 use Rattle.message.proofs.judge.bad_slot.Lts as lts
 use Rattle.message.proofs.judge.top_price.Reads as top-price-reads
 
--- src/judge.rt:71:13
 returns : tie.Need-returns
 unfolding badSlot
 returns c = rw (c .before .if1 .taken, eq-eqb _ _ (c .if2 .taken))
 
--- src/judge.rt:74:13
 returns-2 : tie.Need-returns-2
 unfolding badSlot
 returns-2 c = rw (c .before .before .if1 .taken, ne-eqb _ _ (c .before .if2 .left), lt-ltb _ _ (c .if3 .taken))
 
--- src/judge.rt:76:16
 top-price-requires : tie.Need-top-price-requires
 top-price-requires c κs = search needs
 
--- src/judge.rt:76:9
 returns-3 : tie.Need-returns-3
 unfolding badSlot
 returns-3 c = rw (c .before .before .before .if1 .taken, ne-eqb _ _ (c .before .before .if2 .left), le-ltb _ _ (c .before .if3 .left), c .top-price .ensures)
 
--- src/judge.rt:79:9
 returns-4 : tie.Need-returns-4
 unfolding badSlot
 returns-4 c = rw (c .before .if1 .left, ne-eqb _ _ (c .if4 .taken))
 
--- src/judge.rt:66:1
 returns-5 : tie.Need-returns-5
 unfolding badSlot
 returns-5 c = rw (c .before .if1 .left, eq-eqb _ _ (c .if4 .left))

@@ -5,19 +5,15 @@ use Rattle.message.proofs.judge.named.Tie as tie
 use Rattle.message.proofs.judge.named.Reads as reads
 use Rattle.message.proofs.judge.named.Lts as lts
 
--- src/judge.rt:62:14
 sub-result : tie.Need-sub-result
 sub-result c = search needs
 
--- src/judge.rt:62:14
 cast-result : tie.Need-cast-result
 cast-result c = search needs
 
--- src/judge.rt:62:6
 shr-result : tie.Need-shr-result
 shr-result c = search needs
 
--- src/judge.rt:58:1
 returns : tie.Need-returns
 returns c = named-is _ _ (c .pre .0) (c .pre .1)
 

@@ -4,12 +4,10 @@ use Rattle.message.proofs.judge.top_price.Tie as tie
 use Rattle.message.proofs.judge.top_price.Reads as reads
 use Rattle.message.proofs.judge.top_price.Lts as lts
 
--- src/judge.rt:52:9
 returns : tie.Need-returns
 unfolding topPrice
 returns c = rw (c .if1 .taken)
 
--- src/judge.rt:48:1
 returns-2 : tie.Need-returns-2
 unfolding topPrice
 returns-2 c = rw (c .if1 .left)

@@ -10,8 +10,8 @@ use Rattle.session.proofs.LaidLaws.{anyFrom}
 use Rattle.registry.specs.Registry.{besideUnit}
 use Rattle.registry.proofs.RegisterLaws.{found-start, found-next, found-end}
 use borrow.Author.Needs.{needs}
-use Rattle.registry.proofs.clash.Statement.{statement}
-use Rattle.registry.proofs.clash.Tie as tie
+use Rattle.registry.proofs.refusing.Statement.{statement}
+use Rattle.registry.proofs.refusing.Tie as tie
 
 abbrev Inv-loop : tie.InvT-loop
 Inv-loop n u units number taken₀ second₀ i₀ taken second i =
@@ -61,8 +61,8 @@ returns c =
     let l = c .before .loop in
     (found-end (numberIs (a .u .number)) (a .t1) (a .n) (l .i) _ (omega arith) (l .inv .1), found-end (besideUnit (a .u)) (a .t1) (a .n) (l .i) _ (omega arith) (l .inv .2))
 
-pub clash-spec : {M : Type 1} → statement M
-clash-spec =
+pub refusing-spec : {M : Type 1} → statement M
+refusing-spec =
     tie.close
     (tie.spec
     Inv-loop
