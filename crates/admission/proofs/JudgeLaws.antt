@@ -1,14 +1,12 @@
 -- Judging a message's fields: each way out.
 use Prim.Native.Nat.{ℕ, zero, suc, _≤_, _<_}
-use mathlib.Core.Path.{_≡_, refl, sym, ap, _∙_}
+use mathlib.Core.Path.{_≡_, refl, sym, ap, subst, _∙_}
 use mathlib.Core.Bool.{Bool, true, false, not, _&&_, _||_, true≢false}
 use mathlib.Core.List.{List, [], _∷_, map}
 use lib.Dec.{leb, ltb}
 use native.Mathlib.Omega.{arith}
-use lib.ListN.{take, getD, length}
-use lib.Seq.{length-take-le}
+use lib.ListN.{take, getD}
 use borrow.Author.Tests.{leb-false, ltb-true, ltb-false, le-leb, lt-leb}
-use Rattle.rules.specs.Lists.{any, sum, sumOf, hourly}
 use Rattle.rules.specs.Refusals.{row, firstRow}
 use Rattle.rules.specs.Units as U
 use Rattle.rules.specs.Message.{badMap, badFields}
@@ -18,6 +16,7 @@ use Rattle.rules.specs.DayBook as D
 use Rattle.rules.proofs.BoolLaws.{by-bool, neither}
 use Rattle.message.specs.View.{fieldsIn}
 use Rattle.message.specs.declared.Fields.{Fields}
+use Rattle.arrays.specs.declared.Places.{Places}
 use Rattle.session.specs.Image.{image, keyIn, noUnit}
 use Rattle.session.specs.Parts.{Within, told, Holds}
 use Rattle.session.specs.declared.Session.{Session}
@@ -29,15 +28,16 @@ use Rattle.session.specs.declared.Key.{Key}
 use Rattle.session.specs.declared.Judged.{Judged}
 use Rattle.session.specs.declared.Judged.the-variants.{No}
 use Rattle.session.proofs.ImageLaws.{hours-as, last-as, standing-as, capacities-as, unit-as, notice-as}
-use Rattle.loads.specs.Loads.{loadIn, loadBy}
-use Rattle.limits.specs.Limits.{judgedIn}
+use Rattle.loads.specs.Loads.{loadIn, bareEnergies, RowAt}
 use Rattle.limits.proofs.NoticeLaws.{judged-by}
 use Rattle.keys.specs.Keys.{keyFor, keyPlace}
 use Rattle.keys.proofs.KeyLaws.{stands-at}
 use Rattle.keys.proofs.TakenLaws.{left-in, left-most}
-use Rattle.beside.specs.Beside.{same, besideMarks}
-use Rattle.beside.proofs.BesideLaws.{none-marked, load-as}
-use Rattle.admission.specs.Judging.{Room, fullAt, lastRows, fieldRows, JudgesFields, JudgesLimits}
+use Rattle.beside.specs.Beside.{marksFor}
+use Rattle.beside.proofs.BesideLaws.{load-as}
+use Rattle.pending.specs.Excerpts.{bareNotice, EnergiesIn}
+use Rattle.pending.specs.declared.Excerpt.{Excerpt}
+use Rattle.admission.specs.Judging.{Room, fullAt, lastRows, fieldRows, judgedWith, JudgesFields, JudgesLimits}
 
 -- Row 9
 
@@ -95,33 +95,28 @@ module _ (s : Session) (k : Key) (p : ℕ) (at : p ≡ keyPlace s k) where
 
 -- The limits
 
--- with no others a lodgement's load is its own energy
-pub load-alone : (own loads ps : List ℕ) (h : ℕ) → loadBy own loads (take 0 ps) h ≡ hourly own h
-unfolding loadBy sumOf sum
-load-alone own loads ps h = omega arith
-
-pub load-unmarked : (own : List ℕ) (marks : List Bool) (es : List Energies) (h : ℕ) → any same marks ≡ false → hourly own h ≡ loadIn own marks es h
-unfolding loadIn sumOf sum
-load-unmarked own marks es h e = rw (none-marked marks es e) (omega arith)
+-- rows of up to four are those of the places that are counted
+pub rows-in : (s : Session) (p : Places) (x : Excerpt) (rows : List ℕ) → p .count ≤ 4 → EnergiesIn s p x
+    → RowAt 0 (x .first .energies) rows × RowAt 1 (x .second .energies) rows × RowAt 2 (x .third .energies) rows × RowAt 3 (x .fourth .energies) rows
+    → (j : ℕ) → j < p .count → RowAt j (getD (s .energies) (getD (p .at) j 0) bareEnergies .energies) rows
+rows-in s p x rows few e r zero i = subst (λ (y : Energies). RowAt 0 (y .energies) rows) (e .0 i) (r .0)
+rows-in s p x rows few e r (suc zero) i = subst (λ (y : Energies). RowAt 1 (y .energies) rows) (e .1 i) (r .1)
+rows-in s p x rows few e r (suc (suc zero)) i = subst (λ (y : Energies). RowAt 2 (y .energies) rows) (e .2 i) (r .2)
+rows-in s p x rows few e r (suc (suc (suc zero))) i = subst (λ (y : Energies). RowAt 3 (y .energies) rows) (e .3 i) (r .3)
+rows-in s p x rows few e r (suc (suc (suc (suc j)))) i = absurd (omega arith)
 
 module _ (s : Session) (m : Fields) where
-  abbrev loadOf : List Bool → ℕ → ℕ
-  loadOf marks = loadIn (m .energies) marks (take (s .standing) (s .energies))
-
-  -- judged by the unit and what stands at its place, with those marked
-  pub limits-judged : (holder : Holder) (x : Notice) (k : Key) (marks : List Bool) {j : Judged}
-      → Holds (s .units) (s .enrolled) (m .unit) holder → holder .at < s .enrolled
-      → k ≡ keyFor m → marks ≡ besideMarks (take (s .standing) (s .lodgements)) k
-      → j ≡ judgedIn (holder .unit) (getD (s .notices) (holder .at) x) (s .capacities) (m .default) (s .hours) (m .energies) (loadOf marks)
-      → JudgesLimits s (fieldsIn m) j
+  -- judged by the unit and what stands at its place, with those that are counted
+  pub limits-judged : (holder : Holder) (x : Notice) {j : Judged}
+      → Holds (s .units) (s .enrolled) (m .unit) holder → holder .at < s .enrolled → x ≡ getD (s .notices) (holder .at) bareNotice
+      → j ≡ judgedWith s m (holder .unit) x → JudgesLimits s (fieldsIn m) j
   unfolding lastRows
-  limits-judged holder x k marks held in-list q r t b e =
+  limits-judged holder x held in-list noticed t b e =
       let registered = U.unitOf (b .units) (m .unit) in
       let p = holder .at in
-      let own : marks ≡ besideMarks (take (s .standing) (s .lodgements)) (keyFor m) = r ∙ ap (besideMarks (take (s .standing) (s .lodgements))) q in
       t
-      ∙ (judged-by registered (b .capacities) (s .hours) (m .energies) (loadOf marks) _ _ _ (m .default) (L.judgedAt (b .standing) (fieldsIn m))
-      (held .unit in-list ∙ unit-as s b e (m .unit) p (held .place) in-list noUnit) (notice-as s b e (m .unit) p (held .place) in-list x) (capacities-as s b e) (λ h low high. ap (λ ms. loadOf ms h) own ∙ load-as s b e m h)
+      ∙ (judged-by registered (b .capacities) (s .hours) (m .energies) (loadIn (m .energies) (marksFor s m) (take (s .standing) (s .energies))) _ _ _ (m .default) (L.judgedAt (b .standing) (fieldsIn m))
+      (held .unit in-list ∙ unit-as s b e (m .unit) p (held .place) in-list noUnit) (noticed ∙ notice-as s b e (m .unit) p (held .place) in-list bareNotice) (capacities-as s b e) (λ h low high. load-as s b e m h)
       ∙ ap (λ H. told (firstRow (L.limitRows H (m .energies) (L.judgedAt (b .standing) (fieldsIn m)) (L.judgedBy (b .capacities) registered (m .default))))) (sym (hours-as s b e)))
 
 -- Rows 4, 5, 6, 9 and the limits

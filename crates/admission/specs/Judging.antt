@@ -4,6 +4,7 @@ use mathlib.Core.Path.{_≡_}
 use mathlib.Core.Bool.{Bool, _&&_, _||_}
 use mathlib.Core.List.{List, _∷_}
 use lib.Dec.{leb}
+use lib.ListN.{take}
 use Rattle.rules.specs.Refusals.{Row, row, firstRow}
 use Rattle.rules.specs.Units as U
 use Rattle.rules.specs.Message.{Fields, badMap, badFields}
@@ -12,10 +13,16 @@ use Rattle.rules.specs.Book.{Book, hours}
 use Rattle.rules.specs.DayBook.{badHolder, full}
 use Rattle.session.specs.Image.{image}
 use Rattle.session.specs.Parts.{Within, told}
+use Rattle.message.specs.declared.Fields as M
 use Rattle.session.specs.declared.Key.{Key}
+use Rattle.session.specs.declared.Unit.{Unit}
+use Rattle.session.specs.declared.Notice.{Notice}
 use Rattle.session.specs.declared.Session.{Session}
 use Rattle.session.specs.declared.Judged.{Judged}
 use Rattle.keys.specs.Keys.{keyPlace, leftOf}
+use Rattle.loads.specs.Loads.{loadIn}
+use Rattle.limits.specs.Limits.{judgedIn}
+use Rattle.beside.specs.Beside.{marksFor}
 
 -- a place and a number are free once the key's lodgement is dropped
 pub record Room (s : Session) (k : Key) : Type 0 where
@@ -42,3 +49,8 @@ JudgesFields s m j = (b : Book) → s ≡ image b → j ≡ told (firstRow (fiel
 
 abbrev pub JudgesLimits : Session → Fields → Judged → Type 0
 JudgesLimits s m j = (b : Book) → s ≡ image b → j ≡ told (firstRow (lastRows b m))
+
+-- the judgement by the limits of a unit and its notice, with those that are counted
+abbrev pub judgedWith : Session → M.Fields → Unit → Notice → Judged
+judgedWith s m unit notice =
+    judgedIn unit notice (s .capacities) (m .default) (s .hours) (m .energies) (loadIn (m .energies) (marksFor s m) (take (s .standing) (s .energies)))

@@ -2,25 +2,25 @@
 ghost use mathlib.Core.Path.{_≡_};
 ghost use mathlib.Core.Bool.{_||_};
 ghost use Prim.Native.Nat.{_≤_, _<_};
-ghost use lib.ListN.{take};
-ghost use Rattle.rules.specs.Lists.{hourly};
 ghost use Rattle.rules.specs.Message.{badMap};
 ghost use Rattle.rules.specs.Lodging.{namesBeyond};
 ghost use Rattle.message.specs.View.{fieldsIn};
 ghost use Rattle.session.specs.Parts.{Within, Holds};
 ghost use Rattle.keys.specs.Keys.{keyFor, keyPlace};
-ghost use Rattle.loads.specs.Loads.{loadIn};
-ghost use Rattle.limits.specs.Limits.{judgedIn};
-ghost use Rattle.admission.specs.Judging.{Room, fullAt, JudgesFields, JudgesLimits};
-use beside::beside_marks;
+ghost use Rattle.loads.specs.Loads.{PlacesOf};
+ghost use Rattle.beside.specs.Beside.{marksFor};
+ghost use Rattle.pending.specs.Excerpts.{EnergiesIn, Excerpts};
+ghost use Rattle.admission.specs.Judging.{Room, fullAt, judgedWith, JudgesFields, JudgesLimits};
+use arrays::Places;
 use keys::bad_holder;
 use keys::key_of;
 use limits::judge_energy;
-use loads::counted_places;
 use loads::loads_of;
+use loads::rows_of;
 use message::Fields;
 use message::judge::bad_fields;
 use message::judge::bad_map;
+use pending::Excerpt;
 use session::FULL;
 use session::HOUR;
 use session::Holder;
@@ -63,41 +63,48 @@ fn is_full(n: usize, last: u32, at: usize) -> bool
     n <= at
 }
 
-// Rows 10 to 12 by a unit and its notice, where no other lodgement is counted.
-fn judge_alone(s: Session, m: Fields, unit: Unit, notice: Notice) -> Judged
-    requires { ⌜ s .hours ≤ 25 ⌝ }
-    ensures { λ r. ⌜ r ≡ judgedIn unit notice (s .capacities) (m .default) (s .hours) (m .energies) (hourly (m .energies)) ⌝ }
+// Rows 10 to 12 where up to four are counted beside.
+fn judge_few(s: Session, m: Fields, unit: Unit, beside: Places, x: Excerpt) -> Judged
+    requires { ⌜ Within s × PlacesOf (marksFor s m) (s .standing) beside × EnergiesIn s beside x × (beside .count ≤ 4) ⌝ }
+    ensures { λ r. ⌜ r ≡ judgedWith s m unit (x .notice) ⌝ }
 {
     let own = m.energies;
     let capacities = s.capacities;
     let hours = s.hours as usize;
-    let none = [0u32; 1];
-    let nobody = [0usize; 1];
+    let first = x.first.energies;
+    let second = x.second.energies;
+    let third = x.third.energies;
+    let fourth = x.fourth.energies;
+    let rows = rows_of(first, second, third, fourth);
+    let mut at = [0usize; 4];
+    at[1] = 1;
+    at[2] = 2;
+    at[3] = 3;
+    let notice = x.notice;
     judge_energy(
         unit,
         notice,
         capacities,
         m.default,
         own,
-        &none,
-        &nobody,
-        0,
+        &rows,
+        &at,
+        beside.count,
         hours,
     )
 }
 
-// The same with the energies of those that are marked.
-fn judge_beside(s: Session, m: Fields, unit: Unit, notice: Notice, marks: &[bool; 128]) -> Judged
-    requires { ⌜ Within s ⌝ }
-    ensures { λ r. ⌜ r ≡ judgedIn unit notice (s .capacities) (m .default) (s .hours) (m .energies) (loadIn (m .energies) (now (marks .entry)) (take (s .standing) (s .energies))) ⌝ }
+// The same for any number of them.
+fn judge_many(s: Session, m: Fields, unit: Unit, notice: Notice, beside: Places) -> Judged
+    requires { ⌜ Within s × PlacesOf (marksFor s m) (s .standing) beside ⌝ }
+    ensures { λ r. ⌜ r ≡ judgedWith s m unit notice ⌝ }
 {
     let own = m.energies;
     let capacities = s.capacities;
-    let n = s.standing;
     let hours = s.hours as usize;
-    let found = counted_places(marks, n);
+    let every = [true; 128];
     let energies = s.energies;
-    let loads = loads_of(marks, n, energies);
+    let loads = loads_of(&every, s.standing, energies);
     judge_energy(
         unit,
         notice,
@@ -105,34 +112,36 @@ fn judge_beside(s: Session, m: Fields, unit: Unit, notice: Notice, marks: &[bool
         m.default,
         own,
         &loads,
-        &found.at,
-        found.count,
+        &beside.at,
+        beside.count,
         hours,
     )
 }
 
-// Rows 10 to 12, for a unit that is registered. Mostly none is counted beside, and then the session's energies, which would be
-// copied, are not looked at.
-fn judge_limits(s: Session, m: Fields, holder: Holder) -> Judged
-    requires { ⌜ Within s × Holds (s .units) (s .enrolled) (m .unit) holder × (holder .at < s .enrolled) ⌝ }
+// Rows 10 to 12, for a unit that is registered.
+fn judge_limits(s: Session, m: Fields, holder: Holder, beside: Places, x: Excerpt) -> Judged
+    requires { ⌜ Within s × Holds (s .units) (s .enrolled) (m .unit) holder × (holder .at < s .enrolled) × PlacesOf (marksFor s m) (s .standing) beside × Excerpts s holder beside x ⌝ }
     ensures { λ r. ⌜ JudgesLimits s (fieldsIn m) r ⌝ }
 {
     let unit = holder.unit;
-    let notices = s.notices;
-    let at = holder.at;
-    let notice = notices[at];
-    let lodgements = s.lodgements;
-    let key = key_of(m);
-    let marks = beside_marks(lodgements, s.standing, key);
-    if !marks.some {
-        return judge_alone(s, m, unit, notice);
+    if 4 < beside.count {
+        let notice = x.notice;
+        return judge_many(s, m, unit, notice, beside);
     }
-    judge_beside(s, m, unit, notice, &marks.at)
+    judge_few(s, m, unit, beside, x)
 }
 
-// The refusal that applies to a message's fields, in the table's order; `at` is the place of the key's lodgement, `holder` its unit.
-pub fn judge_fields(s: Session, m: Fields, at: usize, holder: Holder) -> Judged
-    requires { ⌜ Within s × (at ≡ keyPlace s (keyFor m)) × Holds (s .units) (s .enrolled) (m .unit) holder ⌝ }
+// The refusal that applies to a message's fields, in the table's order; `at` is the place of the key's lodgement, `holder` its
+// unit, `beside` the places of those that are counted with it.
+pub fn judge_fields(
+    s: Session,
+    m: Fields,
+    at: usize,
+    holder: Holder,
+    beside: Places,
+    x: Excerpt,
+) -> Judged
+    requires { ⌜ Within s × (at ≡ keyPlace s (keyFor m)) × Holds (s .units) (s .enrolled) (m .unit) holder × PlacesOf (marksFor s m) (s .standing) beside × Excerpts s holder beside x ⌝ }
     ensures { λ r. ⌜ JudgesFields s (fieldsIn m) r × (r ≡ Judged.Clear → Room s (keyFor m)) ⌝ }
 {
     if bad_hours(s.hours, m.map) {
@@ -148,5 +157,5 @@ pub fn judge_fields(s: Session, m: Fields, at: usize, holder: Holder) -> Judged
     if is_full(s.standing, s.last, at) {
         return Judged::No(FULL, 0);
     }
-    judge_limits(s, m, holder)
+    judge_limits(s, m, holder, beside, x)
 }

@@ -1,15 +1,14 @@
 -- The lodgements that one is judged with: marks in their places, and the energy that they sum to.
-use Prim.Native.Nat.{ℕ, zero, suc, _+_, _-_, _<_}
+use Prim.Native.Nat.{ℕ, zero, suc, _+_, _-_, _<_, _≤_}
 use mathlib.Core.Path.{_≡_, refl, sym, ap, _∙_}
 use mathlib.Core.Bool.{Bool, true, false, cond, not, _&&_, Bool·beq, true≢false}
 use mathlib.Core.List.{List, [], _∷_, _++_, map}
 use native.Mathlib.Omega.{arith}
-use native.Mathlib.Numerals.{add-one}
 use lib.Dec.{eqb}
-use lib.ListN.{take, length, getD, set, replicate, length-map}
-use lib.Seq.{take-suc, length-take-le, set-getD}
+use lib.ListN.{take, length, getD, replicate, length-map, List·getD-append}
+use lib.Seq.{length-take-le, getD-take}
 use borrow.Author.Tests.{eq-eqb, ne-eqb}
-use Rattle.rules.specs.Lists.{keep, any, sum, sumOf}
+use Rattle.rules.specs.Lists.{keep, any, sum, sumOf, from}
 use Rattle.rules.specs.Lodging as L
 use Rattle.rules.specs.Book.{Book}
 use Rattle.rules.proofs.BoolLaws.{by-bool}
@@ -17,7 +16,8 @@ use Rattle.rules.proofs.ListLaws.{keep-keep, keep-same}
 use Rattle.rules.proofs.ElementLaws.{all-every}
 use Rattle.session.specs.Laid.{pad}
 use Rattle.session.specs.Image.{image, keyIn, keyAs, lodgementAs, energiesAs}
-use Rattle.session.proofs.LaidLaws.{any-map, map-last, set-pad}
+use Rattle.session.proofs.LaidLaws.{any-map}
+use Rattle.session.proofs.PlaceLaws.{getD-map}
 use Rattle.session.proofs.ImageLaws.{lodgements-as, energies-as}
 use Rattle.session.specs.declared.Key.{Key}
 use Rattle.session.specs.declared.Lodgement.{Lodgement}
@@ -26,7 +26,7 @@ use Rattle.loads.specs.Loads.{marked, energyIn, loadIn}
 use Rattle.message.specs.View.{fieldsIn}
 use Rattle.message.specs.declared.Fields.{Fields}
 use Rattle.keys.specs.Keys.{keyFor, hiding}
-use Rattle.beside.specs.Beside.{same, counts, besideMarks}
+use Rattle.beside.specs.Beside.{counts, besideMarks}
 
 -- Marks
 
@@ -69,79 +69,24 @@ module _ (ls : List Lodgement) (k : Key) (l : Lodgement) where
   unfolding counts
   other-kind t h e q = rw (eq-eqb (l .key .unit) (k .unit) h, e) (ap not q)
 
--- The loop that marks them
+-- The loop that notes their places
 
-module _ {A : Type 0} (p : A → Bool) (l : List A) where
-  -- marks at the first i places
-  unfoldable pub marksTo : ℕ → List Bool
-  marksTo i = pad 128 false (map p (take i l))
-
-  pub marks-start : replicate 128 false ≡ marksTo 0
-  unfolding marksTo pad
-  marks-start = refl
-
-  pub marks-next : (d : A) (a : List Bool) (i : ℕ) {v : Bool} → a ≡ marksTo i → i < 128 → i < length l → v ≡ p (getD l i d) → set a i v ≡ marksTo (i + 1)
-  unfolding marksTo
-  marks-next d a i e h k q =
-      let n : length (map p (take i l)) ≡ i = length-map (take i l) p ∙ length-take-le i l (omega arith) in
-      rw (e, q, add-one, take-suc l i d k, map-last p (take i l) (getD l i d)) (set-pad 128 false (map p (take i l)) i (p (getD l i d)) (sym n) (omega arith))
-
-  -- one that is not counted has a false mark before it is looked at
-  behind : (bs : List Bool) (k : ℕ) → getD (bs ++ replicate k false) (length bs) false ≡ false
-  behind [] zero = refl
-  behind [] (suc k) = refl
-  behind (b ∷ bs) k = behind bs k
-
-  blank : (i : ℕ) → i < length l → getD (marksTo i) i false ≡ false
-  unfolding marksTo pad
-  blank i k =
-      let n : length (map p (take i l)) ≡ i = length-map (take i l) p ∙ length-take-le i l (omega arith) in
-      ap (λ j. getD (marksTo i) j false) (sym n) ∙ behind (map p (take i l)) (128 - length (map p (take i l)))
-
-  pub marks-stay : (d : A) (a : List Bool) (i : ℕ) {v : Bool} → a ≡ marksTo i → i < 128 → i < length l → v ≡ p (getD l i d) → v ≡ false → a ≡ marksTo (i + 1)
-  marks-stay d a i {v} e h k q f =
-      let z : getD a i false ≡ v = ap (λ (x : List Bool). getD x i false) e ∙ (blank i k ∙ sym f) in
-      sym (set-getD a i false) ∙ (ap (set a i) z ∙ marks-next d a i e h k q)
-
--- whether there is a mark
-
-pub some-none : (n : ℕ) → any same (replicate n false) ≡ false
-unfolding any
-some-none zero = refl
-some-none (suc n) = some-none n
-
-pub some-set : (bs : List Bool) (i : ℕ) → i < length bs → any same (set bs i true) ≡ true
-unfolding any
-some-set [] i h = absurd (omega arith)
-some-set (b ∷ bs) zero h = refl
-some-set (true ∷ bs) (suc i) h = refl
-some-set (false ∷ bs) (suc i) h = some-set bs i (omega arith)
-
--- where there is none, every mark is false
-pub no-mark : (bs : List Bool) (i : ℕ) → any same bs ≡ false → getD bs i false ≡ true → ⊥
-unfolding any
-no-mark [] i h t = true≢false (sym t)
-no-mark (true ∷ bs) i h t = true≢false h
-no-mark (false ∷ bs) zero h t = true≢false (sym t)
-no-mark (false ∷ bs) (suc i) h t = no-mark bs i h t
-
-pub none-marked : {A : Type 0} (bs : List Bool) (xs : List A) → any same bs ≡ false → marked bs xs ≡ []
-unfolding any marked
-none-marked [] xs h = refl
-none-marked (b ∷ bs) [] h = refl
-none-marked (true ∷ bs) (x ∷ xs) h = absurd (true≢false h)
-none-marked (false ∷ bs) (x ∷ xs) h = none-marked bs xs h
+tested-at : {A : Type 0} (c : A → Bool) (d : A) (xs : List A) (i : ℕ) → i < length xs → getD (pad 128 false (map c xs)) i false ≡ c (getD xs i d)
+unfolding pad
+tested-at c d xs i h = List·getD-append (map c xs) (replicate (128 - length (map c xs)) false) false i (omega (arith, length-map xs c)) ∙ getD-map c d false xs i h
 
 module _ (k : Key) (l : List Lodgement) (n : ℕ) where
-  pub marks-default : k .default ≡ true → replicate 128 false ≡ besideMarks (take n l) k
-  unfolding besideMarks pad
-  marks-default h = rw h
+  -- beside a default lodgement there are none
+  pub none-noted : k .default ≡ true → [] ≡ marked (besideMarks (take n l) k) (from 0 n)
+  unfolding besideMarks marked
+  none-noted h = rw (h, marked-pad 128 [] (from 0 n))
 
-  pub marks-end : (a : List Bool) (i : ℕ) → a ≡ marksTo (counts (take n l) k) l i → i ≡ n → k .default ≡ false → a ≡ besideMarks (take n l) k
-  unfolding besideMarks marksTo
-  marks-end a i e q h =
-      let c = counts (take n l) k in
-      e ∙ (ap (λ j. pad 128 false (map c (take j l))) q ∙ ap (λ t. pad 128 false (cond t [] (map c (take n l)))) (sym h))
+  -- the mark at a place
+  pub mark-at : (d : Lodgement) (i : ℕ) → k .default ≡ false → n ≤ length l → i < n → getD (besideMarks (take n l) k) i false ≡ counts (take n l) k (getD l i d)
+  unfolding besideMarks
+  mark-at d i h b m =
+      let c : Lodgement → Bool = counts (take n l) k in
+      ap (λ t. getD (pad 128 false (cond t [] (map c (take n l)))) i false) h ∙ (tested-at c d (take n l) i (omega (arith, length-take-le n l b)) ∙ ap c (getD-take n l i d m))
 
 -- The book's lodgements
 

@@ -2,11 +2,14 @@
 use mathlib.Core.Bool.{Bool, false, cond, not, _&&_, Bool·beq}
 use mathlib.Core.List.{List, [], map}
 use lib.Dec.{eqb}
+use lib.ListN.{take}
 use Rattle.rules.specs.Lists.{any}
 use Rattle.session.specs.Laid.{pad}
 use Rattle.session.specs.declared.Key.{Key}
 use Rattle.session.specs.declared.Lodgement.{Lodgement}
-use Rattle.keys.specs.Keys.{hiding}
+use Rattle.session.specs.declared.Session.{Session}
+use Rattle.message.specs.declared.Fields.{Fields}
+use Rattle.keys.specs.Keys.{hiding, keyFor}
 
 -- a lodgement of the key's unit, of the other kind, that none of the list hides
 unfoldable pub counts : List Lodgement → Key → Lodgement → Bool
@@ -16,6 +19,6 @@ counts ls k l = eqb (l .key .unit) (k .unit) && (not (Bool·beq (l .key .executi
 unfoldable pub besideMarks : List Lodgement → Key → List Bool
 besideMarks ls k = pad 128 false (cond (k .default) [] (map (counts ls k) ls))
 
--- a mark, as a test
-abbrev pub same : Bool → Bool
-same b = b
+-- those for a message
+abbrev pub marksFor : Session → Fields → List Bool
+marksFor s m = besideMarks (take (s .standing) (s .lodgements)) (keyFor m)

@@ -2,8 +2,9 @@
 ghost use mathlib.Core.Path.{_≡_};
 ghost use Prim.Native.Nat.{_≤_};
 ghost use lib.ListN.{take};
-ghost use Rattle.rules.specs.Lists.{any};
-ghost use Rattle.beside.specs.Beside.{same, counts, besideMarks};
+ghost use Rattle.loads.specs.Loads.{PlacesOf};
+ghost use Rattle.beside.specs.Beside.{counts, besideMarks};
+use arrays::Places;
 use keys::is_hidden;
 use session::Key;
 use session::Lodgement;
@@ -24,21 +25,15 @@ fn is_beside(lodgements: [Lodgement; 128], n: usize, key: Key, l: Lodgement) -> 
     !is_hidden(lodgements, n, k)
 }
 
-// A mark at the place of each that is counted, and whether there is any.
-pub struct Marks {
-    pub at: [bool; 128],
-    pub some: bool,
-}
-
-// "A default lodgement is judged by its own energy."
-pub fn beside_marks(lodgements: [Lodgement; 128], n: usize, key: Key) -> Marks
+// The places of those of the first n that are counted. "A default lodgement is judged by its own energy."
+pub fn beside_places(lodgements: [Lodgement; 128], n: usize, key: Key) -> Places
     requires { ⌜ n ≤ 128 ⌝ }
-    ensures { λ r. ⌜ (r .at ≡ besideMarks (take n lodgements) key) × (r .some ≡ any same (r .at)) ⌝ }
+    ensures { λ r. ⌜ PlacesOf (besideMarks (take n lodgements) key) n r ⌝ }
 {
-    let mut at = [false; 128];
-    let mut some = false;
+    let mut at = [0usize; 128];
+    let mut count = 0usize;
     if key.default {
-        return Marks { at, some };
+        return Places { count, at };
     }
     for i in 0..n {
         let l = lodgements[i];
@@ -46,8 +41,8 @@ pub fn beside_marks(lodgements: [Lodgement; 128], n: usize, key: Key) -> Marks
         if !counted {
             continue;
         }
-        at[i] = true;
-        some = true;
+        at[count] = i;
+        count += 1;
     }
-    Marks { at, some }
+    Places { count, at }
 }

@@ -84,7 +84,7 @@ pub extern "C" fn gate_write(fields: Fields, buffer: &mut [u8]) -> Written
     writer::write(fields, buffer)
 }
 
-// Calls
+// Calls. Lodging reads through the reference the few elements that a judgement needs; a step by value would copy the arrays.
 
 // Registers a unit: 2, 5, 7, 8, 9.
 #[no_mangle]
@@ -118,7 +118,21 @@ pub extern "C" fn gate_capacity(s: &mut Session, notice: Capacities) -> Response
 pub extern "C" fn gate_lodge(s: &mut Session, message: &[u8]) -> Response
     ensures { λ r. ⌜ MetAs (now (s .entry)) (lodge (now (message .entry))) (record { session = now (s .exit); response = r }) ⌝ }
 {
-    let t = response::lodge(*s, message);
+    let p = pending::pend(*s, message);
+    let notice = p.notice;
+    let first = p.first;
+    let second = p.second;
+    let third = p.third;
+    let fourth = p.fourth;
+    let t = response::lodge(
+        *s,
+        p,
+        s.notices[notice],
+        s.energies[first],
+        s.energies[second],
+        s.energies[third],
+        s.energies[fourth],
+    );
     settle_standing(s, t)
 }
 

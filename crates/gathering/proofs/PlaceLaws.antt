@@ -20,7 +20,7 @@ use Rattle.session.specs.declared.Lodgement.{Lodgement}
 use Rattle.session.specs.declared.Verdict.{Verdict}
 use Rattle.session.specs.Image.{noUnit, noNotice, noLodgement, noVerdict}
 use Rattle.session.proofs.PlaceLaws.{place-first}
-use Rattle.loads.specs.Loads.{PutAt}
+use Rattle.loads.specs.Loads.{RowAt, PutAt}
 use Rattle.holders.specs.Holders.{holderAt}
 use Rattle.arrays.specs.declared.Places.{Places}
 use Rattle.gathering.specs.declared.Day.{Day}
@@ -123,7 +123,7 @@ module _ (f : ℕ → ℕ → ℕ) where
   rows-start a i k h l = absurd (omega arith)
 
   pub rows-next : (n : ℕ) (row before after : List ℕ) → Rows f n before → PutAt n row before after → ((k : ℕ) → getD row k 0 ≡ f k n) → Rows f (n + 1) after
-  unfolding Rows PutAt
+  unfolding Rows PutAt RowAt
   rows-next n row before after r p e i k h l =
       by-bool (eqb n i)
       (λ t. let q = eqb-true n i t in rw (← q) (p .0 k l ∙ e k))

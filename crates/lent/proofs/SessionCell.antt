@@ -237,6 +237,12 @@ module _ {M : Type 1} {𝓤 : URA M} {H : Heap 𝓤} {A : Atoms 𝓤} {K : Type 
       below : (s : Session) → Good s → i < length (s .energies)
       below s g = let e = long-energies s g in rw e h
 
+  pub read-notice : K → {b o : ℕ} (s : Session) (i : ℕ) (d : Notice) → Good s → i < 64
+      → Reads K W (‵ (fat fullShare T′.mir b o (sv s)) ∷ Γ) X′.mir b (i * 104 + (o + 1560)) (LL.val X.the-type X′.the-laws (getD (s .notices) i d))
+  read-notice k s i d g h =
+      element-read k (vals X.the-field X′.the-field-laws (s .notices)) 4 i refl refl h
+      (long-vals X.the-field X′.the-field-laws 64 (s .notices) (all-notices s g)) (val-at X.the-field X′.the-field-laws 64 (s .notices) (all-notices s g) d i h)
+
   pub store-enrolled : K → {b o : ℕ} (s : Session) (n : ℕ) → n < 2 ^ 64
       → Writes K W (‵ (fat fullShare T′.mir b o (sv s)) ∷ Γ) (tyInt w64) b (o + 16) (vint w64 n) (‵ (fat fullShare T′.mir b o (sv (put-enrolled s n))) ∷ Γ)
   store-enrolled k s n h = field-stored k 2 refl refl (tt, record { fits = h })

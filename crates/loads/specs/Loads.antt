@@ -4,9 +4,10 @@ use mathlib.Core.Path.{_≡_}
 use mathlib.Core.Bool.{Bool, true, false, cond}
 use mathlib.Core.List.{List, [], _∷_}
 use mathlib.Core.Option.{some}
-use lib.ListN.{length, getD}
-use Rattle.rules.specs.Lists.{sumOf, hourly}
+use lib.ListN.{length, getD, take}
+use Rattle.rules.specs.Lists.{sumOf, hourly, from}
 use Rattle.rules.specs.Units.{Limit}
+use Rattle.arrays.specs.declared.Places.{Places}
 use Rattle.session.specs.declared.Energies.{Energies}
 
 -- those at whose place the mark is true
@@ -14,6 +15,10 @@ unfoldable pub marked : {A : Type 0} → List Bool → List A → List A
 marked [] xs = []
 marked (b ∷ bs) [] = []
 marked (b ∷ bs) (x ∷ xs) = cond b (x ∷ marked bs xs) (marked bs xs)
+
+-- the places of those of the first n at which the mark is true
+abbrev pub PlacesOf : List Bool → ℕ → Places → Type 0
+PlacesOf counted n r = (r .count ≤ n) × (take (r .count) (r .at) ≡ marked counted (from 0 n)) × (length (r .at) ≡ 128) × ((l : ℕ) → l < r .count → getD (r .at) l 0 < n)
 
 abbrev pub energyIn : ℕ → Energies → ℕ
 energyIn h e = hourly (e .energies) h
@@ -28,10 +33,14 @@ loadIn own counted es h = hourly own h + sumOf (energyIn h) (marked counted es)
 abbrev pub bareEnergies : Energies
 bareEnergies = record { energies = []; prices = [] }
 
--- the 25 numbers of a place are these, and the others as before
+-- the 25 numbers of a place are these
+unfoldable pub RowAt : ℕ → List ℕ → List ℕ → Type 0
+RowAt l es loads = (h : ℕ) → h < 25 → getD loads (l * 25 + h) 0 ≡ getD es h 0
+
+-- and the others as before
 unfoldable pub PutAt : ℕ → List ℕ → List ℕ → List ℕ → Type 0
 PutAt l es before after =
-    ((h : ℕ) → h < 25 → getD after (l * 25 + h) 0 ≡ getD es h 0)
+    RowAt l es after
     × ((i : ℕ) → i < l * 25 → getD after i 0 ≡ getD before i 0)
     × ((i : ℕ) → l * 25 + 25 ≤ i → getD after i 0 ≡ getD before i 0)
 

@@ -1,18 +1,18 @@
 // The lodgements that are counted beside one, their places and energies, and the lowest hour in which its energy with theirs
 // passes a limit.
 ghost use mathlib.Core.Path.{_≡_};
-ghost use Prim.Native.Nat.{ℕ, _<_, _≤_};
+ghost use Prim.Native.Nat.{ℕ, _+_, _*_, _<_, _≤_};
 ghost use lib.ListN.{getD, take, length};
-ghost use Rattle.rules.specs.Lists.{from, lowest};
+ghost use Rattle.rules.specs.Lists.{lowest};
 ghost use Rattle.rules.specs.Lodging.{passedAt};
-ghost use Rattle.loads.specs.Loads.{marked, PutAt, LoadsOf, loadBy, laid};
+ghost use Rattle.loads.specs.Loads.{PlacesOf, RowAt, PutAt, LoadsOf, loadBy, laid};
 use arrays::Places;
 use session::Energies;
 
 // The places of those of the first n lodgements that are counted.
 pub fn counted_places(counted: &[bool; 128], n: usize) -> Places
     requires { ⌜ n ≤ 128 ⌝ }
-    ensures { λ r. ⌜ (r .count ≤ n) × (take (r .count) (r .at) ≡ marked (now (counted .entry)) (from 0 n)) × (length (r .at) ≡ 128) × ((l : ℕ) → l < r .count → getD (r .at) l 0 < n) ⌝ }
+    ensures { λ r. ⌜ PlacesOf (now (counted .entry)) n r ⌝ }
 {
     let mut at = [0usize; 128];
     let mut count = 0usize;
@@ -59,9 +59,27 @@ pub fn loads_of(wanted: &[bool; 128], n: usize, energies: [Energies; 128]) -> [u
     loads
 }
 
+// Up to four lodgements' energies by hour, one after the other.
+pub fn rows_of(
+    first: [u32; 25],
+    second: [u32; 25],
+    third: [u32; 25],
+    fourth: [u32; 25],
+) -> [u32; 100]
+    ensures { λ r. ⌜ RowAt 0 first r × RowAt 1 second r × RowAt 2 third r × RowAt 3 fourth r ⌝ }
+{
+    let mut rows = [0u32; 100];
+    for h in 0..25 {
+        rows[h] = first[h];
+        rows[25 + h] = second[h];
+        rows[50 + h] = third[h];
+        rows[75 + h] = fourth[h];
+    }
+    rows
+}
+
 // "the lowest hour in which that limit is passed", 0 where there is none: in an hour that is named, by a lodgement's own
-// energy and that of the others that are counted, at `count` places; where there are none, no loads need be there. The sum only grows,
-// so it is left where it first passes.
+// energy and that of the others that are counted, at `count` places. The sum only grows, so it is left where it first passes.
 pub fn lowest_hour(
     own: [u32; 25],
     loads: &[u32],
@@ -70,7 +88,7 @@ pub fn lowest_hour(
     hours: usize,
     limit: [u64; 25],
 ) -> u32
-    requires { ⌜ (count ≤ 128) × (hours ≤ 25) × (count ≤ length (now at)) × ((l : ℕ) → l < count → getD (now at) l 0 < 128) × (0 < count → 3200 ≤ length (now loads)) ⌝ }
+    requires { ⌜ (count ≤ 128) × (hours ≤ 25) × (count ≤ length (now at)) × ((l : ℕ) → l < count → (getD (now at) l 0 < 128) × (getD (now at) l 0 * 25 + 25 ≤ length (now loads))) ⌝ }
     ensures { λ r. ⌜ r ≡ lowest (passedAt own (loadBy own (now (loads .entry)) (take count (now (at .entry)))) (laid limit)) hours ⌝ }
 {
     let mut passed: u32 = 0;

@@ -24,14 +24,6 @@ unfolding row firstRow
 past t u rows h k = rw (h, k)
 
 module _ (s : Session) (bytes : List ℕ) where
-  pub lodge-2 : s .closed ≡ true → Judges s (D.lodge bytes) (No 2 0)
-  unfolding D.rowsOf D.lodgeRows D.changeRow row firstRow
-  lodge-2 h b e = rw (closed-as s b e, h)
-
-  pub lodge-3 : s .closed ≡ false → badForm energyWidth bytes ≡ true → Judges s (D.lodge bytes) (No 3 0)
-  unfolding D.rowsOf D.lodgeRows D.changeRow row firstRow
-  lodge-3 h f b e = rw (f, closed-as s b e, h)
-
   module _ (m : Fields) (said : fieldsIn m ≡ decode energyWidth bytes) where
     -- a message of the right form is judged by its fields
     pub lodge-judged : s .closed ≡ false → badForm energyWidth bytes ≡ false → (j : Judged) → JudgesFields s (fieldsIn m) j → Judges s (D.lodge bytes) j

@@ -1,7 +1,6 @@
 // Entering a message that no row refuses.
 ghost use mathlib.Core.Path.{_≡_};
 ghost use Prim.Native.Nat.{_≤_};
-ghost use Rattle.session.specs.Parts.{Within};
 ghost use Rattle.changes.specs.Changes.{Placed, standingTurn};
 ghost use Rattle.keys.specs.Keys.{keyFor, keyPlace};
 ghost use Rattle.admission.specs.Judging.{Room};
@@ -9,23 +8,12 @@ ghost use Rattle.lodging.specs.Entries.{EnteredFields};
 use changes::StandingChange;
 use changes::StandingTurn;
 use keys::key_of;
-use keys::key_place;
 use keys::left_of;
 use message::Fields;
 use session::Answer;
 use session::Energies;
 use session::Lodgement;
 use session::Session;
-
-// The place of the lodgement that a message replaces, behind the last where there is none: found once, for judging and entering.
-pub fn replaced_place(s: Session, m: Fields) -> usize
-    requires { ⌜ Within s ⌝ }
-    ensures { λ r. ⌜ (r ≡ keyPlace s (keyFor m)) × (r ≤ s .standing) ⌝ }
-{
-    let key = key_of(m);
-    let lodgements = s.lodgements;
-    key_place(lodgements, s.standing, key)
-}
 
 // "A lodgement replaces the one with its key, and takes and answers the next lodging number": those behind the replaced one's
 // place go forward, and the new one stands behind them.

@@ -1,46 +1,49 @@
 // Lodging: "takes a message's bytes".
+ghost use mathlib.Core.Path.{_≡_};
+ghost use mathlib.Core.List.{List};
+ghost use Prim.Native.Nat.{ℕ};
 ghost use Rattle.rules.specs.DayBook.{lodge};
 ghost use Rattle.changes.specs.Changes.{Placed, standingTurn};
 ghost use Rattle.session.specs.Steps.{Met};
+ghost use Rattle.pending.specs.Awaiting.{Ready, Pends, excerptAt};
 use crate::entering::enter;
-use crate::entering::replaced_place;
 use admission::judge_fields;
 use changes::StandingTurn;
 use changes::standing_refused;
 use changes::with_standing;
-use reader::bad_form;
-use reader::fields_of;
-use session::GATE;
+use pending::Excerpt;
+use pending::Pending;
+use pending::excerpt_of;
+use pending::pend;
 use session::Judged;
 use session::Session;
 use session::Turn;
-use session::units::holder_of;
 
-// The refusal table's number for a wrong form.
-pub const FORM: u32 = 3;
+// What lodging a message that is read changes.
+pub fn lodge_pending(s: Session, p: Pending, x: Excerpt) -> StandingTurn
+    requires { ⌜ Ready s p × (x ≡ excerptAt s p) ⌝ }
+    ensures { λ r. ⌜ ((bytes : List ℕ) → Pends s bytes p → Met s (lodge bytes) (standingTurn s r)) × Placed (r .change) ⌝ }
+{
+    if p.refused != 0 {
+        return standing_refused(s, p.refused, 0);
+    }
+    let m = p.fields;
+    let holder = p.holder;
+    let beside = p.beside;
+    let j = judge_fields(s, m, p.at, holder, beside, x);
+    match j {
+        Judged::No(row, hour) => standing_refused(s, row, hour),
+        Judged::Clear => enter(s, m, p.at),
+    }
+}
 
-// What lodging a message changes; "after a 3 nothing further is read".
+// What lodging a message changes.
 pub fn lodge_change(s: Session, message: &[u8]) -> StandingTurn
     ensures { λ r. ⌜ Met s (lodge (now (message .entry))) (standingTurn s r) × Placed (r .change) ⌝ }
 {
-    if !s.sound() {
-        return standing_refused(s, GATE, 0);
-    }
-    if s.closed {
-        return standing_refused(s, GATE, 0);
-    }
-    if bad_form(message) {
-        return standing_refused(s, FORM, 0);
-    }
-    let m = fields_of(message);
-    let at = replaced_place(s, m);
-    let units = s.units;
-    let holder = holder_of(units, s.enrolled, m.unit);
-    let j = judge_fields(s, m, at, holder);
-    match j {
-        Judged::No(row, hour) => standing_refused(s, row, hour),
-        Judged::Clear => enter(s, m, at),
-    }
+    let p = pend(s, message);
+    let x = excerpt_of(s, p);
+    lodge_pending(s, p, x)
 }
 
 // Lodges a message: 2, 3, 4, 5, 6, 9, 10, 11, 12.

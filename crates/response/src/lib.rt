@@ -1,11 +1,13 @@
 // Dates and calls answered with the plain struct of `told`. The queries are in `replies`.
 ghost use mathlib.Core.Path.{_≡_};
-ghost use Prim.Native.Nat.{_<_};
+ghost use mathlib.Core.List.{List};
+ghost use Prim.Native.Nat.{ℕ, _<_};
 ghost use Rattle.rules.specs.Hours.{hoursAt, clockAt, hourAt};
 ghost use Rattle.rules.specs.DayBook.{register, available, capacity, lodge, annul, close, clear};
 ghost use Rattle.calendar.specs.View.{dateIn, clockIn, countedAs, namedAs};
 ghost use Rattle.session.specs.Image.{unitIn, keyIn};
 ghost use Rattle.changes.specs.Changes.{Placed};
+ghost use Rattle.pending.specs.Awaiting.{Ready, Pends, excerptAt};
 ghost use Rattle.told.specs.Told.{ofCounted, ofNamed};
 ghost use Rattle.response.specs.Told.{
   registeredAs,
@@ -25,8 +27,12 @@ use changes::RegistryChange;
 use changes::RegistryTurn;
 use changes::StandingChange;
 use changes::StandingTurn;
+use pending::Excerpt;
+use pending::Pending;
 use session::Cleared;
+use session::Energies;
 use session::Key;
+use session::Notice;
 use session::Published;
 use session::Session;
 use session::Unit;
@@ -169,11 +175,27 @@ pub fn capacity(s: Session, notice: Capacities) -> Registered
     of_registry(t)
 }
 
-// Lodges a message: 2, 3, 4, 5, 6, 9, 10, 11, 12.
-pub fn lodge(s: Session, message: &[u8]) -> Lodged
-    ensures { λ r. ⌜ MetAs s (lodge (now (message .entry))) (standingLeft s r) × Placed (r .change) ⌝ }
+// Lodges a message that is read (`pending`), with what its judgement reads of the session: 2, 3, 4, 5, 6, 9, 10, 11, 12.
+pub fn lodge(
+    s: Session,
+    p: Pending,
+    notice: Notice,
+    first: Energies,
+    second: Energies,
+    third: Energies,
+    fourth: Energies,
+) -> Lodged
+    requires { ⌜ Ready s p × (record { notice = notice; first = first; second = second; third = third; fourth = fourth } ≡ excerptAt s p) ⌝ }
+    ensures { λ r. ⌜ ((bytes : List ℕ) → Pends s bytes p → MetAs s (lodge bytes) (standingLeft s r)) × Placed (r .change) ⌝ }
 {
-    let t = lodging::lodge::lodge_change(s, message);
+    let x = Excerpt {
+        notice: notice,
+        first: first,
+        second: second,
+        third: third,
+        fourth: fourth,
+    };
+    let t = lodging::lodge::lodge_pending(s, p, x);
     of_standing(t)
 }
 

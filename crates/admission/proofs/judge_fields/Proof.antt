@@ -34,7 +34,9 @@ returns-4 : tie.Need-returns-4
 returns-4 c = (fields-9 _ _ _ (c .before .before .before .before .key-of .ensures) (sym (c .before .before .before .before .before .before .before .before .bad-hours .ensures) ∙ c .before .before .before .before .before .before .before .if1 .left) (sym (c .before .before .before .before .before .before .bad-fields .ensures) ∙ c .before .before .before .before .before .if2 .left) _ (c .before .before .before .bad-holder .ensures .0) _ (c .before .before .before .before .before .before .before .before .before .pre .1) (c .before .before .if3 .left) (sym (c .before .is-full .ensures) ∙ c .if4 .taken), not-clear _ _)
 
 judge-limits-requires : tie.Need-judge-limits-requires
-judge-limits-requires c κs = (c .before .before .before .before .before .before .before .before .before .pre .0, c .before .before .before .before .before .before .before .before .before .pre .2, c .before .before .before .bad-holder .ensures .1 (c .before .before .if3 .left))
+judge-limits-requires c κs =
+    let asked = c .before .before .before .before .before .before .before .before .before .pre in
+    (asked .0, asked .2, c .before .before .before .bad-holder .ensures .1 (c .before .before .if3 .left), asked .3, asked .4)
 
 returns-5 : tie.Need-returns-5
 returns-5 c = (

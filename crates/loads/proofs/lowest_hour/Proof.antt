@@ -108,7 +108,6 @@ shared-slice-read-more : tie.Need-shared-slice-read-more Inv-loop μ-loop Inv-ho
 shared-slice-read-more c =
     let asked = c .before .before .before .before .before .before .before .before .before .before .before .pre in
     let k = asked .3 (c .before .before .before .before .loop .l) (omega arith) in
-    let m = asked .4 (omega arith) in
     search needs
 
 wide-requires-2 : tie.Need-wide-requires-2 Inv-loop μ-loop Inv-hours μ-hours

@@ -58,7 +58,7 @@ judge-energy-requires c κs =
     let w = c .before .before .before .before .before .before .before .before .before .before .before .before .before .before .before .before .before .before .pre .0 in
     let r = c .before .before .before .before .counted-places in
     let q = places-asked (r .result .count) (s .standing) (s .hours) (r .result .at) (r .ensures .0) (w .standing) (w .hours) (r .ensures .2) (r .ensures .3) in
-    (q .0, q .1, q .2, q .3, λ h. omega arith)
+    (q .0, q .1, q .2, λ l i. (q .3 l i .0, omega (arith, q .3 l i .1)))
 
 verdict-by-requires : tie.Need-verdict-by-requires
 verdict-by-requires c κs = search needs

@@ -1,0 +1,61 @@
+use mathlib.Core.Path.{sym, _∙_}
+use native.Mathlib.Omega.{arith}
+use lib.ListN.{length-map}
+use Rattle.limits.proofs.PlaceLaws.{rows-asked, judged-rows}
+use Rattle.admission.proofs.JudgeLaws.{rows-in}
+use borrow.Author.Needs.{needs}
+use Rattle.admission.proofs.judge_few.Statement.{statement}
+use Rattle.admission.proofs.judge_few.Tie as tie
+
+cast-hours : tie.Need-cast-hours
+cast-hours c = search needs
+
+rows-of-requires : tie.Need-rows-of-requires
+rows-of-requires c κs = search needs
+
+array-write-at : tie.Need-array-write-at
+array-write-at c = search needs
+
+array-write-at-2 : tie.Need-array-write-at-2
+array-write-at-2 c = search needs
+
+array-write-at-3 : tie.Need-array-write-at-3
+array-write-at-3 c = search needs
+
+slice-aggregate-judge-energy : tie.Need-slice-aggregate-judge-energy
+slice-aggregate-judge-energy c = search needs
+
+slice-aggregate-judge-energy-2 : tie.Need-slice-aggregate-judge-energy-2
+slice-aggregate-judge-energy-2 c = search needs
+
+judge-energy-requires : tie.Need-judge-energy-requires
+judge-energy-requires c κs =
+    let a = c .before .before .before .before .before .before .before .before .before .before .before .args in
+    let asked = c .before .before .before .before .before .before .before .before .before .before .before .pre in
+    let q = rows-asked (a .beside .count) (a .s .hours) (asked .3) (asked .0 .hours) in
+    (q .0, q .1, q .2, λ l i. (q .3 l i .0, omega (arith, q .3 l i .1)))
+
+returns : tie.Need-returns
+returns c =
+    let a = c .before .before .before .before .before .before .before .before .before .before .before .before .args in
+    let asked = c .before .before .before .before .before .before .before .before .before .before .before .before .pre in
+    let s = a .s in
+    let beside = a .beside in
+    let long = sym (length-map (s .energies) _) ∙ c .before .before .before .before .before .before .before .before .before .before .before .before .good .0 .1 .1 .1 .1 .1 .1 .1 .1 .1 .1 .0 .1 .0 .1 in
+    c .judge-energy .ensures
+    ∙ judged-rows _ _ _ _ (s .hours) _ _ (beside .count) (beside .at) _ (s .standing) (s .energies) (asked .0 .hours) (omega (arith, asked .0 .standing, long)) (asked .3) (omega (arith, asked .3, asked .1 .2)) (asked .1 .1)
+    (rows-in s beside (a .x) _ (asked .3) (asked .2) (c .before .before .before .before .rows-of .ensures))
+
+pub judge-few-spec : {M : Type 1} → statement M
+judge-few-spec =
+    tie.close
+    (tie.spec
+    cast-hours
+    rows-of-requires
+    array-write-at
+    array-write-at-2
+    array-write-at-3
+    slice-aggregate-judge-energy
+    slice-aggregate-judge-energy-2
+    judge-energy-requires
+    returns)

@@ -1,0 +1,187 @@
+// A message that is read, before it is judged: what it is refused for by its form, and the places of the session that its judgement reads. A lent session's arrays are read there, by the
+// entry that has the reference, and not copied.
+ghost use mathlib.Core.Path.{_≡_};
+ghost use Prim.Native.Nat.{ℕ, _≤_, _<_};
+ghost use lib.ListN.{getD};
+ghost use Rattle.session.specs.Parts.{Within};
+ghost use Rattle.keys.specs.Keys.{keyPlace};
+ghost use Rattle.pending.specs.Awaiting.{Awaits, Lies, Pends, notPending, excerptAt};
+use arrays::Places;
+use beside::beside_places;
+use keys::key_of;
+use keys::key_place;
+use message::Fields;
+use reader::bad_form;
+use reader::fields_of;
+use session::Energies;
+use session::GATE;
+use session::Holder;
+use session::Key;
+use session::Notice;
+use session::Session;
+use session::no_unit;
+use session::units::holder_of;
+
+// The refusal table's number for a wrong form.
+pub const FORM: u32 = 3;
+
+// What judging a message reads of the session's long arrays: its unit's notice, and the energies of the first four lodgements
+// that are counted beside it. A lent session is read at these places only; where more are counted, the array is copied.
+pub struct Excerpt {
+    pub notice: Notice,
+    pub first: Energies,
+    pub second: Energies,
+    pub third: Energies,
+    pub fourth: Energies,
+}
+
+// A message that awaits judgement: its fields, the place of the lodgement that it replaces, its unit, the places of those that
+// are counted beside it; then where its notice and the first four of these lie. `refused` is 2 or 3 where that row applies, else 0.
+pub struct Pending {
+    pub refused: u32,
+    pub fields: Fields,
+    pub at: usize,
+    pub holder: Holder,
+    pub beside: Places,
+    pub notice: usize,
+    pub first: usize,
+    pub second: usize,
+    pub third: usize,
+    pub fourth: usize,
+}
+
+// "after a 3 nothing further is read".
+fn not_pending(row: u32) -> Pending
+    ensures { λ r. ⌜ r ≡ notPending row ⌝ }
+{
+    let energies = [0u32; 25];
+    let fields = Fields {
+        execution: false,
+        default: false,
+        unit: 0,
+        contract: 0,
+        map: 0,
+        energies: energies,
+        prices: energies,
+    };
+    let unit = no_unit();
+    let holder = Holder { at: 0, unit: unit };
+    let at = [0usize; 128];
+    let beside = Places { count: 0, at: at };
+    Pending {
+        refused: row,
+        fields: fields,
+        at: 0,
+        holder: holder,
+        beside: beside,
+        notice: 0,
+        first: 0,
+        second: 0,
+        third: 0,
+        fourth: 0,
+    }
+}
+
+// The place of the lodgement of a key, behind the last where there is none: found once, for judging and entering.
+fn replaced_place(s: Session, key: Key) -> usize
+    requires { ⌜ Within s ⌝ }
+    ensures { λ r. ⌜ (r ≡ keyPlace s key) × (r ≤ s .standing) ⌝ }
+{
+    let lodgements = s.lodgements;
+    key_place(lodgements, s.standing, key)
+}
+
+// A place of a notice, also where the unit is behind the last.
+fn notice_place(at: usize) -> usize
+    ensures { λ r. ⌜ (r < 64) × (at < 64 → r ≡ at) ⌝ }
+{
+    if at < 64 {
+        return at;
+    }
+    0
+}
+
+// The j-th of some places, also where there are fewer.
+fn nth_place(at: &[usize; 128], count: usize, j: usize) -> usize
+    requires { ⌜ (count ≤ 128) × ((l : ℕ) → l < count → getD (now at) l 0 < 128) ⌝ }
+    ensures { λ r. ⌜ (r < 128) × (j < count → r ≡ getD (now (at .entry)) j 0) ⌝ }
+{
+    if count <= j {
+        return 0;
+    }
+    at[j]
+}
+
+// What is found for a message of the right form.
+fn awaiting(s: Session, m: Fields) -> Pending
+    requires { ⌜ Within s ⌝ }
+    ensures { λ r. ⌜ (r .refused ≡ 0) × (r .fields ≡ m) × Awaits s r × Lies r ⌝ }
+{
+    let key = key_of(m);
+    let at = replaced_place(s, key);
+    let units = s.units;
+    let holder = holder_of(units, s.enrolled, m.unit);
+    let lodgements = s.lodgements;
+    let beside = beside_places(lodgements, s.standing, key);
+    let count = beside.count;
+    let notice = notice_place(holder.at);
+    let first = nth_place(&beside.at, count, 0);
+    let second = nth_place(&beside.at, count, 1);
+    let third = nth_place(&beside.at, count, 2);
+    let fourth = nth_place(&beside.at, count, 3);
+    Pending {
+        refused: 0,
+        fields: m,
+        at: at,
+        holder: holder,
+        beside: beside,
+        notice: notice,
+        first: first,
+        second: second,
+        third: third,
+        fourth: fourth,
+    }
+}
+
+// Reads a message.
+pub fn pend(s: Session, message: &[u8]) -> Pending
+    ensures { λ r. ⌜ Pends s (now (message .entry)) r ⌝ }
+{
+    if !s.sound() {
+        return not_pending(GATE);
+    }
+    if s.closed {
+        return not_pending(GATE);
+    }
+    if bad_form(message) {
+        return not_pending(FORM);
+    }
+    let m = fields_of(message);
+    awaiting(s, m)
+}
+
+// What its judgement reads, of a session by value.
+pub fn excerpt_of(s: Session, p: Pending) -> Excerpt
+    requires { ⌜ Lies p ⌝ }
+    ensures { λ r. ⌜ r ≡ excerptAt s p ⌝ }
+{
+    let notices = s.notices;
+    let energies = s.energies;
+    let at = p.notice;
+    let a = p.first;
+    let b = p.second;
+    let c = p.third;
+    let d = p.fourth;
+    let notice = notices[at];
+    let first = energies[a];
+    let second = energies[b];
+    let third = energies[c];
+    let fourth = energies[d];
+    Excerpt {
+        notice: notice,
+        first: first,
+        second: second,
+        third: third,
+        fourth: fourth,
+    }
+}
