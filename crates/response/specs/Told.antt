@@ -4,11 +4,12 @@ use Rattle.rules.specs.Hours as H
 use Rattle.rules.specs.DayBook as D
 use Rattle.session.specs.Laid.{counted}
 use Rattle.session.specs.Image.{capacitiesIn}
-use Rattle.changes.specs.Changes.{withVerdicts, withFigures, registryWith, standingWith}
+use Rattle.changes.specs.Changes.{withVerdicts, withFigures, registryWith, capacitiesWith, standingWith}
 use Rattle.session.specs.Steps.{Met, Opens}
 use Rattle.session.specs.declared.Session.{Session}
 use Rattle.session.specs.declared.Turn.{Turn}
 use Rattle.changes.specs.declared.RegistryTurn.{RegistryTurn}
+use Rattle.changes.specs.declared.CapacityTurn.{CapacityTurn}
 use Rattle.changes.specs.declared.StandingTurn.{StandingTurn}
 use Rattle.changes.specs.declared.ClosingTurn.{ClosingTurn}
 use Rattle.changes.specs.declared.ClearingTurn.{ClearingTurn}
@@ -16,6 +17,7 @@ use Rattle.session.specs.declared.Answer.{Answer}
 use Rattle.told.specs.declared.Response.{Response}
 use Rattle.told.specs.Told.{ofAnswer}
 use Rattle.response.specs.declared.Registered.{Registered}
+use Rattle.response.specs.declared.Noted.{Noted}
 use Rattle.response.specs.declared.Lodged.{Lodged}
 use Rattle.response.specs.declared.Closed.{Closed}
 use Rattle.response.specs.declared.DayCleared.{DayCleared}
@@ -35,6 +37,9 @@ steppedAs t = record { session = t .session; response = ofAnswer (t .answer) }
 abbrev pub registeredAs : RegistryTurn → Registered
 registeredAs t = record { change = t .change; response = ofAnswer (t .answer) }
 
+abbrev pub notedAs : CapacityTurn → Noted
+notedAs t = record { change = t .change; response = ofAnswer (t .answer) }
+
 abbrev pub lodgedAs : StandingTurn → Lodged
 lodgedAs t = record { change = t .change; response = ofAnswer (t .answer) }
 
@@ -47,6 +52,9 @@ dayClearedAs t = record { figures = t .figures; cleared = t .cleared; response =
 -- the session that storing what a call changes leaves, and its response
 abbrev pub registryLeft : Session → Registered → Stepped
 registryLeft s r = record { session = registryWith s (r .change); response = r .response }
+
+abbrev pub capacitiesLeft : Session → Noted → Stepped
+capacitiesLeft s r = record { session = capacitiesWith s (r .change); response = r .response }
 
 abbrev pub standingLeft : Session → Lodged → Stepped
 standingLeft s r = record { session = standingWith s (r .change); response = r .response }

@@ -9,8 +9,10 @@ ghost use Rattle.changes.specs.Changes.{Placed};
 ghost use Rattle.told.specs.Told.{ofCounted, ofNamed};
 ghost use Rattle.response.specs.Told.{
   registeredAs,
+  notedAs,
   lodgedAs,
   registryLeft,
+  capacitiesLeft,
   standingLeft,
   closingLeft,
   clearingLeft,
@@ -21,6 +23,8 @@ ghost use Rattle.response.specs.Told.{
 };
 use calendar::Clock;
 use calendar::Date;
+use changes::CapacityChange;
+use changes::CapacityTurn;
 use changes::RegistryChange;
 use changes::RegistryTurn;
 use changes::StandingChange;
@@ -58,9 +62,15 @@ pub struct Opening {
     pub session: Session,
 }
 
-// What a call changes of units and notices, and says.
+// What a call changes of units and their notices, and says.
 pub struct Registered {
     pub change: RegistryChange,
+    pub response: Response,
+}
+
+// What a call changes of capacities, and says.
+pub struct Noted {
+    pub change: CapacityChange,
     pub response: Response,
 }
 
@@ -93,6 +103,15 @@ fn of_registry(t: RegistryTurn) -> Registered
     let answer = t.answer;
     let response = of_answer(answer);
     Registered { change, response }
+}
+
+fn of_capacity(t: CapacityTurn) -> Noted
+    ensures { λ r. ⌜ r ≡ notedAs t ⌝ }
+{
+    let change = t.change;
+    let answer = t.answer;
+    let response = of_answer(answer);
+    Noted { change, response }
 }
 
 fn of_standing(t: StandingTurn) -> Lodged
@@ -161,12 +180,12 @@ pub fn available(s: Session, notice: Availability) -> Registered
 }
 
 // Takes a capacity notice: 2, 4, 5.
-pub fn capacity(s: Session, notice: Capacities) -> Registered
-    ensures { λ r. ⌜ MetAs s (capacityIn notice) (registryLeft s r) × (r .change .at < 64) ⌝ }
+pub fn capacity(s: Session, notice: Capacities) -> Noted
+    ensures { λ r. ⌜ MetAs s (capacityIn notice) (capacitiesLeft s r) ⌝ }
 {
     let directions = notice.directions;
     let t = capacities::capacity_change(s, directions);
-    of_registry(t)
+    of_capacity(t)
 }
 
 // Lodges a message: 2, 3, 4, 5, 6, 9, 10, 11, 12.
