@@ -57,7 +57,7 @@ use Rattle.response.proofs.lodge.Met as step-thm
 use Rattle.lent.proofs.settle_standing.Symbol as settle-def
 use Rattle.lent.proofs.settle_standing.Symbol.{name as #settle}
 use Rattle.lent.proofs.settle_standing.Met as settle-thm
-use Rattle.gate.proofs.AppliedTo.{entry-ended, settle-clauses, Settle, passed, to-settle, goes-settle, settled, stepped}
+use Rattle.gate.proofs.AppliedTo.{entry-ended, settle-clauses, Settle, passed, to-settle, goes-settle, settled, stepped, owed}
 use Rattle.gate.proofs.Changes.{lodged}
 use Rattle.gate.proofs.gate_lodge.Key.{name as #entry}
 use Rattle.gate.proofs.gate_lodge as f
@@ -141,7 +141,7 @@ module _ {M : Type 1} (𝓤 : URA M) (H : Heap 𝓤) (A : Atoms 𝓤) (W : Given
         -- [the message's token; the message's; true; obs; the borrow; its token; _5; …; _4; …; _3; …; _2; …; _1; …; room for _0; …]
         land ! (from ! (stop !)) (init ! 10 refl (LL.lawful G.the-type G′.the-laws 𝓤 H A W .typed r _ is .0)) $ rewrite ! 10 (λ (w : Val). ‵ (fat fullShare G′.mir l₃ 0 w)) (ap only (LL.tells G.the-type G′.the-laws r _ is)) refl $
         assigns ! (addr ! (from ! (hop ! (look ! 14 refl) (stop !)))) (from ! (stop !)) (init ! 6 refl (tt, tt)) $ move ! (3 ∷ 4 ∷ 5 ∷ []) $
-        use3 W (raw (Settle lodged 𝓤 H A .pre (to-settle lodged 𝓤 H A W κ q b o γ h r))) (goes-settle lodged 𝓤 H A W κ q b o γ h r (subst (λ (ws : List Val). Is G.the-row r ws) (LL.tells G.the-type G′.the-laws r _ is) is) (e .1)) $
+        use3 W (raw (Settle lodged 𝓤 H A .pre (to-settle lodged 𝓤 H A W κ q b o γ h r))) (goes-settle lodged 𝓤 H A W κ q b o γ h r (subst (λ (ws : List Val). Is G.the-row r ws) (LL.tells G.the-type G′.the-laws r _ is) is) (owed (lodged .asks) (Good (stepped lodged h r)) r e 𝓤)) $
         -- [what is asked; the message's token; the message's; true; _5; …; _4; …; _3; …; _2; …; _1; …; room for _0; …]
         calls-at ! fm (Settle lodged 𝓤 H A) stores (to-settle lodged 𝓤 H A W κ q b o γ h r) (and-then ! (load ! (from ! (stop !)) (look ! 4 refl)) (and-then ! (load ! (from ! (stop !)) (look ! 8 refl)) (no-more !))) (λ v₂.
         use1 W (later (some (λ (w : Response). ((‵ (flft κ q) ⊛ ‵ ftrue) ⊛ ‵ (N.the-row .own w (v₂ ∷ []))) ⊛ raw (ensured 𝓤 H A (entry-ended (lodged .type)) (settle-clauses lodged 𝓤) (κ, tt) (passed lodged 𝓤 H A W κ q b o γ h r) tt w)))) (id⊢ 𝓤 _) $ await ! tt $ pick ! (λ w.
