@@ -5,11 +5,11 @@ ghost use Prim.Native.Nat.{_<_};
 ghost use Rattle.changes.specs.Changes.{Placed, withVerdicts, withFigures, registryWith, capacitiesWith, standingWith};
 ghost use Rattle.verdicts.specs.Parts.{LodgedFound};
 ghost use Rattle.energies.specs.Parts.{UnitFound};
-use response::Closed;
-use response::DayCleared;
-use response::Lodged;
-use response::Noted;
-use response::Registered;
+use effects::Closed;
+use effects::DayCleared;
+use effects::Lodged;
+use effects::Noted;
+use effects::Registered;
 use session::Session;
 use told::Response;
 

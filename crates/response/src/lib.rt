@@ -7,34 +7,22 @@ ghost use Rattle.calendar.specs.View.{dateIn, clockIn, countedAs, namedAs};
 ghost use Rattle.session.specs.Image.{unitIn, keyIn};
 ghost use Rattle.changes.specs.Changes.{Placed};
 ghost use Rattle.told.specs.Told.{ofCounted, ofNamed};
-ghost use Rattle.response.specs.Told.{
-  registeredAs,
-  notedAs,
-  lodgedAs,
-  registryLeft,
-  capacitiesLeft,
-  standingLeft,
-  closingLeft,
-  clearingLeft,
-  availableIn,
-  capacityIn,
-  OpensAs,
-  MetAs,
-};
+ghost use Rattle.effects.specs.Effects.{registryLeft, capacitiesLeft, standingLeft, closingLeft, clearingLeft};
+ghost use Rattle.response.specs.Told.{availableIn, capacityIn, OpensAs, MetAs};
 use calendar::Clock;
 use calendar::Date;
-use changes::CapacityChange;
-use changes::CapacityTurn;
-use changes::RegistryChange;
-use changes::RegistryTurn;
-use changes::StandingChange;
-use changes::StandingTurn;
-use session::Cleared;
+use effects::Closed;
+use effects::DayCleared;
+use effects::Lodged;
+use effects::Noted;
+use effects::Registered;
+use effects::of_capacity;
+use effects::of_registry;
+use effects::of_standing;
 use session::Key;
 use session::Published;
 use session::Session;
 use session::Unit;
-use session::Verdict;
 use told::ClockName;
 use told::Response;
 use told::of_answer;
@@ -60,67 +48,6 @@ pub struct Capacities {
 pub struct Opening {
     pub response: Response,
     pub session: Session,
-}
-
-// What a call changes of units and their notices, and says.
-pub struct Registered {
-    pub change: RegistryChange,
-    pub response: Response,
-}
-
-// What a call changes of capacities, and says.
-pub struct Noted {
-    pub change: CapacityChange,
-    pub response: Response,
-}
-
-// What a call changes of standing lodgements, and says.
-pub struct Lodged {
-    pub change: StandingChange,
-    pub response: Response,
-}
-
-// What closing changes, and says.
-pub struct Closed {
-    pub verdicts: [Verdict; 128],
-    pub closed: bool,
-    pub response: Response,
-}
-
-// What clearing changes, and says.
-pub struct DayCleared {
-    pub figures: [Cleared; 25],
-    pub cleared: bool,
-    pub response: Response,
-}
-
-// What a call changes stays as it is, and its answer is told.
-
-fn of_registry(t: RegistryTurn) -> Registered
-    ensures { λ r. ⌜ r ≡ registeredAs t ⌝ }
-{
-    let change = t.change;
-    let answer = t.answer;
-    let response = of_answer(answer);
-    Registered { change, response }
-}
-
-fn of_capacity(t: CapacityTurn) -> Noted
-    ensures { λ r. ⌜ r ≡ notedAs t ⌝ }
-{
-    let change = t.change;
-    let answer = t.answer;
-    let response = of_answer(answer);
-    Noted { change, response }
-}
-
-fn of_standing(t: StandingTurn) -> Lodged
-    ensures { λ r. ⌜ r ≡ lodgedAs t ⌝ }
-{
-    let change = t.change;
-    let answer = t.answer;
-    let response = of_answer(answer);
-    Lodged { change, response }
 }
 
 // Dates

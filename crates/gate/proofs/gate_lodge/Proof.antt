@@ -39,15 +39,16 @@ use denote.Triple.Table.{entered, cited}
 use denote.Triple.Walked.{says, Stays, gave-ref, stay-none-slice, walkOf, AllGo, goes-none-slice, goes-gave-ref, Walks, ends-at, walked, walk-meets}
 use denote.Exit.{yes}
 use Rattle.rules.specs.DayBook as D
-use Rattle.response.specs.Told.{Stepped, MetAs}
+use Rattle.effects.specs.Effects.{Stepped}
+use Rattle.response.specs.Told.{MetAs}
 use Rattle.changes.specs.Changes.{Placed, standingWith}
 use Rattle.session.specs.declared.Session.{Session}
 use Rattle.told.specs.declared.Response.{Response}
-use Rattle.response.specs.declared.Lodged.{Lodged}
+use Rattle.effects.specs.declared.Lodged.{Lodged}
 use Rattle.session.proofs.Session as T
 use Rattle.session.proofs.Session.Laws as T′
-use Rattle.response.proofs.Lodged as G
-use Rattle.response.proofs.Lodged.Laws as G′
+use Rattle.effects.proofs.Lodged as G
+use Rattle.effects.proofs.Lodged.Laws as G′
 use Rattle.told.proofs.Response as N
 use Rattle.told.proofs.Response.Laws as N′
 use Rattle.response.proofs.lodge as step
