@@ -5,8 +5,7 @@ use mathlib.Core.Bool.{Bool, true, false, cond}
 use mathlib.Core.List.{List, [], _∷_, map}
 use mathlib.Core.Option.{some, none}
 use native.Mathlib.Omega.{arith}
-use lib.ListN.{length, getD}
-use lib.Seq.{set-getD}
+use lib.ListN.{length}
 use borrow.Author.Tests.{eqb-true, not-false}
 use Rattle.rules.specs.Lists.{any}
 use Rattle.rules.specs.Refusals.{row, firstRow}
@@ -19,13 +18,12 @@ use Rattle.rules.proofs.RefusalLaws.{accepted-rows}
 use Rattle.rules.proofs.HoursLaws.{hours-most}
 use Rattle.session.specs.Laid.{counted}
 use Rattle.session.specs.Image.{image, verdictsIn, hoursIn, publishedIn, capacitiesIn, noticeAs, noNotice}
-use Rattle.changes.specs.Changes.{withRegistry, registryTurn}
+use Rattle.changes.specs.Changes.{withCapacities, capacityTurn}
 use Rattle.session.specs.Steps.{said, isRefusal}
 use Rattle.session.specs.Parts.{Judges, Entered}
 use Rattle.notices.specs.Notices.{keptAs}
 use Rattle.capacities.specs.Capacities.{directionAs, offHours, offRange}
 use Rattle.session.specs.declared.Session.{Session}
-use Rattle.session.specs.declared.Unit.{Unit}
 use Rattle.session.specs.declared.Notice.{Notice}
 use Rattle.session.specs.declared.Published.{Published}
 use Rattle.session.specs.declared.Judged.the-variants.{No, Clear}
@@ -66,9 +64,6 @@ module _ (s : Session) (ps : List Published) where
 
 -- Entering
 
-abbrev withCapacities : Session → List Notice → Session
-withCapacities s ns = withRegistry s (s .enrolled) (s .units) (s .notices) ns
-
 module _ (H : ℕ) (most : H ≤ 25) where
   kept-direction : (t : Bool) (n : ℕ) (es : List ℕ) → U.notOfHours H (cond t (some (counted n es)) none) ≡ false
       → cond t (keptAs n es) noNotice ≡ noticeAs (cond t (some (counted n es)) none)
@@ -97,17 +92,16 @@ hours-fit : (b : B.Book) → B.hours b ≤ 25
 unfolding B.hours
 hours-fit b = hours-most (b .date)
 
-pub capacity-entered : (s : Session) (ps : List Published) (ns : List Notice) (d : Unit) (x : Notice) → ns ≡ map directionAs ps
-    → Entered s (D.capacity (capacitiesIn ps))
-    (registryTurn s (record { change = record { enrolled = s .enrolled; at = 0; unit = getD (s .units) 0 d; notice = getD (s .notices) 0 x; capacities = ns; changed = true }; answer = Done }))
+pub capacity-entered : (s : Session) (ps : List Published) (ns : List Notice) → ns ≡ map directionAs ps
+    → Entered s (D.capacity (capacitiesIn ps)) (capacityTurn s (record { change = record { capacities = ns; changed = true }; answer = Done }))
 unfolding said isRefusal D.reply D.rowsOf
-capacity-entered s ps ns d x q = record {
+capacity-entered s ps ns q = record {
   book = λ b sound o e.
       let k = q ∙ directions-as (B.hours b) (hours-fit b) ps (of-hours b (capacitiesIn ps) o) in
       let early = open-row b _ o in
       record {
         answer = refl;
-        session = rw (set-getD (s .units) 0 d, set-getD (s .notices) 0 x, k, e) (capacity-image b (capacitiesIn ps) early (open-stage b sound early));
+        session = rw (k, e) (capacity-image b (capacitiesIn ps) early (open-stage b sound early));
       };
   fine = refl;
 }

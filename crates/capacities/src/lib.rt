@@ -1,19 +1,18 @@
 // Capacity notices: the borders' 4 times 2 directions, each absent or its energies.
 ghost use mathlib.Core.Path.{_≡_};
 ghost use mathlib.Core.List.{map};
-ghost use Prim.Native.Nat.{_<_};
 ghost use Rattle.rules.specs.Lists.{any};
 ghost use Rattle.rules.specs.Units.{notOfHours, badPublished};
 ghost use Rattle.rules.specs.DayBook.{capacity};
 ghost use Rattle.session.specs.Image.{publishedIn, capacitiesIn};
-ghost use Rattle.changes.specs.Changes.{registryTurn};
+ghost use Rattle.changes.specs.Changes.{capacityTurn};
 ghost use Rattle.session.specs.Steps.{Met};
 ghost use Rattle.session.specs.Parts.{Judges, Entered};
 ghost use Rattle.capacities.specs.Capacities.{directionAs, offHours, offRange};
-use changes::RegistryChange;
-use changes::RegistryTurn;
-use changes::registry_refused;
-use changes::with_registry;
+use changes::CapacityChange;
+use changes::CapacityTurn;
+use changes::capacity_refused;
+use changes::with_capacities;
 use notices::bad_energies;
 use notices::kept_notice;
 use session::Answer;
@@ -115,37 +114,31 @@ fn judge_capacity(s: Session, directions: [Published; 8]) -> Judged
     Judged::Clear
 }
 
-// "It replaces the notice before it." Units and their notices stay.
-fn note_capacity(s: Session, directions: [Published; 8]) -> RegistryTurn
-    ensures { λ r. ⌜ Entered s (capacity (capacitiesIn directions)) (registryTurn s r) × (r .change .at < 64) ⌝ }
+// "It replaces the notice before it."
+fn note_capacity(s: Session, directions: [Published; 8]) -> CapacityTurn
+    ensures { λ r. ⌜ Entered s (capacity (capacitiesIn directions)) (capacityTurn s r) ⌝ }
 {
     let kept = kept_directions(directions);
-    let unit = s.units[0];
-    let notice = s.notices[0];
-    let change = RegistryChange {
-        enrolled: s.enrolled,
-        at: 0,
-        unit: unit,
-        notice: notice,
+    let change = CapacityChange {
         capacities: kept,
         changed: true,
     };
-    RegistryTurn {
+    CapacityTurn {
         change: change,
         answer: Answer::Done,
     }
 }
 
 // What a capacity notice changes.
-pub fn capacity_change(s: Session, directions: [Published; 8]) -> RegistryTurn
-    ensures { λ r. ⌜ Met s (capacity (capacitiesIn directions)) (registryTurn s r) × (r .change .at < 64) ⌝ }
+pub fn capacity_change(s: Session, directions: [Published; 8]) -> CapacityTurn
+    ensures { λ r. ⌜ Met s (capacity (capacitiesIn directions)) (capacityTurn s r) ⌝ }
 {
     if !s.sound() {
-        return registry_refused(s, GATE, 0);
+        return capacity_refused(s, GATE, 0);
     }
     let j = judge_capacity(s, directions);
     match j {
-        Judged::No(row, hour) => registry_refused(s, row, hour),
+        Judged::No(row, hour) => capacity_refused(s, row, hour),
         Judged::Clear => note_capacity(s, directions),
     }
 }
@@ -155,5 +148,5 @@ pub fn capacity(s: Session, directions: [Published; 8]) -> Turn
     ensures { λ r. ⌜ Met s (capacity (capacitiesIn directions)) r ⌝ }
 {
     let t = capacity_change(s, directions);
-    with_registry(s, t)
+    with_capacities(s, t)
 }

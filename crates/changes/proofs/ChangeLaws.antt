@@ -6,11 +6,12 @@ use mathlib.Core.List.{List, [], _∷_}
 use native.Mathlib.Omega.{arith}
 use native.Mathlib.Numerals.{add-one}
 use lib.ListN.{length, getD, set}
-use Rattle.changes.specs.Changes.{withLodgements, withRegistry, moved, movedIn, registryTurn, standingTurn}
+use Rattle.changes.specs.Changes.{withLodgements, withRegistry, withCapacities, moved, movedIn, registryTurn, capacityTurn, standingTurn}
 use Rattle.session.specs.declared.Lodgement.{Lodgement}
 use Rattle.session.specs.declared.Energies.{Energies}
 use Rattle.session.specs.declared.Session.{Session}
 use Rattle.changes.specs.declared.RegistryTurn.{RegistryTurn}
+use Rattle.changes.specs.declared.CapacityTurn.{CapacityTurn}
 use Rattle.changes.specs.declared.StandingTurn.{StandingTurn}
 
 -- Elements moved forward
@@ -69,8 +70,14 @@ module _ (s : Session) where
   registry-still t e = rw e
 
   pub registry-changed : (t : RegistryTurn) → t .change .changed ≡ true
-      → record { session = withRegistry s (t .change .enrolled) (set (s .units) (t .change .at) (t .change .unit)) (set (s .notices) (t .change .at) (t .change .notice)) (t .change .capacities); answer = t .answer } ≡ registryTurn s t
+      → record { session = withRegistry s (t .change .enrolled) (set (s .units) (t .change .at) (t .change .unit)) (set (s .notices) (t .change .at) (t .change .notice)); answer = t .answer } ≡ registryTurn s t
   registry-changed t e = rw e
+
+  pub capacities-still : (t : CapacityTurn) → t .change .changed ≡ false → record { session = s; answer = t .answer } ≡ capacityTurn s t
+  capacities-still t e = rw e
+
+  pub capacities-changed : (t : CapacityTurn) → t .change .changed ≡ true → record { session = withCapacities s (t .change .capacities); answer = t .answer } ≡ capacityTurn s t
+  capacities-changed t e = rw e
 
   pub standing-still : (t : StandingTurn) → t .change .changed ≡ false → record { session = s; answer = t .answer } ≡ standingTurn s t
   standing-still t e = rw e

@@ -14,6 +14,8 @@ use Rattle.session.specs.declared.Session.{Session}
 use Rattle.session.specs.declared.Turn.{Turn}
 use Rattle.changes.specs.declared.RegistryChange.{RegistryChange}
 use Rattle.changes.specs.declared.RegistryTurn.{RegistryTurn}
+use Rattle.changes.specs.declared.CapacityChange.{CapacityChange}
+use Rattle.changes.specs.declared.CapacityTurn.{CapacityTurn}
 use Rattle.changes.specs.declared.StandingChange.{StandingChange}
 use Rattle.changes.specs.declared.StandingTurn.{StandingTurn}
 use Rattle.changes.specs.declared.ClosingTurn.{ClosingTurn}
@@ -39,13 +41,31 @@ withLodgements s n ls es last = record {
   figures = s .figures;
 }
 
-abbrev pub withRegistry : Session → ℕ → List Unit → List Notice → List Notice → Session
-withRegistry s n us ns cs = record {
+abbrev pub withRegistry : Session → ℕ → List Unit → List Notice → Session
+withRegistry s n us ns = record {
   date = s .date;
   hours = s .hours;
   enrolled = n;
   units = us;
   notices = ns;
+  capacities = s .capacities;
+  standing = s .standing;
+  lodgements = s .lodgements;
+  energies = s .energies;
+  last = s .last;
+  closed = s .closed;
+  cleared = s .cleared;
+  verdicts = s .verdicts;
+  figures = s .figures;
+}
+
+abbrev pub withCapacities : Session → List Notice → Session
+withCapacities s cs = record {
+  date = s .date;
+  hours = s .hours;
+  enrolled = s .enrolled;
+  units = s .units;
+  notices = s .notices;
   capacities = cs;
   standing = s .standing;
   lodgements = s .lodgements;
@@ -93,13 +113,21 @@ withFigures s cleared fs = record {
   figures = fs;
 }
 
--- Units and notices
+-- Units and their notices
 
 abbrev pub registryWith : Session → RegistryChange → Session
-registryWith s c = cond (c .changed) (withRegistry s (c .enrolled) (set (s .units) (c .at) (c .unit)) (set (s .notices) (c .at) (c .notice)) (c .capacities)) s
+registryWith s c = cond (c .changed) (withRegistry s (c .enrolled) (set (s .units) (c .at) (c .unit)) (set (s .notices) (c .at) (c .notice))) s
 
 abbrev pub registryTurn : Session → RegistryTurn → Turn
 registryTurn s t = record { session = registryWith s (t .change); answer = t .answer }
+
+-- Capacities
+
+abbrev pub capacitiesWith : Session → CapacityChange → Session
+capacitiesWith s c = cond (c .changed) (withCapacities s (c .capacities)) s
+
+abbrev pub capacityTurn : Session → CapacityTurn → Turn
+capacityTurn s t = record { session = capacitiesWith s (t .change); answer = t .answer }
 
 -- Standing lodgements
 

@@ -3,7 +3,7 @@
 ghost use mathlib.Core.Path.{_≡_};
 ghost use Prim.Native.Nat.{_<_, _≤_};
 ghost use Rattle.session.specs.Parts.{refusedWith};
-ghost use Rattle.changes.specs.Changes.{Placed, movedIn, registryTurn, standingTurn, closingTurn, clearingTurn};
+ghost use Rattle.changes.specs.Changes.{Placed, movedIn, registryTurn, capacityTurn, standingTurn, closingTurn, clearingTurn};
 use session::Answer;
 use session::Cleared;
 use session::Energies;
@@ -18,18 +18,28 @@ use session::no_lodgement;
 use session::no_notice;
 use session::no_unit;
 
-// Units and notices: a unit and its notice at a place, the count, all capacities.
+// Units and their notices: a unit and its notice at a place, the count.
 pub struct RegistryChange {
     pub enrolled: usize,
     pub at: usize,
     pub unit: Unit,
     pub notice: Notice,
-    pub capacities: [Notice; 8],
     pub changed: bool,
 }
 
 pub struct RegistryTurn {
     pub change: RegistryChange,
+    pub answer: Answer,
+}
+
+// All capacities. They are a change of their own, since no other call is to carry them.
+pub struct CapacityChange {
+    pub capacities: [Notice; 8],
+    pub changed: bool,
+}
+
+pub struct CapacityTurn {
+    pub change: CapacityChange,
     pub answer: Answer,
 }
 
@@ -76,10 +86,23 @@ pub fn registry_refused(s: Session, number: u32, hour: u32) -> RegistryTurn
         at: 0,
         unit: unit,
         notice: notice,
-        capacities: [notice; 8],
         changed: false,
     };
     RegistryTurn {
+        change: change,
+        answer: Answer::Refused(number, hour),
+    }
+}
+
+pub fn capacity_refused(s: Session, number: u32, hour: u32) -> CapacityTurn
+    ensures { λ r. ⌜ capacityTurn s r ≡ refusedWith s number hour ⌝ }
+{
+    let notice = no_notice();
+    let change = CapacityChange {
+        capacities: [notice; 8],
+        changed: false,
+    };
+    CapacityTurn {
         change: change,
         answer: Answer::Refused(number, hour),
     }
@@ -146,10 +169,28 @@ pub fn with_registry(s: Session, t: RegistryTurn) -> Turn
     let at = c.at;
     let unit = c.unit;
     let notice = c.notice;
-    let capacities = c.capacities;
     next.enrolled = c.enrolled;
     next.units[at] = unit;
     next.notices[at] = notice;
+    Turn {
+        session: next,
+        answer: answer,
+    }
+}
+
+pub fn with_capacities(s: Session, t: CapacityTurn) -> Turn
+    ensures { λ r. ⌜ r ≡ capacityTurn s t ⌝ }
+{
+    let c = t.change;
+    let answer = t.answer;
+    let mut next = s;
+    if !c.changed {
+        return Turn {
+            session: next,
+            answer: answer,
+        };
+    }
+    let capacities = c.capacities;
     next.capacities = capacities;
     Turn {
         session: next,

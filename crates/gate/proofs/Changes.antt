@@ -1,19 +1,22 @@
 -- What the steps return, for the laws of the entries: what each changes, with its laws, and the session that storing it leaves.
 use Prim.Native.Nat.{_<_}
 use denote.Struct.Laws as LL
-use Rattle.changes.specs.Changes.{Placed, withVerdicts, withFigures, registryWith, standingWith}
-use Rattle.response.specs.declared.Registered.{Registered}
-use Rattle.response.specs.declared.Lodged.{Lodged}
-use Rattle.response.specs.declared.Closed.{Closed}
-use Rattle.response.specs.declared.DayCleared.{DayCleared}
-use Rattle.response.proofs.Registered as R
-use Rattle.response.proofs.Registered.Laws as R′
-use Rattle.response.proofs.Lodged as L
-use Rattle.response.proofs.Lodged.Laws as L′
-use Rattle.response.proofs.Closed as C
-use Rattle.response.proofs.Closed.Laws as C′
-use Rattle.response.proofs.DayCleared as D
-use Rattle.response.proofs.DayCleared.Laws as D′
+use Rattle.changes.specs.Changes.{Placed, withVerdicts, withFigures, registryWith, capacitiesWith, standingWith}
+use Rattle.effects.specs.declared.Registered.{Registered}
+use Rattle.effects.specs.declared.Noted.{Noted}
+use Rattle.effects.specs.declared.Lodged.{Lodged}
+use Rattle.effects.specs.declared.Closed.{Closed}
+use Rattle.effects.specs.declared.DayCleared.{DayCleared}
+use Rattle.effects.proofs.Registered as R
+use Rattle.effects.proofs.Registered.Laws as R′
+use Rattle.effects.proofs.Noted as N
+use Rattle.effects.proofs.Noted.Laws as N′
+use Rattle.effects.proofs.Lodged as L
+use Rattle.effects.proofs.Lodged.Laws as L′
+use Rattle.effects.proofs.Closed as C
+use Rattle.effects.proofs.Closed.Laws as C′
+use Rattle.effects.proofs.DayCleared as D
+use Rattle.effects.proofs.DayCleared.Laws as D′
 use Rattle.gate.proofs.Passing.{Passed, Laws}
 use Rattle.gate.proofs.Applied as A
 use Rattle.gate.proofs.AppliedTo as B
@@ -23,6 +26,12 @@ registeredType = record { denot = Registered; mirTy = R′.mir; spelled = R.the-
 
 abbrev registeredLaws : Laws registeredType
 registeredLaws = record { val = LL.val R.the-type R′.the-laws; tells = LL.tells R.the-type R′.the-laws; lawful = λ 𝓤 H A W. LL.lawful R.the-type R′.the-laws 𝓤 H A W; makes = λ 𝓤 H A W. LL.makes R.the-type R′.the-plain 𝓤 H A }
+
+abbrev notedType : Passed
+notedType = record { denot = Noted; mirTy = N′.mir; spelled = N.the-row .written; reached = N.the-row .reaches; holds = N.the-row .own; stored = N.the-row .coded }
+
+abbrev notedLaws : Laws notedType
+notedLaws = record { val = LL.val N.the-type N′.the-laws; tells = LL.tells N.the-type N′.the-laws; lawful = λ 𝓤 H A W. LL.lawful N.the-type N′.the-laws 𝓤 H A W; makes = λ 𝓤 H A W. LL.makes N.the-type N′.the-plain 𝓤 H A }
 
 abbrev lodgedType : Passed
 lodgedType = record { denot = Lodged; mirTy = L′.mir; spelled = L.the-row .written; reached = L.the-row .reaches; holds = L.the-row .own; stored = L.the-row .coded }
@@ -43,10 +52,13 @@ abbrev clearedLaws : Laws clearedType
 clearedLaws = record { val = LL.val D.the-type D′.the-laws; tells = LL.tells D.the-type D′.the-laws; lawful = λ 𝓤 H A W. LL.lawful D.the-type D′.the-laws 𝓤 H A W; makes = λ 𝓤 H A W. LL.makes D.the-type D′.the-plain 𝓤 H A }
 
 abbrev pub registered : B.Change
-registered = record { type = registeredType; laws = registeredLaws; Placed = λ r. r .change .at < 64; left = λ s r. registryWith s (r .change); response = λ r. r .response }
+registered = record { type = registeredType; laws = registeredLaws; asks = B.placed (λ r. r .change .at < 64); left = λ s r. registryWith s (r .change); response = λ r. r .response }
+
+abbrev pub noted : B.Change
+noted = record { type = notedType; laws = notedLaws; asks = B.free; left = λ s r. capacitiesWith s (r .change); response = λ r. r .response }
 
 abbrev pub lodged : B.Change
-lodged = record { type = lodgedType; laws = lodgedLaws; Placed = λ r. Placed (r .change); left = λ s r. standingWith s (r .change); response = λ r. r .response }
+lodged = record { type = lodgedType; laws = lodgedLaws; asks = B.placed (λ r. Placed (r .change)); left = λ s r. standingWith s (r .change); response = λ r. r .response }
 
 abbrev pub closed : A.Change
 closed = record { type = closedType; laws = closedLaws; left = λ s r. withVerdicts s (r .closed) (r .verdicts); response = λ r. r .response }

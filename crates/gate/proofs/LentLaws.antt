@@ -2,15 +2,13 @@
 use mathlib.Core.Path.{_≡_, refl, ap, _∙_}
 use mathlib.Core.List.{List, [], _∷_, map}
 use Rattle.rules.specs.DayBook as D
-use Rattle.rules.specs.Queries as Q
 use Rattle.session.specs.Steps.{said}
 use Rattle.session.specs.declared.Session.{Session}
-use Rattle.session.specs.declared.Turn.{Turn}
 use Rattle.session.specs.declared.Answer.{Answer}
 use Rattle.daybook.specs.Runs as R
 use Rattle.daybook.proofs.DemandLaws.{demand-3}
 use Rattle.told.specs.Told.{ofAnswer}
-use Rattle.response.specs.Told.{Stepped}
+use Rattle.effects.specs.Effects.{Stepped}
 use Rattle.told.specs.declared.Response.{Response}
 use Rattle.gate.specs.Lent.{Lends, registers, notifies, avails, lodges, annuls, closes, clears, LentTo, ended, then, Lent, LentDemanded}
 

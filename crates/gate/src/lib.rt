@@ -15,6 +15,7 @@ ghost use Rattle.response.specs.Told.{availableIn, capacityIn, OpensAs, MetAs};
 ghost use Rattle.replies.specs.Told.{AnsweredAs};
 use calendar::Clock;
 use calendar::Date;
+use lent::settle_capacities;
 use lent::settle_clearing;
 use lent::settle_closing;
 use lent::settle_registry;
@@ -110,7 +111,7 @@ pub extern "C" fn gate_capacity(s: &mut Session, notice: Capacities) -> Response
     ensures { λ r. ⌜ MetAs (now (s .entry)) (capacityIn notice) (record { session = now (s .exit); response = r }) ⌝ }
 {
     let t = response::capacity(*s, notice);
-    settle_registry(s, t)
+    settle_capacities(s, t)
 }
 
 // Lodges a message: 2, 3, 4, 5, 6, 9, 10, 11, 12.

@@ -16,7 +16,7 @@ use types.Run.{Reads, Writes, Walks, stop, fld}
 use denote.Laws.{Is}
 use denote.Array.{arrayVal}
 use denote.Struct.Laws as LL
-use Rattle.changes.specs.Changes.{withRegistry, withLodgements}
+use Rattle.changes.specs.Changes.{withRegistry, withCapacities, withLodgements}
 use Rattle.session.specs.declared.Session.{Session}
 use Rattle.session.specs.declared.Unit.{Unit}
 use Rattle.session.specs.declared.Notice.{Notice}
@@ -51,10 +51,10 @@ noticesTy = tyArray X′.mir 8
 -- Sessions with a part stored
 
 abbrev pub put-unit : Session → ℕ → Unit → Session
-put-unit s i x = withRegistry s (s .enrolled) (set (s .units) i x) (s .notices) (s .capacities)
+put-unit s i x = withRegistry s (s .enrolled) (set (s .units) i x) (s .notices)
 
 abbrev pub put-notice : Session → ℕ → Notice → Session
-put-notice s i x = withRegistry s (s .enrolled) (s .units) (set (s .notices) i x) (s .capacities)
+put-notice s i x = withRegistry s (s .enrolled) (s .units) (set (s .notices) i x)
 
 abbrev pub put-lodgement : Session → ℕ → Lodgement → Session
 put-lodgement s i x = withLodgements s (s .standing) (set (s .lodgements) i x) (s .energies) (s .last)
@@ -63,16 +63,13 @@ abbrev pub put-energies : Session → ℕ → Energies → Session
 put-energies s i x = withLodgements s (s .standing) (s .lodgements) (set (s .energies) i x) (s .last)
 
 abbrev pub put-enrolled : Session → ℕ → Session
-put-enrolled s n = withRegistry s n (s .units) (s .notices) (s .capacities)
+put-enrolled s n = withRegistry s n (s .units) (s .notices)
 
 abbrev pub put-standing : Session → ℕ → Session
 put-standing s n = withLodgements s n (s .lodgements) (s .energies) (s .last)
 
 abbrev pub put-last : Session → ℕ → Session
 put-last s n = withLodgements s (s .standing) (s .lodgements) (s .energies) n
-
-abbrev pub put-capacities : Session → List Notice → Session
-put-capacities s cs = withRegistry s (s .enrolled) (s .units) (s .notices) cs
 
 -- What is known of the parts, and of the session with one stored
 
@@ -157,10 +154,10 @@ module _ (s : Session) (g : Good s) where
       let w = LL.owed T.the-type T′.the-laws s _ g in
       LL.owes T.the-type T′.the-laws (put-last s n) (w .0, (w .1 .0, (w .1 .1 .0, (w .1 .1 .1 .0, (w .1 .1 .1 .1 .0, (w .1 .1 .1 .1 .1 .0, (w .1 .1 .1 .1 .1 .1 .0, (w .1 .1 .1 .1 .1 .1 .1 .0, (w .1 .1 .1 .1 .1 .1 .1 .1 .0, ((refl, h), (w .1 .1 .1 .1 .1 .1 .1 .1 .1 .1 .0, (w .1 .1 .1 .1 .1 .1 .1 .1 .1 .1 .1 .0, (w .1 .1 .1 .1 .1 .1 .1 .1 .1 .1 .1 .1 .0, (w .1 .1 .1 .1 .1 .1 .1 .1 .1 .1 .1 .1 .1 .0, tt))))))))))))))
 
-  pub with-capacities : (cs : List Notice) → All X.the-field X′.the-field-laws 8 cs → Good (put-capacities s cs)
+  pub with-capacities : (cs : List Notice) → All X.the-field X′.the-field-laws 8 cs → Good (withCapacities s cs)
   with-capacities cs h =
       let w = LL.owed T.the-type T′.the-laws s _ g in
-      LL.owes T.the-type T′.the-laws (put-capacities s cs) (w .0, (w .1 .0, (w .1 .1 .0, (w .1 .1 .1 .0, (w .1 .1 .1 .1 .0, (h, (w .1 .1 .1 .1 .1 .1 .0, (w .1 .1 .1 .1 .1 .1 .1 .0, (w .1 .1 .1 .1 .1 .1 .1 .1 .0, (w .1 .1 .1 .1 .1 .1 .1 .1 .1 .0, (w .1 .1 .1 .1 .1 .1 .1 .1 .1 .1 .0, (w .1 .1 .1 .1 .1 .1 .1 .1 .1 .1 .1 .0, (w .1 .1 .1 .1 .1 .1 .1 .1 .1 .1 .1 .1 .0, (w .1 .1 .1 .1 .1 .1 .1 .1 .1 .1 .1 .1 .1 .0, tt))))))))))))))
+      LL.owes T.the-type T′.the-laws (withCapacities s cs) (w .0, (w .1 .0, (w .1 .1 .0, (w .1 .1 .1 .0, (w .1 .1 .1 .1 .0, (h, (w .1 .1 .1 .1 .1 .1 .0, (w .1 .1 .1 .1 .1 .1 .1 .0, (w .1 .1 .1 .1 .1 .1 .1 .1 .0, (w .1 .1 .1 .1 .1 .1 .1 .1 .1 .0, (w .1 .1 .1 .1 .1 .1 .1 .1 .1 .1 .0, (w .1 .1 .1 .1 .1 .1 .1 .1 .1 .1 .1 .0, (w .1 .1 .1 .1 .1 .1 .1 .1 .1 .1 .1 .1 .0, (w .1 .1 .1 .1 .1 .1 .1 .1 .1 .1 .1 .1 .1 .0, tt))))))))))))))
 
 -- Where the parts lie, and their reads and stores
 
@@ -256,7 +253,7 @@ module _ {M : Type 1} {𝓤 : URA M} {H : Heap 𝓤} {A : Atoms 𝓤} {K : Type 
   store-last k s n h = field-stored k 9 refl refl (tt, record { fits = h })
 
   pub store-capacities : K → {b o : ℕ} (s : Session) (cs : List Notice) → Tᵇ (hasTy noticesTy (arrayVal (vals X.the-field X′.the-field-laws cs))) × WT (arrayVal (vals X.the-field X′.the-field-laws cs))
-      → Writes K W (‵ (fat fullShare T′.mir b o (sv s)) ∷ Γ) noticesTy b (o + 8216) (arrayVal (vals X.the-field X′.the-field-laws cs)) (‵ (fat fullShare T′.mir b o (sv (put-capacities s cs))) ∷ Γ)
+      → Writes K W (‵ (fat fullShare T′.mir b o (sv s)) ∷ Γ) noticesTy b (o + 8216) (arrayVal (vals X.the-field X′.the-field-laws cs)) (‵ (fat fullShare T′.mir b o (sv (withCapacities s cs))) ∷ Γ)
   store-capacities k s cs wt = field-stored k 5 refl refl wt
 
   pub read-capacity : K → {q : Share} {b o : ℕ} (s : Session) (i : ℕ) (d : Notice) → Good s → i < 8

@@ -2,27 +2,37 @@
 // for, found there, so that no array is copied.
 ghost use mathlib.Core.Path.{_≡_};
 ghost use Prim.Native.Nat.{_<_};
-ghost use Rattle.changes.specs.Changes.{Placed, withVerdicts, withFigures, registryWith, standingWith};
+ghost use Rattle.changes.specs.Changes.{Placed, withVerdicts, withFigures, registryWith, capacitiesWith, standingWith};
 ghost use Rattle.verdicts.specs.Parts.{LodgedFound};
 ghost use Rattle.energies.specs.Parts.{UnitFound};
-use response::Closed;
-use response::DayCleared;
-use response::Lodged;
-use response::Registered;
+use effects::Closed;
+use effects::DayCleared;
+use effects::Lodged;
+use effects::Noted;
+use effects::Registered;
 use session::Session;
 use told::Response;
 
-// Units and notices: all capacities, the count, one unit and its notice.
+// Units and their notices: the count, one unit and its notice.
 pub fn settle_registry(s: &mut Session, t: Registered) -> Response
     requires { ⌜ t .change .at < 64 ⌝ }
     ensures { λ r. ⌜ (now (s .exit) ≡ registryWith (now (s .entry)) (t .change)) × (r ≡ t .response) ⌝ }
 {
     if t.change.changed {
-        s.capacities = t.change.capacities;
         s.enrolled = t.change.enrolled;
         let at = t.change.at;
         s.units[at] = t.change.unit;
         s.notices[at] = t.change.notice;
+    }
+    t.response
+}
+
+// All capacities.
+pub fn settle_capacities(s: &mut Session, t: Noted) -> Response
+    ensures { λ r. ⌜ (now (s .exit) ≡ capacitiesWith (now (s .entry)) (t .change)) × (r ≡ t .response) ⌝ }
+{
+    if t.change.changed {
+        s.capacities = t.change.capacities;
     }
     t.response
 }

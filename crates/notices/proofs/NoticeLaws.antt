@@ -114,7 +114,7 @@ module _ (n : ℕ) (es : List ℕ) where
 
   -- a notice in the book is a notice in its image
   available-image : (b : B.Book) → Sound b → b .closed ≡ false → (p : ℕ) → placeOf (U.hasNumber n) (b .units) ≡ p → p < length (b .units)
-      → withRegistry (image b) (image b .enrolled) (image b .units) (set (image b .notices) p (noticeAs (some es))) (image b .capacities) ≡ image (D.applied b (D.available n es))
+      → withRegistry (image b) (image b .enrolled) (image b .units) (set (image b .notices) p (noticeAs (some es))) ≡ image (D.applied b (D.available n es))
   unfolding image verdictsIn hoursIn D.applied D.withUnits B.hours
   available-image b sound k p at h =
       rw (← at, same-units (b .units), noticed (once-numbered (sound .ranges .units .distinct)) (rw (← at) at h), length-map (b .units) (D.notify n es), k, open-stage b sound k)

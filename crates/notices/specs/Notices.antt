@@ -17,6 +17,6 @@ keptAs count es = record { given = true; energies = pad 25 0 (take count es) }
 -- a notice at the place of unit u, all else as it was
 abbrev pub notedAt : Session → ℕ → Unit → ℕ → List ℕ → RegistryTurn
 notedAt s at u count es = record {
-  change = record { enrolled = s .enrolled; at = at; unit = u; notice = keptAs count es; capacities = s .capacities; changed = true };
+  change = record { enrolled = s .enrolled; at = at; unit = u; notice = keptAs count es; changed = true };
   answer = Done;
 }

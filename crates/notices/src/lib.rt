@@ -100,13 +100,11 @@ fn note_available(
     ensures { λ r. ⌜ r ≡ notedAt s at unit count energies ⌝ }
 {
     let notice = kept_notice(count, energies);
-    let capacities = s.capacities;
     let change = RegistryChange {
         enrolled: s.enrolled,
         at: at,
         unit: unit,
         notice: notice,
-        capacities: capacities,
         changed: true,
     };
     RegistryTurn {

@@ -85,7 +85,7 @@ module _ (s : Session) (u : Unit) where
       rw (k, registered-as s b e (u .number), t, second-as s b e u, g, enrolled-as s b e, lt-leb 64 (s .enrolled) f, closed-as s b e, h)
 
   abbrev pub withUnit : Session
-  withUnit = withRegistry s (s .enrolled + 1) (set (s .units) (s .enrolled) u) (set (s .notices) (s .enrolled) noNotice) (s .capacities)
+  withUnit = withRegistry s (s .enrolled + 1) (set (s .units) (s .enrolled) u) (set (s .notices) (s .enrolled) noNotice)
 
 -- one unit more in the book is one more in its image
 enrolled-image : (b : B.Book) (u : Unit) → length (b .units) < 64 → b .closed ≡ false → b .cleared ≡ false → withUnit (image b) u ≡ image (D.applied b (D.register (unitIn u)))

@@ -132,13 +132,11 @@ fn enrol(s: Session, u: Unit) -> RegistryTurn
 {
     let at = s.enrolled;
     let notice = no_notice();
-    let capacities = s.capacities;
     let change = RegistryChange {
         enrolled: at + 1,
         at: at,
         unit: u,
         notice: notice,
-        capacities: capacities,
         changed: true,
     };
     RegistryTurn {

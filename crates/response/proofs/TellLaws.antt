@@ -5,22 +5,25 @@ use mathlib.Core.Bool.{true}
 use native.Mathlib.Omega.{arith}
 use Rattle.rules.specs.DayBook as D
 use Rattle.session.specs.Steps.{Met, isRefusal}
-use Rattle.changes.specs.Changes.{Placed, registryTurn, standingTurn, closingTurn, clearingTurn}
+use Rattle.changes.specs.Changes.{Placed, registryTurn, capacityTurn, standingTurn, closingTurn, clearingTurn}
 use Rattle.session.specs.declared.Session.{Session}
 use Rattle.session.specs.declared.Turn.{Turn}
 use Rattle.changes.specs.declared.RegistryTurn.{RegistryTurn}
+use Rattle.changes.specs.declared.CapacityTurn.{CapacityTurn}
 use Rattle.changes.specs.declared.StandingTurn.{StandingTurn}
 use Rattle.changes.specs.declared.ClosingTurn.{ClosingTurn}
 use Rattle.changes.specs.declared.ClearingTurn.{ClearingTurn}
 use Rattle.session.specs.declared.Answer.{Answer}
 use Rattle.session.specs.declared.Answer.the-variants as A
-use Rattle.response.specs.Told.{Stepped, steppedAs, registeredAs, lodgedAs, closedAs, dayClearedAs, registryLeft, standingLeft, closingLeft, clearingLeft, MetAs}
+use Rattle.effects.specs.Effects.{Stepped, steppedAs, registeredAs, notedAs, lodgedAs, closedAs, dayClearedAs, registryLeft, capacitiesLeft, standingLeft, closingLeft, clearingLeft}
+use Rattle.response.specs.Told.{MetAs}
 use Rattle.told.specs.declared.Response.{Response}
 use Rattle.told.specs.Told.{ofAnswer}
-use Rattle.response.specs.declared.Registered.{Registered}
-use Rattle.response.specs.declared.Lodged.{Lodged}
-use Rattle.response.specs.declared.Closed.{Closed}
-use Rattle.response.specs.declared.DayCleared.{DayCleared}
+use Rattle.effects.specs.declared.Registered.{Registered}
+use Rattle.effects.specs.declared.Noted.{Noted}
+use Rattle.effects.specs.declared.Lodged.{Lodged}
+use Rattle.effects.specs.declared.Closed.{Closed}
+use Rattle.effects.specs.declared.DayCleared.{DayCleared}
 
 -- a call's answer is told, whatever it changes
 met-as : (s : Session) (c : D.Call) (t : Turn) → Met s c t → MetAs s c (steppedAs t)
@@ -29,6 +32,9 @@ met-as s c t m = record { answer = t .answer; met = m; told = refl }
 module _ (s : Session) (c : D.Call) where
   pub registry-met : (t : RegistryTurn) (r : Registered) → Met s c (registryTurn s t) → r ≡ registeredAs t → MetAs s c (registryLeft s r)
   registry-met t r m e = subst (λ x. MetAs s c (registryLeft s x)) (sym e) (met-as s c (registryTurn s t) m)
+
+  pub capacity-met : (t : CapacityTurn) (r : Noted) → Met s c (capacityTurn s t) → r ≡ notedAs t → MetAs s c (capacitiesLeft s r)
+  capacity-met t r m e = subst (λ x. MetAs s c (capacitiesLeft s x)) (sym e) (met-as s c (capacityTurn s t) m)
 
   pub standing-met : (t : StandingTurn) (r : Lodged) → Met s c (standingTurn s t) → r ≡ lodgedAs t → MetAs s c (standingLeft s r)
   standing-met t r m e = subst (λ x. MetAs s c (standingLeft s x)) (sym e) (met-as s c (standingTurn s t) m)

@@ -7,8 +7,6 @@ use Rattle.changes.proofs.ChangeLaws.{session-none, session-more}
 use borrow.Author.Needs.{needs}
 use Rattle.changes.proofs.moved_forward.Statement.{statement}
 use Rattle.changes.proofs.moved_forward.Tie as tie
-use Rattle.changes.proofs.moved_forward.Reads as reads
-use Rattle.changes.proofs.moved_forward.Lts as lts
 
 abbrev Inv-loop : tie.InvT-loop
 Inv-loop from to next₀ i₀ next i = (from ≤ i) × (i ≤ to) × (length (next .lodgements) ≡ 128) × (length (next .energies) ≡ 128) × (next ≡ movedIn next₀ from i)

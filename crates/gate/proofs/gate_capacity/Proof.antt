@@ -9,13 +9,13 @@ use Rattle.response.proofs.Capacities as U
 use Rattle.response.proofs.Capacities.Laws as U′
 use Rattle.gate.proofs.Passing.{Passed, Laws}
 use Rattle.gate.proofs.AppliedTo as law
-use Rattle.gate.proofs.Changes.{registered}
+use Rattle.gate.proofs.Changes.{noted}
 use Rattle.response.proofs.capacity.Symbol as step-def
 use Rattle.response.proofs.capacity.Symbol.{name as #step}
 use Rattle.response.proofs.capacity.Met as step-thm
-use Rattle.lent.proofs.settle_registry.Symbol as settle-def
-use Rattle.lent.proofs.settle_registry.Symbol.{name as #settle}
-use Rattle.lent.proofs.settle_registry.Met as settle-thm
+use Rattle.lent.proofs.settle_capacities.Symbol as settle-def
+use Rattle.lent.proofs.settle_capacities.Symbol.{name as #settle}
+use Rattle.lent.proofs.settle_capacities.Met as settle-thm
 use Rattle.gate.proofs.gate_capacity.Key.{name as #entry}
 use Rattle.gate.proofs.gate_capacity as f
 use Rattle.gate.proofs.gate_capacity.Statement as stated
@@ -32,6 +32,6 @@ unfolding code.routine tablesOf
 gate-capacity-spec 𝓤 H 𝓜 𝓖 𝓡 =
     entered 𝓤 H (tripleOf 𝓤 H (𝓖 .A) f.signature (f.spec 𝓤 H (𝓖 .A) (𝓜 .mem) (𝓡 .run)))
     (tables 𝓤 H 𝓜 𝓡 code.env .C) (tables 𝓤 H 𝓜 𝓡 code.env .Λ) #entry code.function (code.unfolded 𝓤 H 𝓜 𝓡)
-    (law.meets passed its-laws registered #step #settle (λ h u r. MetAs h (capacityIn u) r) 𝓤 H (𝓖 .A) (givenOf 𝓤 H 𝓜 𝓖) (tablesOf 𝓤 H 𝓜 (tables 𝓤 H 𝓜 𝓡 code.env))
-    (cited 𝓤 H (law.Step passed registered (λ h u r. MetAs h (capacityIn u) r) 𝓤 H (𝓖 .A)) 𝓜 𝓡 code.env #step step-def.routine code.calls-response·capacity (step-thm.met 𝓤 H 𝓜 𝓖 𝓡))
-    (cited 𝓤 H (law.Settle registered 𝓤 H (𝓖 .A)) 𝓜 𝓡 code.env #settle settle-def.routine code.calls-lent·settle-registry (settle-thm.met 𝓤 H 𝓜 𝓖 𝓡)))
+    (law.meets passed its-laws noted #step #settle (λ h u r. MetAs h (capacityIn u) r) 𝓤 H (𝓖 .A) (givenOf 𝓤 H 𝓜 𝓖) (tablesOf 𝓤 H 𝓜 (tables 𝓤 H 𝓜 𝓡 code.env))
+    (cited 𝓤 H (law.Step passed noted (λ h u r. MetAs h (capacityIn u) r) 𝓤 H (𝓖 .A)) 𝓜 𝓡 code.env #step step-def.routine code.calls-response·capacity (step-thm.met 𝓤 H 𝓜 𝓖 𝓡))
+    (cited 𝓤 H (law.Settle noted 𝓤 H (𝓖 .A)) 𝓜 𝓡 code.env #settle settle-def.routine code.calls-lent·settle-capacities (settle-thm.met 𝓤 H 𝓜 𝓖 𝓡)))

@@ -42,7 +42,8 @@ use denote.Triple.Table.{entered, cited}
 use denote.Triple.Walked.{says, Stays, gave-ref, stay-none-slice, walkOf, AllGo, goes-none-slice, goes-gave-ref, Walks, ends-at, walked, walk-meets}
 use denote.Exit.{yes}
 use Rattle.rules.specs.DayBook as D
-use Rattle.response.specs.Told.{Stepped, MetAs}
+use Rattle.effects.specs.Effects.{Stepped}
+use Rattle.response.specs.Told.{MetAs}
 use Rattle.changes.specs.Changes.{Placed, standingWith}
 use Rattle.session.specs.declared.Session.{Session}
 use Rattle.session.specs.declared.Notice.{Notice}
@@ -52,7 +53,7 @@ use Rattle.pending.specs.Excerpts.{bareNotice}
 use Rattle.pending.specs.Awaiting.{Pends}
 use Rattle.pending.specs.declared.Pending.{Pending}
 use Rattle.told.specs.declared.Response.{Response}
-use Rattle.response.specs.declared.Lodged.{Lodged}
+use Rattle.effects.specs.declared.Lodged.{Lodged}
 use Rattle.session.proofs.Session as T
 use Rattle.session.proofs.Session.Laws as T′
 use Rattle.session.proofs.Notice as X
@@ -61,8 +62,8 @@ use Rattle.session.proofs.Energies as E
 use Rattle.session.proofs.Energies.Laws as E′
 use Rattle.pending.proofs.Pending as P
 use Rattle.pending.proofs.Pending.Laws as P′
-use Rattle.response.proofs.Lodged as G
-use Rattle.response.proofs.Lodged.Laws as G′
+use Rattle.effects.proofs.Lodged as G
+use Rattle.effects.proofs.Lodged.Laws as G′
 use Rattle.told.proofs.Response as N
 use Rattle.told.proofs.Response.Laws as N′
 use Rattle.pending.proofs.pend as read
@@ -78,7 +79,7 @@ use Rattle.lent.proofs.settle_standing.Symbol.{name as #settle}
 use Rattle.lent.proofs.settle_standing.Met as settle-thm
 use Rattle.lent.proofs.Cell.{sv, field-read}
 use Rattle.lent.proofs.SessionCell.{Good as Holds, good-notice, good-energies, at-notices, at-energies, read-notice, read-energies}
-use Rattle.gate.proofs.AppliedTo.{entry-ended, settle-clauses, Settle, passed, to-settle, goes-settle, settled, stepped}
+use Rattle.gate.proofs.AppliedTo.{entry-ended, settle-clauses, Settle, passed, to-settle, goes-settle, settled, stepped, owed}
 use Rattle.gate.proofs.Changes.{lodged}
 use Rattle.gate.proofs.gate_lodge.Key.{name as #entry}
 use Rattle.gate.proofs.gate_lodge as f
@@ -276,7 +277,7 @@ module _ {M : Type 1} (𝓤 : URA M) (H : Heap 𝓤) (A : Atoms 𝓤) (W : Given
         -- [obs; the borrow; its token; the message's token; the message's; true; _31; …; .. room for _0; …]
         land ! (from ! (stop !)) (init ! 50 refl (LL.lawful G.the-type G′.the-laws 𝓤 H A W .typed r _ is .0)) $ rewrite ! 50 (λ (w : Val). ‵ (fat fullShare G′.mir l₉ 0 w)) (ap only (LL.tells G.the-type G′.the-laws r _ is)) refl $
         assigns ! (addr ! (from ! (hop ! (look ! 66 refl) (stop !)))) (from ! (stop !)) (init ! 6 refl (tt, tt)) $
-        use3 W (raw (Settle lodged 𝓤 H A .pre (to-settle lodged 𝓤 H A W κ q b o γ h r))) (goes-settle lodged 𝓤 H A W κ q b o γ h r (subst (λ (ws : List Val). Is G.the-row r ws) (LL.tells G.the-type G′.the-laws r _ is) is) (e .1)) $
+        use3 W (raw (Settle lodged 𝓤 H A .pre (to-settle lodged 𝓤 H A W κ q b o γ h r))) (goes-settle lodged 𝓤 H A W κ q b o γ h r (subst (λ (ws : List Val). Is G.the-row r ws) (LL.tells G.the-type G′.the-laws r _ is) is) (owed (lodged .asks) (Good (stepped lodged h r)) r (e .0 (now m) found, e .1) 𝓤)) $
         -- [what is asked; the message's token; the message's; true; _31; …; .. room for _0; …]
         calls-at ! fm (Settle lodged 𝓤 H A) stores (to-settle lodged 𝓤 H A W κ q b o γ h r) (and-then ! (load ! (from ! (stop !)) (look ! 4 refl)) (and-then ! (load ! (from ! (stop !)) (look ! 48 refl)) (no-more !))) (λ v₂.
         use1 W (later (some (λ (w : Response). ((‵ (flft κ q) ⊛ ‵ ftrue) ⊛ ‵ (N.the-row .own w (v₂ ∷ []))) ⊛ raw (ensured 𝓤 H A (entry-ended (lodged .type)) (settle-clauses lodged 𝓤) (κ, tt) (passed lodged 𝓤 H A W κ q b o γ h r) tt w)))) (id⊢ 𝓤 _) $ await ! tt $ pick ! (λ w.

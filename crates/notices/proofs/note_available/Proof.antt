@@ -6,7 +6,7 @@ kept-notice-requires : tie.Need-kept-notice-requires
 kept-notice-requires c κs = search needs
 
 returns : tie.Need-returns
-returns c = rw (c .before .kept-notice .ensures)
+returns c = rw (c .kept-notice .ensures)
 
 pub note-available-spec : {M : Type 1} → statement M
 note-available-spec = tie.close (tie.spec kept-notice-requires returns)
