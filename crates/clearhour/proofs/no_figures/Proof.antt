@@ -1,8 +1,8 @@
 use mathlib.Core.Path.{refl}
 use Rattle.hour.specs.View.{noFigures}
 use borrow.Author.Needs.{needs}
-use Rattle.hour.proofs.no_figures.Statement.{statement}
-use Rattle.hour.proofs.no_figures.Tie as tie
+use Rattle.clearhour.proofs.no_figures.Statement.{statement}
+use Rattle.clearhour.proofs.no_figures.Tie as tie
 
 returns : tie.Need-returns
 unfolding noFigures
