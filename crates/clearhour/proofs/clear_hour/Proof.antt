@@ -1,6 +1,5 @@
 use mathlib.Core.Path.{refl, sym, _∙_}
 use native.Mathlib.Nat.{le-trans}
-use native.Mathlib.Omega.{arith}
 use denote.Struct.Field.{u32-field}
 use lib.ListN.{length-map}
 use Rattle.matching.specs.View.{offersOf}
@@ -8,7 +7,6 @@ use Rattle.borders.specs.View.{executionsOf}
 use Rattle.borders.proofs.FlowLaws.{execution-flows}
 use Rattle.hour.proofs.ReadyLaws.{offered-small, energy-small, capacity-small}
 use Rattle.clearhour.proofs.ClearLaws.{enough-said, cleared-said}
-use borrow.Author.Needs.{needs}
 use Rattle.clearhour.proofs.clear_hour.Statement.{statement}
 use Rattle.clearhour.proofs.clear_hour.Tie as tie
 

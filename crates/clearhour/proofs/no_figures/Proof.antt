@@ -1,6 +1,5 @@
 use mathlib.Core.Path.{refl}
 use Rattle.hour.specs.View.{noFigures}
-use borrow.Author.Needs.{needs}
 use Rattle.clearhour.proofs.no_figures.Statement.{statement}
 use Rattle.clearhour.proofs.no_figures.Tie as tie
 
