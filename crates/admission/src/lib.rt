@@ -20,7 +20,7 @@ use loads::counted_places;
 use loads::loads_of;
 use message::Fields;
 use message::judge::bad_fields;
-use message::judge::bad_map;
+use ranges::bad_map;
 use session::FULL;
 use session::HOUR;
 use session::Holder;
