@@ -1,7 +1,7 @@
--- Flows from arrays: one turn of the loop and its end, and that they are the rules' flows of the lists.
+-- Flows from arrays: one turn of the loop and its end, and that those of executions are the rules' flows of their list.
 use Prim.Native.Nat.{ℕ, _+_, _≤_, _<_}
 use mathlib.Core.Path.{_≡_, refl, ap, sym, _∙_, subst}
-use mathlib.Core.Bool.{Bool, true, false, cond, not, _&&_}
+use mathlib.Core.Bool.{Bool, false, cond}
 use mathlib.Core.List.{List, [], _∷_, map}
 use native.Mathlib.Omega.{arith}
 use native.Mathlib.Nat.{le-refl, le-trans}
@@ -10,20 +10,16 @@ use lib.ListN.{getD, set, length}
 use lib.Seq.{getD-set-same, getD-set-other}
 use borrow.Author.Tests.{eqb-true, eqb-false, ne-eqb}
 use Rattle.rules.specs.Lists.{keep, sum, sumOf, from}
-use Rattle.rules.specs.Match.{Offer}
 use Rattle.rules.specs.Borders.{Execution, runs, flow}
-use Rattle.rules.specs.Split.{legacyFlow}
 use Rattle.rules.proofs.BoolLaws.{by-bool}
 use Rattle.arrays.specs.Listing.{behind, Listed}
 use Rattle.arrays.proofs.PlaceLaws.{from-next, from-end, none-off, set-small}
 use Rattle.arrays.proofs.ListingLaws.{behind-next, gap-up}
-use Rattle.matching.specs.declared.Offers.{Offers}
-use Rattle.matching.specs.View.{offerAt, offersOf}
 use Rattle.borders.specs.declared.Executions.{Executions}
 use Rattle.borders.specs.Ways.{wayOf}
-use Rattle.borders.specs.Flows.{countedFor, addsTo, flowFrom, ByWay, Abroad, MarketFlows, BorderFlows, LegacyFlows, ExecutionFlows}
+use Rattle.borders.specs.Flows.{countedFor, addsTo, flowFrom, ByWay, Abroad, ExecutionFlows}
 use Rattle.borders.specs.View.{executionAt, executionsOf}
-use Rattle.borders.proofs.WayLaws.{runs-way, way-low, way-inner}
+use Rattle.borders.proofs.WayLaws.{runs-way, way-low}
 
 -- The loop
 
@@ -88,61 +84,13 @@ set-more b c v x f h k l w = set-small c f v x k (λ j. le-trans (h j) l) w
 -- The rules' lists
 
 -- a list by index: the energy of those that pass a test
-kept-sum : {A : Type 0} (energy : A → ℕ) (p : A → Bool) (at : ℕ → A) (g : ℕ → ℕ) → ((i : ℕ) → g i ≡ cond (p (at i)) (energy (at i)) 0)
+pub kept-sum : {A : Type 0} (energy : A → ℕ) (p : A → Bool) (at : ℕ → A) (g : ℕ → ℕ) → ((i : ℕ) → g i ≡ cond (p (at i)) (energy (at i)) 0)
     → (is : List ℕ) → sumOf g is ≡ sumOf energy (keep p (map at is))
 unfolding sumOf sum keep
 kept-sum energy p at g h [] = refl
 kept-sum energy p at g h (i ∷ is) =
     by-bool (p (at i)) (λ t. rw t (omega (arith, kept-sum energy p at g h is, rw t at (h i))))
     (λ t. rw t (omega (arith, kept-sum energy p at g h is, rw t at (h i))))
-
--- those that pass two tests
-keep-both : {A : Type 0} (p q : A → Bool) (xs : List A) → keep p (keep q xs) ≡ keep (λ x. q x && p x) xs
-unfolding keep
-keep-both p q [] = refl
-keep-both p q (x ∷ xs) =
-    by-bool (q x) (λ t. rw t (by-bool (p x) (λ u. rw u (ap (λ l. x ∷ l) (keep-both p q xs))) (λ u. rw u (keep-both p q xs))))
-    (λ t. rw t (keep-both p q xs))
-
--- a legacy holder's energy counts, another's does not
-legacy-counted : (l r : Bool) (e : ℕ) → cond r (countedFor true l e) 0 ≡ cond (l && r) e 0
-unfolding countedFor
-legacy-counted true r e = refl
-legacy-counted false true e = refl
-legacy-counted false false e = refl
-
-module _ (h : Offers) (offered matched : List ℕ) where
-  way-flow : (b : ℕ) (e : Bool) → flowFrom false (h .border) (h .purchase) (h .legacy) matched 0 (h .count) (wayOf b e) ≡ flow (λ o. o .holder) (λ o. o .matched) b e (offersOf h offered matched)
-  unfolding flowFrom flow offersOf addsTo countedFor
-  way-flow b e =
-      ap (λ n. sumOf (addsTo false (h .border) (h .purchase) (h .legacy) matched (wayOf b e)) (from 0 n)) (none-off (h .count))
-      ∙ kept-sum (λ (o : Offer). o .matched) (λ o. runs b e (o .holder)) (offerAt h offered matched)
-      (addsTo false (h .border) (h .purchase) (h .legacy) matched (wayOf b e))
-      (λ i. rw (runs-way b e (offerAt h offered matched i .holder))) (from 0 (h .count))
-
-  -- the market flows at the borders
-  pub border-flows : (f : List ℕ) → Abroad (h .border) (h .purchase) matched (h .count) f → BorderFlows f (offersOf h offered matched)
-  border-flows f k b e o l = k (h .legacy) (wayOf b e) (way-inner b e o) ∙ way-flow b e
-
-module _ (h : Offers) (offered matched : List ℕ) {f : List ℕ} where
-  -- all of them
-  pub market-flows : ByWay false (h .border) (h .purchase) (h .legacy) matched (h .count) f
-      → MarketFlows f (offersOf h offered matched)
-  market-flows k b e l = k .sums (wayOf b e) ∙ way-flow h offered matched b e
-
-  -- the matched legacy flows
-  pub legacy-flows : ByWay true (h .border) (h .purchase) (h .legacy) matched (h .count) f
-      → LegacyFlows f (offersOf h offered matched)
-  unfolding flowFrom flow legacyFlow offersOf addsTo
-  legacy-flows k b e l =
-      k .sums (wayOf b e)
-      ∙ ap (λ n. sumOf (addsTo true (h .border) (h .purchase) (h .legacy) matched (wayOf b e)) (from 0 n)) (none-off (h .count))
-      ∙ kept-sum (λ (o : Offer). o .matched) (λ o. o .holder .legacy && runs b e (o .holder)) (offerAt h offered matched)
-      (addsTo true (h .border) (h .purchase) (h .legacy) matched (wayOf b e))
-      (λ i. rw (runs-way b e (offerAt h offered matched i .holder))
-      (legacy-counted (getD (h .legacy) i false) (eqb (wayOf (getD (h .border) i 0) (getD (h .purchase) i false)) (wayOf b e)) (getD matched i 0)))
-      (from 0 (h .count))
-      ∙ ap (sumOf (λ (o : Offer). o .matched)) (sym (keep-both (λ (o : Offer). runs b e (o .holder)) (λ o. o .holder .legacy) (offersOf h offered matched)))
 
 -- the executions' flows
 pub execution-flows : (x : Executions) (energy : List ℕ) {f : List ℕ}

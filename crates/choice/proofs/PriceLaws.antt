@@ -26,8 +26,9 @@ use Rattle.overrun.specs.Kept.{runsOver}
 use Rattle.overrun.specs.Lent.{Lent}
 use Rattle.overrun.proofs.LentLaws.{lent-over}
 use Rattle.overrun.proofs.KeptLaws.{among}
-use Rattle.choice.specs.declared.Group.{Group}
-use Rattle.choice.specs.Prices.{pricedOf, pricesFrom, outer, priceIn, beyond, pastOf, pastFrom, groupIn}
+use Rattle.overrun.specs.declared.Group.{Group}
+use Rattle.overrun.specs.Group.{groupIn}
+use Rattle.choice.specs.Prices.{pricedOf, pricesFrom, outer, priceIn, beyond, pastOf, pastFrom}
 
 -- The price found so far
 

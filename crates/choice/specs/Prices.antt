@@ -1,4 +1,4 @@
--- Step 2 by place: the prices among the offers in the directions passed, and the group chosen.
+-- Step 2 by place: the prices among the offers in the directions passed.
 use Prim.Native.Nat.{ℕ, _-_, min, max}
 use mathlib.Core.Bool.{Bool, true, false, cond, not, _&&_, Bool·beq}
 use mathlib.Core.List.{List, map}
@@ -6,9 +6,7 @@ use mathlib.Core.Option.{Option, some, none}
 use lib.Dec.{ltb, eqb}
 use lib.ListN.{getD}
 use Rattle.rules.specs.Lists.{from, keep, sum}
-use Rattle.rules.specs.Withdrawal.{Group as GroupOf, atPrice, legacyOffers}
 use Rattle.overrun.specs.Kept.{runsOver}
-use Rattle.choice.specs.declared.Group.{Group}
 
 -- "matched, non-legacy offers there in the direction passed", of one side
 unfoldable pub pricedOf : Bool → List ℕ → ℕ → Bool → Bool → ℕ → Bool
@@ -42,7 +40,3 @@ pastOf side p purchase price m = cond (Bool·beq purchase side && beyond side p 
 unfoldable pub pastFrom : Bool → ℕ → List Bool → List ℕ → List ℕ → ℕ → ℕ → ℕ
 pastFrom side p purchase price matched i n =
     sum (map (λ j. pastOf side p (getD purchase j false) (getD price j 0) (getD matched j 0)) (from i (n - i)))
-
--- the group of the code as that of the rules
-unfoldable pub groupIn : Group → GroupOf
-groupIn g = cond (g .legacy) legacyOffers (atPrice (g .side) (g .price))

@@ -1,4 +1,5 @@
 // Step 2 of a withdrawal, on the arrays of an hour (document 01, "Withdrawal step"): which offers give way.
+use overrun::Group;
 ghost use mathlib.Core.Path.{_≡_};
 ghost use mathlib.Core.List.{List};
 ghost use mathlib.Core.Option.{some};
@@ -11,17 +12,11 @@ ghost use Rattle.matching.specs.View.{offersOf};
 ghost use Rattle.borders.specs.Ways.{overIn};
 ghost use Rattle.arrays.specs.Listing.{Listed};
 ghost use Rattle.overrun.specs.Lent.{Lent};
-ghost use Rattle.choice.specs.Prices.{pricedOf, pricesFrom, outer, priceIn, beyond, pastOf, pastFrom, groupIn};
+ghost use Rattle.overrun.specs.Group.{groupIn};
+ghost use Rattle.choice.specs.Prices.{pricedOf, pricesFrom, outer, priceIn, beyond, pastOf, pastFrom};
 
 // The mark for no price.
 const NONE: u32 = 65_535;
-
-// Which offers give way in a step: the legacy offers, or those of one side at a price, not legacy.
-pub struct Group {
-    pub legacy: bool,
-    pub side: bool,
-    pub price: u32,
-}
 
 // Whether an offer is "among matched, non-legacy offers there in the direction passed", of one side.
 fn is_priced(

@@ -69,7 +69,7 @@ fn clear_hour<'a>(
         capacities,
     );
     let h = g.hour;
-    let c = hour::clear(h);
+    let c = clearhour::clear(h);
     let f = c.figures;
     let figures = results::kept(s.enrolled, h, f, &g.offering, &g.executing);
     HourEnd {

@@ -193,7 +193,7 @@ fn put_figures(h: Hour, f: Figures)
 }
 
 fn answer_hour(h: Hour) {
-    let c = hour::clear(h);
+    let c = clearhour::clear(h);
     if c.ready {
         put_figures(h, c.figures);
         return;

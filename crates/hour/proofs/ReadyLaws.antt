@@ -1,19 +1,13 @@
 -- The test of an hour and what it stands for.
 use Prim.Native.Nat.{ℕ, _≤_, _<_}
-use mathlib.Core.Path.{_≡_, refl}
-use mathlib.Core.Bool.{Bool, true, false, not, _&&_}
+use mathlib.Core.Path.{_≡_}
+use mathlib.Core.Bool.{Bool, true, false}
 use native.Mathlib.Omega.{arith}
-use lib.Dec.{ltb}
 use lib.ListN.{getD, length}
 use borrow.Author.Tests.{ltb-false, le-ltb, not-true}
-use Rattle.rules.specs.Lists.{any}
 use Rattle.rules.specs.Units.{maxEnergy, maxPrice}
 use Rattle.rules.proofs.BoolLaws.{both}
-use Rattle.arrays.specs.Places.{vals, rises}
 use Rattle.arrays.proofs.TestLaws.{above-none, of-above-none, above-none-all, rises-pairs, of-rises-pairs}
-use Rattle.matching.specs.declared.Offers.{Offers}
-use Rattle.matching.specs.View.{Sound}
-use Rattle.borders.specs.declared.Executions.{Executions}
 use Rattle.borders.specs.Flows.{Small}
 use Rattle.hour.specs.declared.Hour.{Hour}
 use Rattle.readiness.specs.Ranges.{offersReady, executionsReady, energiesReady}

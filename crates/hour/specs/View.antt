@@ -1,6 +1,5 @@
 -- An hour in arrays, read as the rules' hour, and its figures.
 use Prim.Native.Nat.{ℕ, _≤_}
-use mathlib.Core.List.{List}
 use lib.ListN.{getD, replicate}
 use Rattle.rules.specs.Units.{maxEnergy}
 use Rattle.rules.specs.Clearing as C

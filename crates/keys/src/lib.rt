@@ -11,7 +11,7 @@ ghost use Rattle.session.specs.Image.{image, keyIn};
 ghost use Rattle.session.specs.Parts.{placeOf, Holds};
 ghost use Rattle.keys.specs.Keys.{keyFor, ofKey, leftOf, hiding};
 use message::Fields;
-use message::judge::bad_contract;
+use ranges::bad_contract;
 use session::Holder;
 use session::Key;
 use session::Lodgement;

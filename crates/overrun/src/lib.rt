@@ -13,6 +13,13 @@ ghost use Rattle.arrays.specs.Listing.{Listed};
 ghost use Rattle.overrun.specs.Kept.{runsOver, keptOf, keptAt};
 ghost use Rattle.overrun.specs.Lent.{Lent};
 
+// Which offers give way in a step, which step 2 chooses: the legacy offers, or those of one side at a price, not legacy.
+pub struct Group {
+    pub legacy: bool,
+    pub side: bool,
+    pub price: u32,
+}
+
 // Whether an offer runs in a direction passed; a domestic one is at no border.
 pub fn runs_over(over: &[u32; 10], border: u32, purchase: bool) -> bool
     requires { ⌜ border < 5 ⌝ }

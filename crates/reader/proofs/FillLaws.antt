@@ -12,7 +12,7 @@ use lib.Seq.{drop-drop}
 use Rattle.rules.specs.Lists.{sum}
 use Rattle.rules.specs.Message.{bits, bitsOf, field, energyWidth, priceWidth, headWidth, slotWidth, setBits, hourBits, readSlots}
 use Rattle.rules.proofs.BitLaws.{length-bits, length-bitsOf, bitsOf-under, bits-same, field-drop, field-lt, field-add}
-use Rattle.message.specs.Slots.{badSlot}
+use Rattle.ranges.specs.Slots.{badSlot}
 use Rattle.reader.specs.Slots.{badSlots}
 use Rattle.message.proofs.FormLaws.{end-le}
 

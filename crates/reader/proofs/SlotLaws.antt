@@ -11,7 +11,7 @@ use Rattle.rules.specs.Units.{badNumber}
 use Rattle.rules.specs.Message.{Fields, bitsOf, field, energyWidth, priceWidth, headWidth, slotWidth, hourBits, names, readSlots, isExecution, mapOf, fieldsOf, decode, badContract, badHour, badFields}
 use Rattle.rules.proofs.ListLaws.{Under}
 use Rattle.rules.proofs.BitLaws.{length-bits, bits-under}
-use Rattle.message.specs.Slots.{badSlot}
+use Rattle.ranges.specs.Slots.{badSlot}
 use Rattle.reader.specs.Slots.{headIn, badSlots}
 use Rattle.reader.specs.declared.Head.{Head}
 

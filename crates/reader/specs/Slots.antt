@@ -5,7 +5,7 @@ use mathlib.Core.List.{List, [], _∷_}
 use lib.Dec.{eqb}
 use lib.ListN.{drop}
 use Rattle.rules.specs.Message.{field, energyWidth, priceWidth, slotWidth, isExecution, mapOf}
-use Rattle.message.specs.Slots.{badSlot}
+use Rattle.ranges.specs.Slots.{badSlot}
 use Rattle.message.specs.declared.Reading.{Reading}
 use Rattle.reader.specs.declared.Head.{Head}
 use Rattle.reader.specs.declared.Told.{Told}

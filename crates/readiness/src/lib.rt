@@ -1,4 +1,4 @@
-// Whether the parts of an hour are in their ranges, as those of a session's hours are: what `hour::clear` tests first.
+// Whether the parts of an hour are in their ranges, as those of a session's hours are: what `clearhour::clear` tests first.
 use borders::Executions;
 use matching::Offers;
 ghost use mathlib.Core.Path.{_≡_};

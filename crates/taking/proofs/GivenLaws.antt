@@ -16,8 +16,8 @@ use Rattle.borders.specs.Ways.{wayOf, directed, overIn}
 use Rattle.borders.proofs.WayLaws.{runs-directed}
 use Rattle.overrun.specs.Kept.{runsOver}
 use Rattle.overrun.proofs.KeptLaws.{among}
-use Rattle.choice.specs.declared.Group.{Group}
-use Rattle.choice.specs.Prices.{groupIn}
+use Rattle.overrun.specs.declared.Group.{Group}
+use Rattle.overrun.specs.Group.{groupIn}
 use Rattle.taking.specs.Given.{inside, givenOf, givenAt}
 
 -- the group

@@ -22,8 +22,8 @@ use Rattle.borders.specs.Ways.{directed, overIn}
 use Rattle.losses.specs.Losses.{amountAt, amountsIn, lossesIn, lossesOver, lossesFrom}
 use Rattle.overrun.specs.Lent.{Lent}
 use Rattle.overrun.proofs.LentLaws.{lent-over}
-use Rattle.choice.specs.declared.Group.{Group}
-use Rattle.choice.specs.Prices.{groupIn}
+use Rattle.overrun.specs.declared.Group.{Group}
+use Rattle.overrun.specs.Group.{groupIn}
 use Rattle.taking.specs.Given.{givenAt, leftAt, GivenIn, Lower}
 use Rattle.taking.proofs.GivenLaws.{gives-at, gives-none}
 

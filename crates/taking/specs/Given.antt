@@ -8,7 +8,7 @@ use lib.ListN.{getD, length}
 use Rattle.matching.specs.declared.Offers.{Offers}
 use Rattle.borders.specs.Ways.{wayOf}
 use Rattle.overrun.specs.Kept.{runsOver}
-use Rattle.choice.specs.declared.Group.{Group}
+use Rattle.overrun.specs.declared.Group.{Group}
 
 -- an offer is of the group
 unfoldable pub inside : Group → Bool → Bool → ℕ → Bool

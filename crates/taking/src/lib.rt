@@ -1,5 +1,5 @@
 // Steps 3 and 4 of a withdrawal, on the arrays of an hour (document 01, "Withdrawal step"): what the group loses.
-use choice::Group;
+use overrun::Group;
 ghost use mathlib.Core.Path.{_≡_};
 ghost use mathlib.Core.Bool.{cond};
 ghost use lib.Dec.{eqb};
@@ -13,7 +13,7 @@ ghost use Rattle.borders.specs.Ways.{overIn};
 ghost use Rattle.arrays.specs.Places.{layOn};
 ghost use Rattle.arrays.specs.Listing.{Listed};
 ghost use Rattle.overrun.specs.Lent.{Lent};
-ghost use Rattle.choice.specs.Prices.{groupIn};
+ghost use Rattle.overrun.specs.Group.{groupIn};
 ghost use Rattle.taking.specs.Given.{inside, givenOf, givenAt, leftAt, Lower};
 
 // Whether an offer is of the group.

@@ -1,2 +1,3 @@
+pub mod FlowLaws
 pub mod StepLaws
 pub mod TurnLaws

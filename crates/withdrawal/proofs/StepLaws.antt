@@ -19,8 +19,8 @@ use Rattle.borders.specs.Ways.{overIn}
 use Rattle.overrun.specs.Kept.{keptAt}
 use Rattle.overrun.specs.Lent.{Lent}
 use Rattle.overrun.proofs.KeptLaws.{kept-between}
-use Rattle.choice.specs.declared.Group.{Group}
-use Rattle.choice.specs.Prices.{groupIn}
+use Rattle.overrun.specs.declared.Group.{Group}
+use Rattle.overrun.specs.Group.{groupIn}
 use Rattle.taking.specs.Given.{Lower}
 use Rattle.withdrawal.specs.Steps.{Stepped}
 

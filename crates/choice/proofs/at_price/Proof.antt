@@ -1,5 +1,5 @@
 use mathlib.Core.Path.{refl}
-use Rattle.choice.specs.Prices.{groupIn}
+use Rattle.overrun.specs.Group.{groupIn}
 use Rattle.choice.proofs.at_price.Statement.{statement}
 use Rattle.choice.proofs.at_price.Tie as tie
 

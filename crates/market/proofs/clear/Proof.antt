@@ -1,7 +1,7 @@
 use native.Mathlib.Nat.{le-trans}
 use native.Mathlib.Omega.{arith}
 use lib.ListN.{replicate}
-use Rattle.borders.proofs.FlowLaws.{market-flows}
+use Rattle.withdrawal.proofs.FlowLaws.{market-flows}
 use Rattle.market.proofs.MarketLaws.{market-said}
 use Rattle.market.proofs.clear.Statement.{statement}
 use Rattle.market.proofs.clear.Tie as tie

@@ -1,5 +1,5 @@
 use Rattle.matching.specs.View.{offersOf}
-use Rattle.borders.proofs.FlowLaws.{legacy-flows}
+use Rattle.withdrawal.proofs.FlowLaws.{legacy-flows}
 use Rattle.market.proofs.first_maxima.Statement.{statement}
 use Rattle.market.proofs.first_maxima.Tie as tie
 

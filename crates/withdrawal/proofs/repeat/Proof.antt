@@ -4,7 +4,7 @@ use native.Mathlib.Nat.{le-trans}
 use native.Mathlib.Omega.{arith}
 use lib.Seq.{length-take-le}
 use borrow.Author.Tests.{not-true, not-false}
-use Rattle.borders.proofs.FlowLaws.{border-flows}
+use Rattle.withdrawal.proofs.FlowLaws.{border-flows}
 use Rattle.withdrawal.specs.Turns.{Energies, Turning}
 use Rattle.withdrawal.proofs.TurnLaws.{lent, one-made, step-fits, energies-stepped, start-said, out-said, end-said, next-said}
 use borrow.Author.Needs.{needs}

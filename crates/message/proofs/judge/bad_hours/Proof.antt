@@ -8,10 +8,6 @@ use Rattle.message.specs.View.{fieldsIn}
 use Rattle.message.proofs.JudgeLaws.{badFrom, hours-here, hours-later, hours-past}
 use Rattle.message.proofs.judge.bad_hours.Statement.{statement}
 use Rattle.message.proofs.judge.bad_hours.Tie as tie
-use Rattle.message.proofs.judge.bad_hours.Reads as reads
-use Rattle.message.proofs.judge.bad_hours.Lts as lts
-use Rattle.message.proofs.judge.bad_slot.Reads as bad-slot-reads
-use Rattle.message.proofs.judge.named.Reads as named-reads
 
 abbrev Inv-loop : tie.InvT-loop
 Inv-loop m h₀ h = (1 ≤ h) × (h ≤ 26) × (badFrom (fieldsIn m) h ≡ any (badHour (fieldsIn m)) (from 1 25))

@@ -2,8 +2,6 @@ use Rattle.message.proofs.JudgeLaws.{named-is}
 use borrow.Author.Needs.{needs}
 use Rattle.message.proofs.judge.named.Statement.{statement}
 use Rattle.message.proofs.judge.named.Tie as tie
-use Rattle.message.proofs.judge.named.Reads as reads
-use Rattle.message.proofs.judge.named.Lts as lts
 
 sub-result : tie.Need-sub-result
 sub-result c = search needs

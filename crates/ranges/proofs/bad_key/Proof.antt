@@ -1,5 +1,5 @@
-use Rattle.message.proofs.judge.bad_key.Statement.{statement}
-use Rattle.message.proofs.judge.bad_key.Tie as tie
+use Rattle.ranges.proofs.bad_key.Statement.{statement}
+use Rattle.ranges.proofs.bad_key.Tie as tie
 
 bad-number-requires : tie.Need-bad-number-requires
 bad-number-requires c κs = tt

@@ -1,9 +1,9 @@
 use mathlib.Core.Path.{sym, _∙_}
 use Rattle.rules.proofs.BoolLaws.{not-both}
 use Rattle.hour.proofs.ReadyLaws.{ready-holds}
 use borrow.Author.Needs.{needs}
-use Rattle.hour.proofs.clear.Statement.{statement}
-use Rattle.hour.proofs.clear.Tie as tie
+use Rattle.clearhour.proofs.clear.Statement.{statement}
+use Rattle.clearhour.proofs.clear.Tie as tie
 
 clear-hour-requires : tie.Need-clear-hour-requires
 clear-hour-requires c κs = ready-holds (c .before .before .args .h) (sym (c .before .ready .ensures) ∙ c .if1 .taken)

@@ -1,9 +1,7 @@
 use borrow.Author.Tests.{eq-eqb, ne-eqb}
 use Rattle.rules.specs.Message.{badMap}
-use Rattle.message.proofs.judge.bad_map.Statement.{statement}
-use Rattle.message.proofs.judge.bad_map.Tie as tie
-use Rattle.message.proofs.judge.bad_map.Reads as reads
-use Rattle.message.proofs.judge.bad_map.Lts as lts
+use Rattle.ranges.proofs.bad_map.Statement.{statement}
+use Rattle.ranges.proofs.bad_map.Tie as tie
 
 returns : tie.Need-returns
 unfolding badMap

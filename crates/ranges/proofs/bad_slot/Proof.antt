@@ -1,11 +1,8 @@
 use borrow.Author.Tests.{eq-eqb, ne-eqb, lt-ltb, le-ltb}
-use Rattle.message.specs.Slots.{badSlot}
+use Rattle.ranges.specs.Slots.{badSlot}
 use borrow.Author.Needs.{needs}
-use Rattle.message.proofs.judge.bad_slot.Statement.{statement}
-use Rattle.message.proofs.judge.bad_slot.Tie as tie
-use Rattle.message.proofs.judge.bad_slot.Reads as reads
-use Rattle.message.proofs.judge.bad_slot.Lts as lts
-use Rattle.message.proofs.judge.top_price.Reads as top-price-reads
+use Rattle.ranges.proofs.bad_slot.Statement.{statement}
+use Rattle.ranges.proofs.bad_slot.Tie as tie
 
 returns : tie.Need-returns
 unfolding badSlot

@@ -1,8 +1,6 @@
 use Rattle.rules.specs.Message.{topPrice}
-use Rattle.message.proofs.judge.top_price.Statement.{statement}
-use Rattle.message.proofs.judge.top_price.Tie as tie
-use Rattle.message.proofs.judge.top_price.Reads as reads
-use Rattle.message.proofs.judge.top_price.Lts as lts
+use Rattle.ranges.proofs.top_price.Statement.{statement}
+use Rattle.ranges.proofs.top_price.Tie as tie
 
 returns : tie.Need-returns
 unfolding topPrice

@@ -1,16 +1,14 @@
 use mathlib.Core.Path.{refl, sym, _∙_}
 use native.Mathlib.Nat.{le-trans}
-use native.Mathlib.Omega.{arith}
 use denote.Struct.Field.{u32-field}
 use lib.ListN.{length-map}
 use Rattle.matching.specs.View.{offersOf}
 use Rattle.borders.specs.View.{executionsOf}
 use Rattle.borders.proofs.FlowLaws.{execution-flows}
 use Rattle.hour.proofs.ReadyLaws.{offered-small, energy-small, capacity-small}
-use Rattle.hour.proofs.ClearLaws.{enough-said, cleared-said}
-use borrow.Author.Needs.{needs}
-use Rattle.hour.proofs.clear_hour.Statement.{statement}
-use Rattle.hour.proofs.clear_hour.Tie as tie
+use Rattle.clearhour.proofs.ClearLaws.{enough-said, cleared-said}
+use Rattle.clearhour.proofs.clear_hour.Statement.{statement}
+use Rattle.clearhour.proofs.clear_hour.Tie as tie
 
 flows-requires : tie.Need-flows-requires
 flows-requires c κs = (c .before .before .before .before .before .before .before .before .before .pre .few, c .before .before .before .before .before .before .before .before .before .pre .crossings, energy-small (c .before .before .before .before .before .before .before .before .before .pre) (sym (length-map (c .before .before .before .before .before .before .before .before .before .args .h .energy) (u32-field .into)) ∙ c .before .before .before .before .before .before .before .before .before .good .0 .1 .1 .1 .1 .1 .0 .1 .0 .1))

@@ -1,36 +1,25 @@
 -- The parts of an hour's clearing together are the rules' `clearHour`.
-use Prim.Native.Nat.{ℕ, zero, suc, _+_, _-_, _≤_, _<_}
-use mathlib.Core.Path.{_≡_, refl, sym, _∙_, ap}
-use mathlib.Core.Bool.{Bool, true, false}
-use mathlib.Core.List.{List, [], _∷_, map}
+use Prim.Native.Nat.{ℕ, zero, suc, _+_, _≤_, _<_}
+use mathlib.Core.Path.{_≡_, refl}
+use mathlib.Core.List.{List}
 use native.Mathlib.Omega.{arith}
-use lib.ListN.{getD, length, replicate, length-replicate}
-use Rattle.rules.specs.Lists.{All, none, more, from, sum, sumOf}
-use Rattle.rules.specs.Units.{maxEnergy}
-use Rattle.rules.specs.Match.{Offer, matchAll, hourPrice}
-use Rattle.rules.specs.Borders.{Directed, Execution}
-use Rattle.rules.specs.Split.{maximumOf}
-use Rattle.rules.specs.Withdrawal.{Withdrawn, withdraw}
+use lib.ListN.{getD, replicate}
+use Rattle.rules.specs.Lists.{All, from}
 use Rattle.rules.specs.Executions.{cutAll}
 use Rattle.rules.specs.Clearing as C
 use Rattle.rules.proofs.ListLaws.{all-map}
 use Rattle.rules.proofs.ElementLaws.{Pairwise, empty, ahead, pairwise-map}
 use Rattle.rules.proofs.HourLaws as H
-use Rattle.arrays.specs.Places.{vals}
-use Rattle.arrays.proofs.PlaceLaws.{from-all, none-off, zeros}
-use Rattle.matching.specs.declared.Offers.{Offers}
-use Rattle.matching.specs.View.{Sound, Matched, offerAt, offersOf}
-use Rattle.matching.proofs.ViewLaws.{matched-small}
-use Rattle.borders.specs.declared.Executions.{Executions}
+use Rattle.arrays.proofs.PlaceLaws.{from-all}
+use Rattle.matching.specs.View.{Sound, offerAt, offersOf}
 use Rattle.borders.specs.View.{executionsOf}
 use Rattle.borders.specs.Ways.{publishedIn}
 use Rattle.cuts.specs.Cuts.{Enough}
 use Rattle.borders.proofs.WayLaws.{published-once}
 use Rattle.hour.specs.declared.Hour.{Hour}
-use Rattle.hour.specs.declared.Figures.{Figures}
 use Rattle.market.specs.declared.Market.{Market}
 use Rattle.hour.specs.Ready.{Ready}
 use Rattle.hour.specs.View.{hourIn, figuresIn}
 use Rattle.market.specs.Parts.{MarketCleared}
 
 -- numbers that rise along the places rise along the list

@@ -1,10 +1,7 @@
 use Rattle.rules.specs.Message.{badContract}
 use borrow.Author.Needs.{needs}
-use Rattle.message.proofs.judge.bad_contract.Statement.{statement}
-use Rattle.message.proofs.judge.bad_contract.Tie as tie
-use Rattle.message.proofs.judge.bad_contract.Reads as reads
-use Rattle.message.proofs.judge.bad_contract.Lts as lts
-use Rattle.message.proofs.judge.bad_number.Reads as bad-number-reads
+use Rattle.ranges.proofs.bad_contract.Statement.{statement}
+use Rattle.ranges.proofs.bad_contract.Tie as tie
 
 bad-number-requires : tie.Need-bad-number-requires
 bad-number-requires c κs = search needs

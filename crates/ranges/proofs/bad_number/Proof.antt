@@ -1,9 +1,7 @@
 use borrow.Author.Tests.{eq-eqb, ne-eqb}
 use Rattle.rules.specs.Units.{badNumber}
-use Rattle.message.proofs.judge.bad_number.Statement.{statement}
-use Rattle.message.proofs.judge.bad_number.Tie as tie
-use Rattle.message.proofs.judge.bad_number.Reads as reads
-use Rattle.message.proofs.judge.bad_number.Lts as lts
+use Rattle.ranges.proofs.bad_number.Statement.{statement}
+use Rattle.ranges.proofs.bad_number.Tie as tie
 
 returns : tie.Need-returns
 unfolding badNumber
