@@ -1,8 +1,8 @@
 -- Judging a message's fields: each way out.
 use Prim.Native.Nat.{ℕ, zero, suc, _≤_, _<_}
 use mathlib.Core.Path.{_≡_, refl, sym, ap, subst, _∙_}
-use mathlib.Core.Bool.{Bool, true, false, not, _&&_, _||_, true≢false}
-use mathlib.Core.List.{List, [], _∷_, map}
+use mathlib.Core.Bool.{Bool, true, false, not, _&&_, _||_}
+use mathlib.Core.List.{List, map}
 use lib.Dec.{leb, ltb}
 use native.Mathlib.Omega.{arith}
 use lib.ListN.{take, getD}
@@ -17,6 +17,7 @@ use Rattle.rules.proofs.BoolLaws.{by-bool, neither}
 use Rattle.message.specs.View.{fieldsIn}
 use Rattle.message.specs.declared.Fields.{Fields}
 use Rattle.arrays.specs.declared.Places.{Places}
+use Rattle.session.specs.Bare.{bareNotice, bareEnergies}
 use Rattle.session.specs.Image.{image, keyIn, noUnit}
 use Rattle.session.specs.Parts.{Within, told, Holds}
 use Rattle.session.specs.declared.Session.{Session}
@@ -28,14 +29,14 @@ use Rattle.session.specs.declared.Key.{Key}
 use Rattle.session.specs.declared.Judged.{Judged}
 use Rattle.session.specs.declared.Judged.the-variants.{No}
 use Rattle.session.proofs.ImageLaws.{hours-as, last-as, standing-as, capacities-as, unit-as, notice-as}
-use Rattle.loads.specs.Loads.{loadIn, bareEnergies, RowAt}
+use Rattle.loads.specs.Loads.{loadIn, RowAt}
 use Rattle.limits.proofs.NoticeLaws.{judged-by}
 use Rattle.keys.specs.Keys.{keyFor, keyPlace}
 use Rattle.keys.proofs.KeyLaws.{stands-at}
 use Rattle.keys.proofs.TakenLaws.{left-in, left-most}
 use Rattle.beside.specs.Beside.{marksFor}
 use Rattle.beside.proofs.BesideLaws.{load-as}
-use Rattle.pending.specs.Excerpts.{bareNotice, EnergiesIn}
+use Rattle.pending.specs.Excerpts.{EnergiesIn}
 use Rattle.pending.specs.declared.Excerpt.{Excerpt}
 use Rattle.admission.specs.Judging.{Room, fullAt, lastRows, fieldRows, judgedWith, JudgesFields, JudgesLimits}
 

@@ -5,31 +5,26 @@ ghost use Prim.Native.Nat.{_≤_, _<_};
 ghost use Rattle.rules.specs.Message.{badMap};
 ghost use Rattle.rules.specs.Lodging.{namesBeyond};
 ghost use Rattle.message.specs.View.{fieldsIn};
-ghost use Rattle.session.specs.Parts.{Within, Holds};
-ghost use Rattle.keys.specs.Keys.{keyFor, keyPlace};
-ghost use Rattle.loads.specs.Loads.{PlacesOf};
-ghost use Rattle.beside.specs.Beside.{marksFor};
+ghost use Rattle.keys.specs.Keys.{keyFor};
 ghost use Rattle.pending.specs.Excerpts.{EnergiesIn, Excerpts};
+ghost use Rattle.pending.specs.Awaiting.{Awaits};
 ghost use Rattle.admission.specs.Judging.{Room, fullAt, judgedWith, JudgesFields, JudgesLimits};
-use arrays::Places;
 use keys::bad_holder;
 use keys::key_of;
 use limits::judge_energy;
 use loads::loads_of;
 use loads::rows_of;
-use message::Fields;
 use message::judge::bad_fields;
 use pending::Excerpt;
+use pending::Pending;
 use ranges::bad_map;
 use session::FULL;
 use session::HOUR;
-use session::Holder;
 use session::Judged;
 use session::NO_UNIT;
 use session::Notice;
 use session::RANGE;
 use session::Session;
-use session::Unit;
 
 // The map names an hour beyond H: hour 25 is its lowest bit.
 fn names_beyond(hours: u32, map: u32) -> bool
@@ -63,12 +58,12 @@ fn is_full(n: usize, last: u32, at: usize) -> bool
     n <= at
 }
 
-// Rows 10 to 12 where up to four are counted beside.
-fn judge_few(s: Session, m: Fields, unit: Unit, beside: Places, x: Excerpt) -> Judged
-    requires { ⌜ Within s × PlacesOf (marksFor s m) (s .standing) beside × EnergiesIn s beside x × (beside .count ≤ 4) ⌝ }
-    ensures { λ r. ⌜ r ≡ judgedWith s m unit (x .notice) ⌝ }
+// Rows 10 to 12 where up to four are counted beside: no other energies are looked at.
+fn judge_few(s: Session, p: Pending, x: Excerpt) -> Judged
+    requires { ⌜ Awaits s p × EnergiesIn s (p .beside) x × (p .beside .count ≤ 4) ⌝ }
+    ensures { λ r. ⌜ r ≡ judgedWith s (p .fields) (p .holder .unit) (x .notice) ⌝ }
 {
-    let own = m.energies;
+    let own = p.fields.energies;
     let capacities = s.capacities;
     let hours = s.hours as usize;
     let first = x.first.energies;
@@ -80,36 +75,38 @@ fn judge_few(s: Session, m: Fields, unit: Unit, beside: Places, x: Excerpt) -> J
     at[1] = 1;
     at[2] = 2;
     at[3] = 3;
+    let unit = p.holder.unit;
     let notice = x.notice;
     judge_energy(
         unit,
         notice,
         capacities,
-        m.default,
+        p.fields.default,
         own,
         &rows,
         &at,
-        beside.count,
+        p.beside.count,
         hours,
     )
 }
 
-// The same for any number of them.
-fn judge_many(s: Session, m: Fields, unit: Unit, notice: Notice, beside: Places) -> Judged
-    requires { ⌜ Within s × PlacesOf (marksFor s m) (s .standing) beside ⌝ }
-    ensures { λ r. ⌜ r ≡ judgedWith s m unit notice ⌝ }
+// The same for any number of them: all energies are copied and laid out.
+fn judge_many(s: Session, p: Pending, notice: Notice) -> Judged
+    requires { ⌜ Awaits s p ⌝ }
+    ensures { λ r. ⌜ r ≡ judgedWith s (p .fields) (p .holder .unit) notice ⌝ }
 {
-    let own = m.energies;
+    let own = p.fields.energies;
     let capacities = s.capacities;
     let hours = s.hours as usize;
-    let every = [true; 128];
     let energies = s.energies;
-    let loads = loads_of(&every, s.standing, energies);
+    let loads = loads_of(s.standing, energies);
+    let unit = p.holder.unit;
+    let beside = p.beside;
     judge_energy(
         unit,
         notice,
         capacities,
-        m.default,
+        p.fields.default,
         own,
         &loads,
         &beside.at,
@@ -119,31 +116,23 @@ fn judge_many(s: Session, m: Fields, unit: Unit, notice: Notice, beside: Places)
 }
 
 // Rows 10 to 12, for a unit that is registered.
-fn judge_limits(s: Session, m: Fields, holder: Holder, beside: Places, x: Excerpt) -> Judged
-    requires { ⌜ Within s × Holds (s .units) (s .enrolled) (m .unit) holder × (holder .at < s .enrolled) × PlacesOf (marksFor s m) (s .standing) beside × Excerpts s holder beside x ⌝ }
-    ensures { λ r. ⌜ JudgesLimits s (fieldsIn m) r ⌝ }
+fn judge_limits(s: Session, p: Pending, x: Excerpt) -> Judged
+    requires { ⌜ Awaits s p × (p .holder .at < s .enrolled) × Excerpts s (p .holder) (p .beside) x ⌝ }
+    ensures { λ r. ⌜ JudgesLimits s (fieldsIn (p .fields)) r ⌝ }
 {
-    let unit = holder.unit;
-    if 4 < beside.count {
+    if 4 < p.beside.count {
         let notice = x.notice;
-        return judge_many(s, m, unit, notice, beside);
+        return judge_many(s, p, notice);
     }
-    judge_few(s, m, unit, beside, x)
+    judge_few(s, p, x)
 }
 
-// The refusal that applies to a message's fields, in the table's order; `at` is the place of the key's lodgement, `holder` its
-// unit, `beside` the places of those that are counted with it.
-pub fn judge_fields(
-    s: Session,
-    m: Fields,
-    at: usize,
-    holder: Holder,
-    beside: Places,
-    x: Excerpt,
-) -> Judged
-    requires { ⌜ Within s × (at ≡ keyPlace s (keyFor m)) × Holds (s .units) (s .enrolled) (m .unit) holder × PlacesOf (marksFor s m) (s .standing) beside × Excerpts s holder beside x ⌝ }
-    ensures { λ r. ⌜ JudgesFields s (fieldsIn m) r × (r ≡ Judged.Clear → Room s (keyFor m)) ⌝ }
+// The refusal that applies to a message's fields, in the table's order.
+pub fn judge_fields(s: Session, p: Pending, x: Excerpt) -> Judged
+    requires { ⌜ Awaits s p × Excerpts s (p .holder) (p .beside) x ⌝ }
+    ensures { λ r. ⌜ JudgesFields s (fieldsIn (p .fields)) r × (r ≡ Judged.Clear → Room s (keyFor (p .fields))) ⌝ }
 {
+    let m = p.fields;
     if bad_hours(s.hours, m.map) {
         return Judged::No(HOUR, 0);
     }
@@ -151,11 +140,12 @@ pub fn judge_fields(
         return Judged::No(RANGE, 0);
     }
     let key = key_of(m);
+    let holder = p.holder;
     if bad_holder(s, key, holder) {
         return Judged::No(NO_UNIT, 0);
     }
-    if is_full(s.standing, s.last, at) {
+    if is_full(s.standing, s.last, p.replaces) {
         return Judged::No(FULL, 0);
     }
-    judge_limits(s, m, holder, beside, x)
+    judge_limits(s, p, x)
 }

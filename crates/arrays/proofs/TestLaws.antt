@@ -1,17 +1,17 @@
 -- Laws of tests along an array: one turn of a loop and its end, and what a test says of each place.
 use Prim.Native.Nat.{ℕ, zero, suc, _+_, _-_, _≤_, _<_}
-use mathlib.Core.Path.{_≡_, refl, ap, sym, _∙_}
-use mathlib.Core.Bool.{Bool, true, false, _&&_}
-use mathlib.Core.List.{List, [], _∷_, map}
+use mathlib.Core.Path.{_≡_, refl, sym, _∙_}
+use mathlib.Core.Bool.{Bool, true, false}
+use mathlib.Core.List.{List, map}
 use mathlib.Core.Logic.{⊎-elim}
 use native.Mathlib.Nat.{lt-trans, eq-or-lt-of-le}
 use native.Mathlib.Omega.{arith}
 use lib.Dec.{ltb}
 use lib.ListN.{getD, length, List·getD-eq-default}
 use borrow.Author.Tests.{ltb-true, ltb-false, lt-ltb, le-ltb}
-use Rattle.rules.specs.Lists.{All, none, more, any, from}
+use Rattle.rules.specs.Lists.{any, from}
 use Rattle.rules.proofs.BoolLaws.{by-bool, both, of-both}
-use Rattle.rules.proofs.ListLaws.{all-map, all-mapped, any-false, of-any-false}
+use Rattle.rules.proofs.ListLaws.{all-mapped, any-false, of-any-false}
 use Rattle.arrays.specs.Places.{vals, risesFrom, rises}
 use Rattle.arrays.proofs.PlaceLaws.{none-off, from-all, all-at, vals-next, vals-end}
 

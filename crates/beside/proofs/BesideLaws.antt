@@ -1,7 +1,7 @@
 -- The lodgements that one is judged with: marks in their places, and the energy that they sum to.
 use Prim.Native.Nat.{ℕ, zero, suc, _+_, _-_, _<_, _≤_}
 use mathlib.Core.Path.{_≡_, refl, sym, ap, _∙_}
-use mathlib.Core.Bool.{Bool, true, false, cond, not, _&&_, Bool·beq, true≢false}
+use mathlib.Core.Bool.{Bool, true, false, cond, not, _&&_, Bool·beq}
 use mathlib.Core.List.{List, [], _∷_, _++_, map}
 use native.Mathlib.Omega.{arith}
 use lib.Dec.{eqb}
@@ -26,7 +26,7 @@ use Rattle.loads.specs.Loads.{marked, energyIn, loadIn}
 use Rattle.message.specs.View.{fieldsIn}
 use Rattle.message.specs.declared.Fields.{Fields}
 use Rattle.keys.specs.Keys.{keyFor, hiding}
-use Rattle.beside.specs.Beside.{counts, besideMarks}
+use Rattle.beside.specs.Beside.{counts, besideMarks, marksFor}
 
 -- Marks
 
@@ -131,6 +131,6 @@ module _ (k : Key) (ls : List L.Lodgement) where
 
 -- the energy that a message is judged by
 pub load-as : (s : Session) (b : Book) → s ≡ image b → (m : Fields) (h : ℕ)
-    → loadIn (m .energies) (besideMarks (take (s .standing) (s .lodgements)) (keyFor m)) (take (s .standing) (s .energies)) h ≡ L.judgedAt (b .standing) (fieldsIn m) h
+    → loadIn (m .energies) (marksFor s m) (take (s .standing) (s .energies)) h ≡ L.judgedAt (b .standing) (fieldsIn m) h
 unfolding loadIn L.judgedAt L.keyOf
 load-as s b e m h = rw (lodgements-as s b e, energies-as s b e, marks-as (keyFor m) (b .standing) h)

@@ -7,7 +7,7 @@ use mathlib.Core.List.{List, [], _∷_, map}
 use mathlib.Core.Logic.{⊎-elim}
 use native.Mathlib.Nat.{eq-or-lt-of-le}
 use native.Mathlib.Omega.{arith}
-use lib.Dec.{ltb, eqb}
+use lib.Dec.{eqb}
 use lib.ListN.{getD}
 use borrow.Author.Tests.{eq-eqb, ne-eqb, eqb-true, eqb-false}
 use Rattle.rules.specs.Lists.{keep, any, from}
@@ -17,7 +17,7 @@ use Rattle.rules.proofs.BoolLaws.{by-bool}
 use Rattle.rules.proofs.ElementLaws.{Pairwise, empty, ahead, pairwise-keep, pairwise-map}
 use Rattle.rules.proofs.DirectionLaws.{sameDirection, Once}
 use Rattle.arrays.proofs.PlaceLaws.{from-all}
-use Rattle.borders.specs.Ways.{wayOf, directed, publishedIn, overIn}
+use Rattle.borders.specs.Ways.{wayOf, directed, publishedIn}
 
 -- A direction and its place
 
@@ -132,20 +132,6 @@ module _ (a : List ℕ) (p : ℕ → Bool) (x : Holder) where
       among-places a x (keep p (from 2 8))
       ∙ any-behind p (wayOf (x .border) (x .purchase)) 2 8 (way-low (x .border) (x .purchase) h)
 
--- an energy runs in one of the directions over exactly if the array has an excess at its place; border 0 has none
-pub among-over : (over : List ℕ) (x : Holder) → x .border < 5 → ((e : Bool) → getD over (wayOf 0 e) 0 ≡ 0)
-    → any (λ d. runs (d .border) (d .export) x) (overIn over) ≡ ltb 0 (getD over (wayOf (x .border) (x .purchase)) 0)
-unfolding overIn
-among-over over x h z =
-    by-bool (eqb (x .border) 0)
-    (λ t. let q = eqb-true (x .border) 0 t in
-    among-none over (λ w. ltb 0 (getD over w 0)) x q
-    ∙ sym (ap (λ b. ltb 0 (getD over (wayOf b (x .purchase)) 0)) q ∙ ap (ltb 0) (z (x .purchase))))
-    (λ t. among-ways over (λ w. ltb 0 (getD over w 0)) x (above (eqb-false (x .border) 0 t)) h)
-  where
-    above : (x .border ≡ 0 → ⊥) → 0 < x .border
-    above d = ⊎-elim (λ q. absurd (d (sym q))) (λ q. q) (eq-or-lt-of-le (let m : 0 ≤ x .border = omega arith in m))
-
 -- Each direction stands once
 
 from-apart : (i n : ℕ) → Pairwise (λ v w. eqb v w ≡ false) (from i n)
@@ -164,7 +150,3 @@ ways-once a p = pairwise-map (directed a) (directed-apart a) (pairwise-keep p (f
 pub published-once : (flags : List Bool) (a : List ℕ) → Once (publishedIn flags a)
 unfolding publishedIn
 published-once flags a = ways-once a (λ w. getD flags w false)
-
-pub over-once : (a : List ℕ) → Once (overIn a)
-unfolding overIn
-over-once a = ways-once a (λ w. ltb 0 (getD a w 0))

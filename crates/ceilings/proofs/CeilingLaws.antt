@@ -1,7 +1,7 @@
 -- The ceilings of the code are those of the rules.
 use Prim.Native.Nat.{ℕ, suc, _+_, _*_, _≤_, _<_, min}
 use mathlib.Core.Path.{_≡_, refl, ap, sym, _∙_}
-use mathlib.Core.Bool.{Bool, true, false, not, cond}
+use mathlib.Core.Bool.{Bool, true, false, cond}
 use mathlib.Core.List.{List, [], _∷_, map}
 use mathlib.Core.Option.{Option, some, none}
 use native.Mathlib.Omega.{arith}
@@ -12,13 +12,14 @@ use Rattle.rules.specs.Lists.{hourly}
 use Rattle.rules.specs.Units.{availableAt, borderSum, maximumLimit, limits, leastOf, ceiling}
 use Rattle.rules.proofs.BoolLaws.{by-bool}
 use Rattle.rules.proofs.ListLaws.{hourly-suc}
+use Rattle.session.specs.Bare.{bareNotice}
 use Rattle.session.specs.Image.{noUnit}
 use Rattle.session.specs.declared.Unit.{Unit}
 use Rattle.session.specs.declared.Notice.{Notice}
-use Rattle.limits.specs.Limits.{noticeIn, registeredIn, borderAt, noBorderLimit}
+use Rattle.limits.specs.Limits.{noticeIn, registeredIn, borderAt}
 use Rattle.limits.specs.declared.BorderLimit.{BorderLimit}
 use Rattle.limits.proofs.BorderLaws.{off-domestic, off-borders}
-use Rattle.ceilings.specs.Ceilings.{most, lineBy, lineIn, lineOf, lineAt, lineRow, ceilingBy, ceilingIn, bareNotice, ceilingAt}
+use Rattle.ceilings.specs.Ceilings.{most, lineBy, lineIn, lineOf, lineAt, lineRow, ceilingBy, ceilingIn, ceilingAt}
 
 -- Limit 12
 

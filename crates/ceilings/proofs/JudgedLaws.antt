@@ -1,14 +1,14 @@
 -- A judgement by the limits is clear exactly where no ceiling is passed.
-use Prim.Native.Nat.{ℕ, suc, _+_, _≤_, _<_}
-use mathlib.Core.Path.{_≡_, refl, ap, sym, subst, _∙_}
-use mathlib.Core.Bool.{Bool, true, false, false≢true, not, _&&_}
+use Prim.Native.Nat.{ℕ, _≤_, _<_}
+use mathlib.Core.Path.{_≡_, refl, ap, sym, _∙_}
+use mathlib.Core.Bool.{Bool, true, false, false≢true, not}
 use mathlib.Core.List.{List, [], _∷_, map}
-use mathlib.Core.Option.{some, none}
+use mathlib.Core.Option.{none}
 use native.Mathlib.Omega.{arith}
-use lib.Dec.{ltb, eqb}
+use lib.Dec.{eqb}
 use borrow.Author.Tests.{lt-ltb, le-ltb, ne-eqb, eqb-true}
-use Rattle.rules.specs.Lists.{any, first, from, lowest, hourly}
-use Rattle.rules.specs.Refusals.{Row, limitRow, firstRow}
+use Rattle.rules.specs.Lists.{any, lowest, hourly}
+use Rattle.rules.specs.Refusals.{limitRow, firstRow}
 use Rattle.rules.specs.Units.{Limit, passes, limits, ceiling}
 use Rattle.rules.specs.Lodging.{passedAt, judgedBy, limitRows}
 use Rattle.rules.proofs.BoolLaws.{by-bool, neither}

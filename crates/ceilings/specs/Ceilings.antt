@@ -1,12 +1,13 @@
 -- Ceilings by unit and hour in one array, 25 numbers for each unit.
 use Prim.Native.Nat.{ℕ, suc, _+_, _*_, _≤_, _<_, min}
 use mathlib.Core.Path.{_≡_}
-use mathlib.Core.Bool.{Bool, false, cond}
-use mathlib.Core.List.{List, [], map}
+use mathlib.Core.Bool.{Bool, cond}
+use mathlib.Core.List.{List, map}
 use mathlib.Core.Option.{Option, some, none}
 use lib.Dec.{ltb}
 use lib.ListN.{getD}
 use Rattle.rules.specs.Units.{borderSum, ceiling}
+use Rattle.session.specs.Bare.{bareNotice}
 use Rattle.session.specs.Image.{noUnit}
 use Rattle.session.specs.declared.Unit.{Unit}
 use Rattle.session.specs.declared.Notice.{Notice}
@@ -16,10 +17,6 @@ use Rattle.limits.specs.declared.BorderLimit.{BorderLimit}
 -- as much as a maximum can be
 abbrev pub most : ℕ
 most = 4294967295
-
--- an element that is read beyond an array
-abbrev pub bareNotice : Notice
-bareNotice = record { given = false; energies = [] }
 
 -- limit 12 where a maximum is a limit too: one that does not apply is as much as any
 unfoldable pub lineBy : Bool → ℕ → ℕ

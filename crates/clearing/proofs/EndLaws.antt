@@ -1,5 +1,5 @@
 -- The hours of a session that stands for a closed book, one after the other, and the call's ways out.
-use Prim.Native.Nat.{ℕ, zero, suc, _+_, _≤_, _<_}
+use Prim.Native.Nat.{ℕ, suc, _+_, _≤_, _<_}
 use mathlib.Core.Path.{_≡_, refl, sym, ap, ap₂, _∙_}
 use mathlib.Core.Bool.{true, false, cond, not}
 use mathlib.Core.List.{List, [], _∷_, _++_, map, map-map}

@@ -29,13 +29,12 @@ fn verdicts(s: Session) -> [Verdict; 128]
 {
     let blank = no_verdict();
     let none = [blank; 128];
-    let every = [true; 128];
     let energies = s.energies;
     let units = s.units;
     let notices = s.notices;
     let capacities = s.capacities;
     let lodgements = s.lodgements;
-    let loads = loads_of(&every, s.standing, energies);
+    let loads = loads_of(s.standing, energies);
     let holders = holders_of(units, s.enrolled, lodgements, s.standing);
     let mut room = ceilings_of(units, notices, capacities, s.enrolled);
     let normal = pass(s, &loads, &holders, &mut room, NORMAL, none);

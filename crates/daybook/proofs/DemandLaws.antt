@@ -1,16 +1,11 @@
 -- Demand 3, proved of every list of calls on a session.
-use Prim.Native.Nat.{ℕ, _+_, _≤_, _<_}
-use mathlib.Core.Path.{_≡_, refl, sym, ap, ap₂, _∙_}
-use mathlib.Core.Logic.{_↔_}
+use Prim.Native.Nat.{ℕ, _+_, _≤_}
+use mathlib.Core.Path.{_≡_, sym, ap, ap₂, _∙_}
 use mathlib.Core.Bool.{Bool, true, false, Bool·beq, false≢true}
-use mathlib.Core.List.{List}
-use mathlib.Core.Option.{some}
 use native.Mathlib.Omega.{arith}
-use lib.IntN.{ℤ, pos, _+ℤ_}
-use lib.Signed.{_≤ℤ_, _<ℤ_}
+use lib.IntN.{ℤ, _+ℤ_}
 use Rattle.rules.specs.Lists.{All, Some, keep, sumOf, hourly}
-use Rattle.rules.specs.Hours.{Date}
-use Rattle.rules.specs.Units.{Registered, capacityOf, ceiling, isRegistered, hasNumber, unitOf, badNumber}
+use Rattle.rules.specs.Units.{Registered, ceiling, isRegistered, hasNumber, badNumber}
 use Rattle.rules.specs.Lodging.{Lodgement}
 use Rattle.rules.specs.Book.{Book, hours}
 use Rattle.rules.specs.Closing as C
@@ -25,14 +20,10 @@ use Rattle.rules.proofs.ElementLaws.{all-both, some-all}
 use Rattle.rules.specs.Refusals.{given}
 use Rattle.rules.proofs.DemandLaws.{demanded, closing-found}
 use Rattle.rules.proofs.UnitLaws.{units-balanced, some-cut-units}
-use Rattle.session.specs.Image.{image, Sound}
-use Rattle.session.specs.Steps.{Opens}
-use Rattle.session.specs.declared.Session.{Session}
-use Rattle.session.specs.declared.Opened.{Opened}
+use Rattle.session.specs.Image.{Sound}
 use Rattle.queries.specs.Replies.{replyIn}
 use Rattle.queries.specs.declared.Reply.{Reply}
-use Rattle.daybook.specs.Runs.{Ran}
-use Rattle.daybook.specs.Demand3.{Asked, figureIn, energyIn, isAcceptance, Judged, matchedOf, executedOf, crossingAt, uncutAt, IsCut, Carried, Holds, Demand3, Demanded}
+use Rattle.daybook.specs.Demand3.{figureIn, isAcceptance, Judged, matchedOf, executedOf, crossingAt, uncutAt, IsCut, Carried, Holds, Demanded}
 use Rattle.daybook.proofs.RunLaws.{day-book}
 use Rattle.daybook.proofs.ReplyLaws.{number-of, energy-of, acceptance-of, limit-of, hidden-of, of-hidden, told-limit, all-found, all-entries, sum-same, number-good, verdict-given, matched-given, executed-given, market-given, bilateral-given}
 

@@ -1,7 +1,7 @@
 -- A log's records, and the loop that runs their calls.
 use Prim.Native.Nat.{ℕ, zero, suc, _+_, _*_, _-_, _≤_, _<_}
 use mathlib.Core.Path.{_≡_, refl, sym, ap, _∙_}
-use mathlib.Core.Bool.{Bool, true, false, _&&_, false≢true}
+use mathlib.Core.Bool.{Bool, true, false}
 use mathlib.Core.List.{List, [], _∷_, _++_, map, append-assoc}
 use native.Mathlib.Omega.{arith}
 use native.Mathlib.Numerals.{add-one}
@@ -20,11 +20,10 @@ use Rattle.session.specs.Steps.{Met, As, said, Opens}
 use Rattle.session.specs.declared.Session.{Session}
 use Rattle.session.specs.declared.Turn.{Turn}
 use Rattle.session.specs.declared.Opened.{Opened}
-use Rattle.session.proofs.SoundLaws.{opening-sound, turn-sound}
+use Rattle.session.proofs.SoundLaws.{turn-sound}
 use Rattle.session.proofs.LaidLaws.{map-last}
 use Rattle.log.specs.Calls.{callOf, directionsOf, isCall, starts, sizeOf, firstCall, onward, callsIn, bytesIn, answerWord}
 use Rattle.daybook.specs.Replays.{RunsRecord, Replays, Running}
-use Rattle.daybook.specs.declared.Replayed.{Replayed}
 use Rattle.daybook.proofs.RunLaws.{other, notice-typed}
 use Rattle.daybook.proofs.CallLaws.{met-as}
 

@@ -1,8 +1,8 @@
 -- What the queries reply, on a session that stands for a book.
-use Prim.Native.Nat.{ℕ, _≤_, _<_}
+use Prim.Native.Nat.{ℕ, _≤_}
 use mathlib.Core.Path.{_≡_, refl, sym, ap, _∙_}
-use mathlib.Core.Bool.{Bool, true, false, _||_, false≢true}
-use mathlib.Core.List.{List, [], _∷_, map}
+use mathlib.Core.Bool.{true, false, _||_, false≢true}
+use mathlib.Core.List.{List, [], _∷_}
 use native.Mathlib.Omega.{arith}
 use lib.Dec.{eqb, ltb}
 use lib.IntN.{ℤ, pos}
@@ -10,13 +10,12 @@ use borrow.Author.Tests.{eq-eqb, ne-eqb, le-ltb}
 use Rattle.rules.specs.Lists.{All, none, more, Pairwise, empty, ahead, any, first, sum, sumOf}
 use Rattle.rules.specs.Refusals.{Outcome, refused, given, row, firstRow, unless, outcome}
 use Rattle.rules.specs.Hours.{notAnHour}
-use Rattle.rules.specs.Units.{Registered, nobody, hasNumber, unitOf, isRegistered, badNumber, badUnit}
+use Rattle.rules.specs.Units.{Registered, hasNumber, unitOf, isRegistered, badNumber, badUnit}
 use Rattle.rules.specs.Book.{Book, hours}
 use Rattle.rules.specs.Closing as C
 use Rattle.rules.specs.Borders.{positive, marketBalance, executionBalance}
 use Rattle.rules.specs.Clearing.{figuresAt}
 use Rattle.rules.specs.Queries as Q
-use Rattle.rules.specs.Sound.{Sound}
 use Rattle.rules.proofs.BoolLaws.{by-bool, neither, of-neither}
 use Rattle.rules.proofs.ListLaws.{all-map}
 use Rattle.rules.proofs.ElementLaws.{all-both}

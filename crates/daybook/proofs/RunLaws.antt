@@ -1,16 +1,16 @@
 -- Every list of calls: the answers are the book's, and the session stands for the book.
 use Prim.Native.Nat.{ℕ}
 use mathlib.Core.Path.{_≡_, refl, ap, ap₂, sym, _∙_}
-use mathlib.Core.List.{List, [], _∷_, map}
+use mathlib.Core.List.{List, [], _∷_}
 use native.Mathlib.Omega.{arith}
 use lib.ListN.{length, length-map}
 use Rattle.rules.specs.Hours.{Date}
-use Rattle.rules.specs.Units.{Capacities, Published}
+use Rattle.rules.specs.Units.{Capacities}
 use Rattle.rules.specs.Book as B
 use Rattle.rules.specs.DayBook as D
 use Rattle.rules.specs.Sound.{WellTyped}
 use Rattle.session.specs.Image.{image, Sound, publishedIn}
-use Rattle.session.specs.Steps.{Met, As, Opens, said}
+use Rattle.session.specs.Steps.{Met, As, Opens}
 use Rattle.session.specs.declared.Session.{Session}
 use Rattle.session.specs.declared.Turn.{Turn}
 use Rattle.session.specs.declared.Opened.{Opened}

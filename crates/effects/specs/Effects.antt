@@ -10,7 +10,7 @@ use Rattle.changes.specs.declared.ClearingTurn.{ClearingTurn}
 use Rattle.told.specs.declared.Response.{Response}
 use Rattle.told.specs.Told.{ofAnswer}
 use Rattle.effects.specs.declared.Registered.{Registered}
-use Rattle.effects.specs.declared.Noted.{Noted}
+use Rattle.effects.specs.declared.CapacitiesNoted.{CapacitiesNoted}
 use Rattle.effects.specs.declared.Lodged.{Lodged}
 use Rattle.effects.specs.declared.Closed.{Closed}
 use Rattle.effects.specs.declared.DayCleared.{DayCleared}
@@ -27,7 +27,7 @@ steppedAs t = record { session = t .session; response = ofAnswer (t .answer) }
 abbrev pub registeredAs : RegistryTurn → Registered
 registeredAs t = record { change = t .change; response = ofAnswer (t .answer) }
 
-abbrev pub notedAs : CapacityTurn → Noted
+abbrev pub notedAs : CapacityTurn → CapacitiesNoted
 notedAs t = record { change = t .change; response = ofAnswer (t .answer) }
 
 abbrev pub lodgedAs : StandingTurn → Lodged
@@ -43,7 +43,7 @@ dayClearedAs t = record { figures = t .figures; cleared = t .cleared; response =
 abbrev pub registryLeft : Session → Registered → Stepped
 registryLeft s r = record { session = registryWith s (r .change); response = r .response }
 
-abbrev pub capacitiesLeft : Session → Noted → Stepped
+abbrev pub capacitiesLeft : Session → CapacitiesNoted → Stepped
 capacitiesLeft s r = record { session = capacitiesWith s (r .change); response = r .response }
 
 abbrev pub standingLeft : Session → Lodged → Stepped

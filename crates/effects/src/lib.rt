@@ -12,39 +12,40 @@ use session::Verdict;
 use told::Response;
 use told::of_answer;
 
-// Units and their notices.
+// What a call changes of units and their notices, and says.
 pub struct Registered {
     pub change: RegistryChange,
     pub response: Response,
 }
 
-// Capacities.
-pub struct Noted {
+// What a capacity notice changes, and says.
+pub struct CapacitiesNoted {
     pub change: CapacityChange,
     pub response: Response,
 }
 
-// Standing lodgements.
+// What a call changes of standing lodgements, and says.
 pub struct Lodged {
     pub change: StandingChange,
     pub response: Response,
 }
 
-// What closing changes.
+// What closing changes, and says.
 pub struct Closed {
     pub verdicts: [Verdict; 128],
     pub closed: bool,
     pub response: Response,
 }
 
-// What clearing changes.
+// What clearing changes, and says.
 pub struct DayCleared {
     pub figures: [Cleared; 25],
     pub cleared: bool,
     pub response: Response,
 }
 
-// What a call changes stays as it is, and its answer is told.
+// What a call changes stays as it is, and its answer is told. Of closing and clearing, whose arrays a call would copy, `response`
+// does it.
 
 pub fn of_registry(t: RegistryTurn) -> Registered
     ensures { λ r. ⌜ r ≡ registeredAs t ⌝ }
@@ -55,13 +56,13 @@ pub fn of_registry(t: RegistryTurn) -> Registered
     Registered { change, response }
 }
 
-pub fn of_capacity(t: CapacityTurn) -> Noted
+pub fn of_capacity(t: CapacityTurn) -> CapacitiesNoted
     ensures { λ r. ⌜ r ≡ notedAs t ⌝ }
 {
     let change = t.change;
     let answer = t.answer;
     let response = of_answer(answer);
-    Noted { change, response }
+    CapacitiesNoted { change, response }
 }
 
 pub fn of_standing(t: StandingTurn) -> Lodged

@@ -8,6 +8,7 @@ use Rattle.rules.specs.Units.{badNumber}
 use Rattle.rules.specs.Book.{Book}
 use Rattle.rules.specs.Queries as Q
 use Rattle.session.specs.Image.{image, Sound}
+use Rattle.session.specs.Parts.{unitPlace}
 use Rattle.session.specs.declared.Session.{Session}
 use Rattle.session.specs.declared.Judged.{Judged}
 use Rattle.session.specs.declared.Judged.the-variants.{No, Clear}
@@ -15,7 +16,6 @@ use Rattle.session.proofs.ImageLaws.{registered-at}
 use Rattle.queries.specs.Parts.{Judges}
 use Rattle.queries.proofs.RowLaws.{front, behind}
 use Rattle.queries.proofs.ReplyLaws.{SameRows}
-use Rattle.energies.specs.Parts.{unitPlace}
 
 module _ (s : Session) (u h : ℕ) (j : Judged) (judges : Judges s (Q.price h) j) where
   pub unit-front : {n k : ℕ} → j ≡ No n k → Judges s (Q.matched u h) (No n k)

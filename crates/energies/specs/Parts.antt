@@ -1,14 +1,9 @@
 -- What the parts of an energy's query promise to each other.
 use Prim.Native.Nat.{ℕ, _<_}
 use mathlib.Core.Path.{_≡_}
-use lib.ListN.{take}
-use Rattle.session.specs.Parts.{Within, numberIs, placeOf}
+use Rattle.session.specs.Parts.{Within, unitPlace}
 use Rattle.session.specs.declared.Session.{Session}
 use Rattle.queries.specs.Parts.{HourFits}
-
--- the place of a unit among the registered ones, or their number
-abbrev pub unitPlace : Session → ℕ → ℕ
-unitPlace s unit = placeOf (numberIs unit) (take (s .enrolled) (s .units))
 
 -- where a unit was looked for
 abbrev pub UnitFound : Session → ℕ → ℕ → Type 0

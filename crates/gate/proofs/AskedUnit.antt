@@ -40,10 +40,11 @@ use denote.Triple.Entry.{onEntry}
 use denote.Triple.Spec.{Meets, tripleOf}
 use denote.Triple.Walked.{says, Stays, stay-none-ref, stay-none, walkOf, AllGo, goes-none-ref, goes-none, Walks, ends-at, walked, walk-meets}
 use denote.Exit.{yes}
+use Rattle.session.specs.Bare.{bareFigures}
 use Rattle.session.specs.declared.Session.{Session}
 use Rattle.told.specs.declared.Response.{Response}
 use Rattle.session.specs.declared.Cleared.{Cleared}
-use Rattle.queries.specs.Parts.{bareFigures, figuresIn}
+use Rattle.queries.specs.Parts.{figuresIn}
 use Rattle.energies.specs.Parts.{UnitFound}
 use Rattle.session.proofs.Session as T
 use Rattle.session.proofs.Session.Laws as T′

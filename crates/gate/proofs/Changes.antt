@@ -3,14 +3,14 @@ use Prim.Native.Nat.{_<_}
 use denote.Struct.Laws as LL
 use Rattle.changes.specs.Changes.{Placed, withVerdicts, withFigures, registryWith, capacitiesWith, standingWith}
 use Rattle.effects.specs.declared.Registered.{Registered}
-use Rattle.effects.specs.declared.Noted.{Noted}
+use Rattle.effects.specs.declared.CapacitiesNoted.{CapacitiesNoted}
 use Rattle.effects.specs.declared.Lodged.{Lodged}
 use Rattle.effects.specs.declared.Closed.{Closed}
 use Rattle.effects.specs.declared.DayCleared.{DayCleared}
 use Rattle.effects.proofs.Registered as R
 use Rattle.effects.proofs.Registered.Laws as R′
-use Rattle.effects.proofs.Noted as N
-use Rattle.effects.proofs.Noted.Laws as N′
+use Rattle.effects.proofs.CapacitiesNoted as N
+use Rattle.effects.proofs.CapacitiesNoted.Laws as N′
 use Rattle.effects.proofs.Lodged as L
 use Rattle.effects.proofs.Lodged.Laws as L′
 use Rattle.effects.proofs.Closed as C
@@ -28,7 +28,7 @@ abbrev registeredLaws : Laws registeredType
 registeredLaws = record { val = LL.val R.the-type R′.the-laws; tells = LL.tells R.the-type R′.the-laws; lawful = λ 𝓤 H A W. LL.lawful R.the-type R′.the-laws 𝓤 H A W; makes = λ 𝓤 H A W. LL.makes R.the-type R′.the-plain 𝓤 H A }
 
 abbrev notedType : Passed
-notedType = record { denot = Noted; mirTy = N′.mir; spelled = N.the-row .written; reached = N.the-row .reaches; holds = N.the-row .own; stored = N.the-row .coded }
+notedType = record { denot = CapacitiesNoted; mirTy = N′.mir; spelled = N.the-row .written; reached = N.the-row .reaches; holds = N.the-row .own; stored = N.the-row .coded }
 
 abbrev notedLaws : Laws notedType
 notedLaws = record { val = LL.val N.the-type N′.the-laws; tells = LL.tells N.the-type N′.the-laws; lawful = λ 𝓤 H A W. LL.lawful N.the-type N′.the-laws 𝓤 H A W; makes = λ 𝓤 H A W. LL.makes N.the-type N′.the-plain 𝓤 H A }

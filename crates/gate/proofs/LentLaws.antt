@@ -10,7 +10,7 @@ use Rattle.daybook.proofs.DemandLaws.{demand-3}
 use Rattle.told.specs.Told.{ofAnswer}
 use Rattle.effects.specs.Effects.{Stepped}
 use Rattle.told.specs.declared.Response.{Response}
-use Rattle.gate.specs.Lent.{Lends, registers, notifies, avails, lodges, annuls, closes, clears, LentTo, ended, then, Lent, LentDemanded}
+use Rattle.gate.specs.Lent.{Lends, registers, notifies, avails, lodges, annuls, closes, clears, LentTo, ended, then, LentDemanded}
 
 -- the call's own contract, with the answer that its response tells
 pub record Made (s : Session) (c : D.Call) (r : Stepped) : Type 0 where

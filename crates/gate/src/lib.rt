@@ -85,7 +85,7 @@ pub extern "C" fn gate_write(fields: Fields, buffer: &mut [u8]) -> Written
     writer::write(fields, buffer)
 }
 
-// Calls. Lodging reads through the reference the few elements that a judgement needs; a step by value would copy the arrays.
+// Calls
 
 // Registers a unit: 2, 5, 7, 8, 9.
 #[no_mangle]
@@ -114,7 +114,8 @@ pub extern "C" fn gate_capacity(s: &mut Session, notice: Capacities) -> Response
     settle_capacities(s, t)
 }
 
-// Lodges a message: 2, 3, 4, 5, 6, 9, 10, 11, 12.
+// Lodges a message: 2, 3, 4, 5, 6, 9, 10, 11, 12. What its judgement looks at of the long arrays is read here, through the
+// reference: a step by value would copy them.
 #[no_mangle]
 pub extern "C" fn gate_lodge(s: &mut Session, message: &[u8]) -> Response
     ensures { λ r. ⌜ MetAs (now (s .entry)) (lodge (now (message .entry))) (record { session = now (s .exit); response = r }) ⌝ }

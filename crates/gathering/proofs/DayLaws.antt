@@ -14,6 +14,7 @@ use Rattle.rules.specs.Closing as C
 use Rattle.rules.proofs.ListLaws.{keep-map, keep-keep, keep-same, hourly-suc}
 use Rattle.rules.proofs.ElementLaws.{all-every}
 use Rattle.arrays.proofs.PlaceLaws.{from-all, map-all}
+use Rattle.session.specs.Bare.{bareEnergies}
 use Rattle.session.specs.declared.Session.{Session}
 use Rattle.session.specs.declared.Unit.{Unit}
 use Rattle.session.specs.Laid.{pad}
@@ -22,7 +23,7 @@ use Rattle.session.specs.Parts.{numberIs}
 use Rattle.session.proofs.PlaceLaws.{getD-map}
 use Rattle.session.proofs.ImageLaws.{units-as, standing-as}
 use Rattle.arrays.specs.declared.Places.{Places}
-use Rattle.gathering.specs.Built.{unitAmong, holderIn, Holders, bareEnergies, counts, countsAt, energyOn, Chosen}
+use Rattle.gathering.specs.Built.{unitAmong, holderIn, Holders, counts, countsAt, energyOn, Chosen}
 use Rattle.gathering.proofs.ListLaws.{front-places, all-places, laid-at, first-map}
 
 abbrev pub blank : L.Lodgement

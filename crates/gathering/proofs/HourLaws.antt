@@ -24,6 +24,7 @@ use Rattle.borders.specs.View as X
 use Rattle.borders.specs.Ways.{directed, publishedIn}
 use Rattle.hour.specs.declared.Hour.{Hour}
 use Rattle.hour.specs.View.{hourIn}
+use Rattle.session.specs.Bare.{bareNotice}
 use Rattle.session.specs.declared.Session.{Session}
 use Rattle.session.specs.declared.Unit.{Unit}
 use Rattle.session.specs.declared.Notice.{Notice}
@@ -36,7 +37,7 @@ use Rattle.session.proofs.ImageLaws.{capacities-as}
 use Rattle.arrays.specs.declared.Places.{Places}
 use Rattle.gathering.specs.declared.HourCapacities.{HourCapacities}
 use Rattle.gathering.specs.Columns.{Column}
-use Rattle.gathering.specs.Built.{Holders, Held, holdersIn, numberAt, unitAt, borderAt, sideAt, legacyAt, energyOn, priceOn, energyAt, priceAt, noticeAt, givenAt, capacityAt, bareNotice, Given, Built}
+use Rattle.gathering.specs.Built.{Holders, Held, holdersIn, numberAt, unitAt, borderAt, sideAt, legacyAt, energyOn, priceOn, energyAt, priceAt, noticeAt, givenAt, capacityAt, Given, Built}
 use Rattle.gathering.proofs.ListLaws.{flat, kept-flat, eight}
 use Rattle.gathering.proofs.DayLaws.{standing, chosenIn, lodgement-at, energies-at, holder-at, gathered, named-offers, named-executions}
 

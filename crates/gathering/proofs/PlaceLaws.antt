@@ -13,6 +13,7 @@ use Rattle.rules.proofs.BoolLaws.{by-bool}
 use Rattle.rules.specs.Lists.{All, keep, from}
 use Rattle.rules.proofs.ListLaws.{all-keep, all-at, keep-same}
 use Rattle.arrays.proofs.PlaceLaws.{from-next, from-end, from-all, none-off}
+use Rattle.session.specs.Bare.{bareNotice}
 use Rattle.session.specs.declared.Session.{Session}
 use Rattle.session.specs.declared.Unit.{Unit}
 use Rattle.session.specs.declared.Notice.{Notice}
@@ -28,7 +29,7 @@ use Rattle.gathering.specs.declared.Gathered.{Gathered}
 use Rattle.borders.specs.declared.Executions.{Executions}
 use Rattle.hour.specs.declared.Hour.{Hour}
 use Rattle.gathering.specs.Columns.{Column}
-use Rattle.gathering.specs.Built.{unitAmong, holderIn, energyOn, Rows, isAccepted, acceptedAt, counts, countsIn, countsAt, Selected, Chosen, Inside, pickedAt, markedAt, slotAt, energyAt, priceAt, numberAt, unitAt, borderAt, sideAt, legacyAt, numberOn, unitOn, borderOn, sideOn, legacyOn, Held, Picked, DayOf, noticeAt, bareNotice, Given, holdersIn, Gather}
+use Rattle.gathering.specs.Built.{unitAmong, holderIn, energyOn, Rows, isAccepted, acceptedAt, counts, countsIn, countsAt, Selected, Chosen, Inside, pickedAt, markedAt, slotAt, energyAt, priceAt, numberAt, unitAt, borderAt, sideAt, legacyAt, numberOn, unitOn, borderOn, sideOn, legacyOn, Held, Picked, DayOf, noticeAt, Given, holdersIn, Gather}
 use Rattle.gathering.proofs.ColumnLaws.{below, column-as}
 
 -- The unit of a lodgement

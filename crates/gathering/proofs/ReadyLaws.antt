@@ -8,7 +8,7 @@ use native.Mathlib.Omega.{arith}
 use lib.Dec.{ltb}
 use lib.ListN.{getD, length, replicate}
 use borrow.Author.Tests.{ltb-true, ltb-false}
-use Rattle.rules.specs.Lists.{All, from, hourly}
+use Rattle.rules.specs.Lists.{All, hourly}
 use Rattle.rules.specs.Units as U
 use Rattle.rules.specs.Message.{topPrice}
 use Rattle.rules.specs.Lodging as L

@@ -2,10 +2,11 @@
 use Prim.Native.Nat.{ℕ, _+_, _*_, _≤_, _<_, _-_}
 use mathlib.Core.Path.{_≡_}
 use mathlib.Core.Bool.{Bool, true, false, cond, _&&_, Bool·beq}
-use mathlib.Core.List.{List, []}
+use mathlib.Core.List.{List}
 use lib.Dec.{ltb}
 use lib.ListN.{getD, take, length}
 use Rattle.rules.specs.Lists.{keep, first, from}
+use Rattle.session.specs.Bare.{bareNotice, bareEnergies}
 use Rattle.session.specs.declared.Unit.{Unit}
 use Rattle.session.specs.declared.Notice.{Notice}
 use Rattle.session.specs.declared.Lodgement.{Lodgement}
@@ -24,13 +25,6 @@ use Rattle.gathering.specs.declared.Day.{Day}
 use Rattle.gathering.specs.declared.Gathered.{Gathered}
 use Rattle.gathering.specs.declared.HourCapacities.{HourCapacities}
 use Rattle.gathering.specs.Columns.{Column}
-
--- what is read beyond an array
-abbrev pub bareEnergies : Energies
-bareEnergies = record { energies = []; prices = [] }
-
-abbrev pub bareNotice : Notice
-bareNotice = record { given = false; energies = [] }
 
 -- Holders
 

@@ -1,7 +1,7 @@
 -- A search among numbers is a search among units.
 use Prim.Native.Nat.{ℕ, zero, suc, _+_, _%_, _≤_, _<_}
 use mathlib.Core.Path.{_≡_, refl, sym, ap, _∙_}
-use mathlib.Core.Bool.{Bool, true, false}
+use mathlib.Core.Bool.{Bool, true}
 use mathlib.Core.List.{List, [], _∷_, map}
 use lib.Dec.{eqb}
 use native.Mathlib.Omega.{arith}
@@ -10,7 +10,7 @@ use lib.Seq.{getD-set-same, getD-set-other, getD-take, length-take-le}
 use borrow.Author.Tests.{eqb-true, eqb-false, eq-eqb}
 use Rattle.rules.proofs.BoolLaws.{by-bool, of-not, not-both}
 use Rattle.session.specs.Image.{noLodgement}
-use Rattle.session.specs.Parts.{placeOf, numberIs}
+use Rattle.session.specs.Parts.{placeOf}
 use Rattle.session.specs.declared.Unit.{Unit}
 use Rattle.session.specs.declared.Lodgement.{Lodgement}
 use Rattle.session.proofs.PlaceLaws.{place-map, reach, reach-start, reach-here, reach-next, reach-end}

@@ -5,10 +5,10 @@ ghost use Prim.Native.Nat.{_<_};
 ghost use Rattle.changes.specs.Changes.{Placed, withVerdicts, withFigures, registryWith, capacitiesWith, standingWith};
 ghost use Rattle.verdicts.specs.Parts.{LodgedFound};
 ghost use Rattle.energies.specs.Parts.{UnitFound};
+use effects::CapacitiesNoted;
 use effects::Closed;
 use effects::DayCleared;
 use effects::Lodged;
-use effects::Noted;
 use effects::Registered;
 use session::Session;
 use told::Response;
@@ -28,7 +28,7 @@ pub fn settle_registry(s: &mut Session, t: Registered) -> Response
 }
 
 // All capacities.
-pub fn settle_capacities(s: &mut Session, t: Noted) -> Response
+pub fn settle_capacities(s: &mut Session, t: CapacitiesNoted) -> Response
     ensures { λ r. ⌜ (now (s .exit) ≡ capacitiesWith (now (s .entry)) (t .change)) × (r ≡ t .response) ⌝ }
 {
     if t.change.changed {

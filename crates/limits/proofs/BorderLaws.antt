@@ -2,20 +2,17 @@
 use Prim.Native.Nat.{ℕ, _+_, _-_, _*_, _<_}
 use mathlib.Core.Path.{_≡_, refl, ap, sym}
 use mathlib.Core.Bool.{true, false, not}
-use mathlib.Core.List.{List, [], map}
+use mathlib.Core.List.{List, map}
 use mathlib.Core.Option.{some, none}
 use native.Mathlib.Omega.{arith}
 use lib.ListN.{length, getD, List·getD-eq-default, List·getD-map}
 use borrow.Author.Tests.{eq-eqb, ne-eqb, not-true, not-false}
 use Rattle.rules.specs.Lists.{addEach, hourly}
 use Rattle.rules.specs.Units.{Published, direction, capacityOf, bothAt, borderSum}
+use Rattle.session.specs.Bare.{bareNotice}
 use Rattle.session.specs.declared.Notice.{Notice}
 use Rattle.limits.specs.Limits.{noticeIn, borderAt, noBorderLimit}
 use Rattle.limits.proofs.WrittenLaws.{add-at}
-
--- an element that is read beyond an array
-abbrev pub bareNotice : Notice
-bareNotice = record { given = false; energies = [] }
 
 both-none : (h : ℕ) (p : Published) → bothAt h p none ≡ none
 unfolding bothAt

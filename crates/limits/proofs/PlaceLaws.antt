@@ -4,24 +4,20 @@ use mathlib.Core.Path.{_≡_, refl, ap, sym, subst, _∙_}
 use mathlib.Core.Bool.{Bool, true, false}
 use mathlib.Core.List.{List, [], _∷_, map}
 use native.Mathlib.Omega.{arith}
-use lib.ListN.{length, getD, take, replicate, getD-replicate}
+use lib.ListN.{length, getD, take}
 use lib.Seq.{getD-take, length-take-le}
 use Rattle.rules.specs.Lists.{sum, sumOf, from, hourly}
 use Rattle.rules.specs.Refusals.{firstRow}
 use Rattle.rules.specs.Lodging.{judgedBy}
+use Rattle.arrays.specs.declared.Places.{Places}
+use Rattle.session.specs.Bare.{bareEnergies}
 use Rattle.session.specs.Parts.{told}
 use Rattle.session.specs.declared.Energies.{Energies}
 use Rattle.session.specs.declared.Unit.{Unit}
 use Rattle.session.specs.declared.Notice.{Notice}
-use Rattle.session.specs.declared.Judged.{Judged}
-use Rattle.loads.specs.Loads.{marked, energyIn, loadIn, bareEnergies, RowAt, LoadsOf, energyAtPlace, loadBy}
+use Rattle.loads.specs.Loads.{marked, PlacesOf, energyIn, loadIn, RowAt, LoadsOf, RowsAt, energyAtPlace, loadBy}
 use Rattle.limits.specs.Limits.{noticeIn, registeredIn, judgedIn}
 use Rattle.limits.proofs.NoticeLaws.{rows-load, rows-own}
-
--- an array of the energies of all has those of any that are counted
-pub loads-all : (n : ℕ) (bs : List Bool) (es : List Energies) (loads : List ℕ) → length es ≤ n → LoadsOf (replicate n true) es loads → LoadsOf bs es loads
-unfolding LoadsOf
-loads-all n bs es loads b f l h i t k = f l h i (getD-replicate n l true false (omega arith)) k
 
 -- a sum over the places of those that are marked is one over themselves
 sums-places : (h : ℕ) (f : ℕ → ℕ) (i : ℕ) (bs : List Bool) (es : List Energies)
@@ -36,9 +32,9 @@ sums-places h f i (true ∷ bs) (x ∷ es) e =
 sums-places h f i (false ∷ bs) (x ∷ es) e = sums-places h f (suc i) bs es (λ j k t. let q : i + suc j ≡ suc i + j = omega arith in rw q at (e (suc j) (omega arith) t))
 
 module _ (loads : List ℕ) (h : ℕ) where
-  pub load-places : (own : List ℕ) (bs : List Bool) (es : List Energies) → 1 ≤ h → h ≤ 25 → LoadsOf bs es loads → loadBy own loads (marked bs (from 0 (length es))) h ≡ loadIn own bs es h
-  unfolding loadBy loadIn LoadsOf hourly
-  load-places own bs es a b f = ap (λ n. hourly own h + n) (sums-places h (energyAtPlace loads h) 0 bs es (λ j k t. let z : 0 + j ≡ j = omega arith in rw z (f j (h - 1) k t (omega arith))))
+  pub load-places : (own : List ℕ) (bs : List Bool) (es : List Energies) → 1 ≤ h → h ≤ 25 → LoadsOf es loads → loadBy own loads (marked bs (from 0 (length es))) h ≡ loadIn own bs es h
+  unfolding loadBy loadIn LoadsOf RowAt hourly
+  load-places own bs es a b f = ap (λ n. hourly own h + n) (sums-places h (energyAtPlace loads h) 0 bs es (λ j k t. let z : 0 + j ≡ j = omega arith in rw z (f j k (h - 1) (omega arith))))
 
   -- a sum over rows that lie one after the other is one over the places that they are of
   sums-rows : (es : List Energies) (i : ℕ) (ps : List ℕ) → ((j : ℕ) → j < length ps → energyAtPlace loads h (i + j) ≡ energyIn h (getD es (getD ps j 0) bareEnergies))
@@ -60,11 +56,11 @@ module _ (loads : List ℕ) (h : ℕ) where
       ∙ sums-places h (λ l. energyIn h (getD es l bareEnergies)) 0 bs (take n es) (λ j k t. let z : 0 + j ≡ j = omega arith in rw (z, getD-take n es j bareEnergies (omega (arith, m))))))
 
 -- what judging asks of the places
-pub places-asked : (count n hours : ℕ) (ps : List ℕ) → count ≤ n → n ≤ 128 → hours ≤ 25 → length ps ≡ 128 → ((l : ℕ) → l < count → getD ps l 0 < n)
-    → (count ≤ 128) × (hours ≤ 25) × (count ≤ length ps) × ((l : ℕ) → l < count → (getD ps l 0 < 128) × (getD ps l 0 * 25 + 25 ≤ 3200))
-places-asked count n hours ps a b c d f = (omega arith, c, omega arith, λ l i. (omega (arith, f l i), omega (arith, f l i)))
+pub places-asked : (counted : List Bool) (n hours : ℕ) (r : Places) (loads : List ℕ) → PlacesOf counted n r → n ≤ 128 → hours ≤ 25 → length loads ≡ 3200
+    → (r .count ≤ 128) × (hours ≤ 25) × RowsAt (r .at) (r .count) loads
+places-asked counted n hours r loads p b c d = (omega (arith, p .most), c, (omega (arith, p .most, p .long), λ l i. (omega (arith, p .below l i), omega (arith, p .below l i))))
 
--- the first of four places, in order
+-- the places of four rows, one after the other
 abbrev pub fourPlaces : List ℕ
 fourPlaces = 0 ∷ 1 ∷ 2 ∷ 3 ∷ []
 
@@ -77,11 +73,10 @@ four-from (suc (suc (suc zero))) i = refl
 four-from (suc (suc (suc (suc zero)))) i = refl
 four-from (suc (suc (suc (suc (suc k))))) i = absurd (omega arith)
 
-pub rows-asked : (count hours : ℕ) → count ≤ 4 → hours ≤ 25
-    → (count ≤ 128) × (hours ≤ 25) × (count ≤ 4) × ((l : ℕ) → l < count → (getD fourPlaces l 0 < 128) × (getD fourPlaces l 0 * 25 + 25 ≤ 100))
-rows-asked count hours a c = (omega arith, c, a, λ l i. at l (omega arith))
+pub rows-asked : (count hours : ℕ) (loads : List ℕ) → count ≤ 4 → hours ≤ 25 → length loads ≡ 100 → (count ≤ 128) × (hours ≤ 25) × RowsAt fourPlaces count loads
+rows-asked count hours loads a c d = (omega arith, c, (a, λ l i. at l (omega arith)))
   where
-    at : (l : ℕ) → l < 4 → (getD fourPlaces l 0 < 128) × (getD fourPlaces l 0 * 25 + 25 ≤ 100)
+    at : (l : ℕ) → l < 4 → (getD fourPlaces l 0 < 128) × (getD fourPlaces l 0 * 25 + 25 ≤ length loads)
     at zero i = (omega arith, omega arith)
     at (suc zero) i = (omega arith, omega arith)
     at (suc (suc zero)) i = (omega arith, omega arith)
@@ -99,7 +94,7 @@ judged-same u notice cs only H own like f g e k =
 
 -- the judgement by places is that by marks
 module _ (u : Unit) (notice : Notice) (cs : List Notice) (only : Bool) (H : ℕ) (own loads ps : List ℕ) (bs : List Bool) (n : ℕ) (es : List Energies) where
-  pub judged-places : H ≤ 25 → n ≤ length es → LoadsOf bs (take n es) loads → ps ≡ marked bs (from 0 n)
+  pub judged-places : H ≤ 25 → n ≤ length es → LoadsOf (take n es) loads → ps ≡ marked bs (from 0 n)
       → judgedIn u notice cs only H own (loadBy own loads ps) ≡ judgedIn u notice cs only H own (loadIn own bs (take n es))
   unfolding judgedIn
   judged-places most b f e =

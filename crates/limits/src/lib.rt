@@ -3,10 +3,10 @@ ghost use mathlib.Core.Path.{_≡_};
 ghost use mathlib.Core.Bool.{cond};
 ghost use mathlib.Core.List.{map};
 ghost use Prim.Native.Nat.{ℕ, _+_, _*_, _<_, _≤_};
-ghost use lib.ListN.{getD, take, length, replicate};
+ghost use lib.ListN.{take, replicate};
 ghost use Rattle.rules.specs.Lists.{addEach};
 ghost use Rattle.rules.specs.Units.{borderSum};
-ghost use Rattle.loads.specs.Loads.{loadBy};
+ghost use Rattle.loads.specs.Loads.{RowsAt, loadBy};
 ghost use Rattle.limits.specs.Limits.{noticeIn, lowestRow, judgedIn, noBorderLimit, borderAt};
 use loads::lowest_hour;
 use session::Judged;
@@ -138,7 +138,7 @@ pub fn judge_energy(
     count: usize,
     hours: usize,
 ) -> Judged
-    requires { ⌜ (count ≤ 128) × (hours ≤ 25) × (count ≤ length (now at)) × ((l : ℕ) → l < count → (getD (now at) l 0 < 128) × (getD (now at) l 0 * 25 + 25 ≤ length (now loads))) ⌝ }
+    requires { ⌜ (count ≤ 128) × (hours ≤ 25) × RowsAt (now at) count (now loads) ⌝ }
     ensures { λ j. ⌜ j ≡ judgedIn unit notice capacities default hours own (loadBy own (now (loads .entry)) (take count (now (at .entry)))) ⌝ }
 {
     let most = maximum_energies(unit.maximum);

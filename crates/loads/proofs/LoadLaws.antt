@@ -2,7 +2,7 @@
 use Prim.Native.Nat.{ℕ, zero, suc, _+_, _-_, _*_, _≤_, _<_}
 use mathlib.Core.Path.{_≡_, refl, ap, sym, subst, _∙_}
 use mathlib.Core.Logic.{⊎-elim}
-use mathlib.Core.Bool.{Bool, true, false, cond, not, _&&_, true≢false}
+use mathlib.Core.Bool.{Bool, true, false, cond, not, _&&_}
 use mathlib.Core.List.{List, [], _∷_, _++_, append-nil}
 use native.Mathlib.Nat.{eq-or-lt-of-le}
 use native.Mathlib.Numerals.{add-one}
@@ -16,8 +16,9 @@ use Rattle.rules.specs.Units.{passes}
 use Rattle.rules.specs.Lodging.{passedAt}
 use Rattle.rules.proofs.ListLaws.{hourly-suc}
 use Rattle.rules.proofs.LowestLaws.{lowest-is, lowest-none}
+use Rattle.session.specs.Bare.{bareEnergies}
 use Rattle.session.specs.declared.Energies.{Energies}
-use Rattle.loads.specs.Loads.{marked, bareEnergies, RowAt, PutAt, LoadsOf, energyAtPlace, loadBy, laid}
+use Rattle.loads.specs.Loads.{marked, RowAt, PutAt, LoadsOf, energyAtPlace, loadBy, laid}
 
 -- Sums
 
@@ -163,7 +164,7 @@ module _ (a b c d : List ℕ) where
         row-next 3 d r₃ h (75 + h) (omega arith) (omega (arith, n₃)) (row-kept 3 d r₂ h (50 + h) z (omega arith) (λ k m q. absurd (omega arith)) (row-kept 3 d r₁ h (25 + h) y (omega arith) (λ k m q. absurd (omega arith)) (row-kept 3 d r h h x (omega arith) (λ k m q. absurd (omega arith)) (f .3)))),
       )
 
-module _ (bs : List Bool) (es : List Energies) (l : ℕ) (in-list : l < length es) where
+module _ (es : List Energies) (l : ℕ) (in-list : l < length es) where
   -- a place of one more
   among : (k : ℕ) → k < length (take (l + 1) es) → k ≤ l
   among k i = omega (arith, length-take-le (l + 1) es (omega arith))
@@ -174,23 +175,18 @@ module _ (bs : List Bool) (es : List Energies) (l : ℕ) (in-list : l < length e
   at-shorter : (k : ℕ) → k < l → getD (take l es) k bareEnergies ≡ getD (take (l + 1) es) k bareEnergies
   at-shorter k i = getD-take l es k bareEnergies i ∙ sym (getD-take (l + 1) es k bareEnergies (omega arith))
 
-  pub loads-put : (before after : List ℕ) → PutAt l (getD es l bareEnergies .energies) before after → LoadsOf bs (take l es) before → LoadsOf bs (take (l + 1) es) after
+  pub loads-put : (before after : List ℕ) → PutAt l (getD es l bareEnergies .energies) before after → LoadsOf (take l es) before → LoadsOf (take (l + 1) es) after
   unfolding LoadsOf PutAt RowAt
-  loads-put before after p f k h i t m =
+  loads-put before after p f k i h m =
       ⊎-elim (λ (q : k ≡ l). rw (q, getD-take (l + 1) es l bareEnergies (omega arith)) (p .0 h m))
-      (λ n. rw (← at-shorter k n) (p .1 (k * 25 + h) (inside k h n m) ∙ f k h (shorter k n) t m)) (eq-or-lt-of-le (among k i))
+      (λ n. rw (← at-shorter k n) (p .1 (k * 25 + h) (inside k h n m) ∙ f k (shorter k n) h m)) (eq-or-lt-of-le (among k i))
     where
       inside : (k h : ℕ) → k < l → h < 25 → k * 25 + h < l * 25
       inside k h n m = omega arith
 
-  pub loads-passed : (loads : List ℕ) → getD bs l false ≡ false → LoadsOf bs (take l es) loads → LoadsOf bs (take (l + 1) es) loads
-  unfolding LoadsOf
-  loads-passed loads e f k h i t m =
-      ⊎-elim (λ (q : k ≡ l). absurd (true≢false (sym t ∙ ap (λ j. getD bs j false) q ∙ e))) (λ n. rw (← at-shorter k n) (f k h (shorter k n) t m)) (eq-or-lt-of-le (among k i))
-
-pub loads-start : (bs : List Bool) (loads : List ℕ) → LoadsOf bs [] loads
+pub loads-start : (loads : List ℕ) → LoadsOf [] loads
 unfolding LoadsOf
-loads-start bs loads l h i = absurd (omega arith)
+loads-start loads l i = absurd (omega arith)
 
 -- Hours
 

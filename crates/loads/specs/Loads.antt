@@ -1,13 +1,14 @@
 -- A lodgement's energy in an hour, with that of others that are counted.
 use Prim.Native.Nat.{ℕ, _+_, _-_, _*_, _≤_, _<_}
 use mathlib.Core.Path.{_≡_}
-use mathlib.Core.Bool.{Bool, true, false, cond}
+use mathlib.Core.Bool.{Bool, cond}
 use mathlib.Core.List.{List, [], _∷_}
 use mathlib.Core.Option.{some}
 use lib.ListN.{length, getD, take}
 use Rattle.rules.specs.Lists.{sumOf, hourly, from}
 use Rattle.rules.specs.Units.{Limit}
 use Rattle.arrays.specs.declared.Places.{Places}
+use Rattle.session.specs.Bare.{bareEnergies}
 use Rattle.session.specs.declared.Energies.{Energies}
 
 -- those at whose place the mark is true
@@ -17,8 +18,11 @@ marked (b ∷ bs) [] = []
 marked (b ∷ bs) (x ∷ xs) = cond b (x ∷ marked bs xs) (marked bs xs)
 
 -- the places of those of the first n at which the mark is true
-abbrev pub PlacesOf : List Bool → ℕ → Places → Type 0
-PlacesOf counted n r = (r .count ≤ n) × (take (r .count) (r .at) ≡ marked counted (from 0 n)) × (length (r .at) ≡ 128) × ((l : ℕ) → l < r .count → getD (r .at) l 0 < n)
+pub record PlacesOf (counted : List Bool) (n : ℕ) (r : Places) : Type 0 where
+  pub most : r .count ≤ n
+  pub places : take (r .count) (r .at) ≡ marked counted (from 0 n)
+  pub long : length (r .at) ≡ 128
+  pub below : (l : ℕ) → l < r .count → getD (r .at) l 0 < n
 
 abbrev pub energyIn : ℕ → Energies → ℕ
 energyIn h e = hourly (e .energies) h
@@ -29,25 +33,24 @@ loadIn own counted es h = hourly own h + sumOf (energyIn h) (marked counted es)
 
 -- The same by places, the energies in one array, 25 for each place
 
--- an element that is read beyond an array
-abbrev pub bareEnergies : Energies
-bareEnergies = record { energies = []; prices = [] }
-
 -- the 25 numbers of a place are these
 unfoldable pub RowAt : ℕ → List ℕ → List ℕ → Type 0
 RowAt l es loads = (h : ℕ) → h < 25 → getD loads (l * 25 + h) 0 ≡ getD es h 0
 
--- and the others as before
+-- the 25 numbers of a place are these, and the others as before
 unfoldable pub PutAt : ℕ → List ℕ → List ℕ → List ℕ → Type 0
 PutAt l es before after =
     RowAt l es after
     × ((i : ℕ) → i < l * 25 → getD after i 0 ≡ getD before i 0)
     × ((i : ℕ) → l * 25 + 25 ≤ i → getD after i 0 ≡ getD before i 0)
 
--- the array has the energies of those that are wanted
-unfoldable pub LoadsOf : List Bool → List Energies → List ℕ → Type 0
-LoadsOf wanted es loads =
-    (l h : ℕ) → l < length es → getD wanted l false ≡ true → h < 25 → getD loads (l * 25 + h) 0 ≡ getD (getD es l bareEnergies .energies) h 0
+-- the array has the energies of all
+unfoldable pub LoadsOf : List Energies → List ℕ → Type 0
+LoadsOf es loads = (l : ℕ) → l < length es → RowAt l (getD es l bareEnergies .energies) loads
+
+-- the array has 25 numbers at each of the first places of a list
+abbrev pub RowsAt : List ℕ → ℕ → List ℕ → Type 0
+RowsAt at count loads = (count ≤ length at) × ((l : ℕ) → l < count → (getD at l 0 < 128) × (getD at l 0 * 25 + 25 ≤ length loads))
 
 -- the energy in an hour at a place
 abbrev pub energyAtPlace : List ℕ → ℕ → ℕ → ℕ

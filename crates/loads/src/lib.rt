@@ -1,11 +1,11 @@
 // The lodgements that are counted beside one, their places and energies, and the lowest hour in which its energy with theirs
 // passes a limit.
 ghost use mathlib.Core.Path.{_≡_};
-ghost use Prim.Native.Nat.{ℕ, _+_, _*_, _<_, _≤_};
-ghost use lib.ListN.{getD, take, length};
+ghost use Prim.Native.Nat.{_+_, _*_, _<_, _≤_};
+ghost use lib.ListN.{take, length};
 ghost use Rattle.rules.specs.Lists.{lowest};
 ghost use Rattle.rules.specs.Lodging.{passedAt};
-ghost use Rattle.loads.specs.Loads.{PlacesOf, RowAt, PutAt, LoadsOf, loadBy, laid};
+ghost use Rattle.loads.specs.Loads.{PlacesOf, RowAt, PutAt, LoadsOf, RowsAt, loadBy, laid};
 use arrays::Places;
 use session::Energies;
 
@@ -40,18 +40,14 @@ pub fn put(all: &mut [u32; 3200], l: usize, row: [u32; 25])
     }
 }
 
-// The energies by hour of those of the first n lodgements that are wanted, each at its place: plain numbers, which can be
-// lent, so that a judgement copies none of them.
-pub fn loads_of(wanted: &[bool; 128], n: usize, energies: [Energies; 128]) -> [u32; 3200]
+// The energies by hour of the first n lodgements, each at its place: plain numbers, which can be lent, so that a judgement copies
+// none of them.
+pub fn loads_of(n: usize, energies: [Energies; 128]) -> [u32; 3200]
     requires { ⌜ n ≤ 128 ⌝ }
-    ensures { λ r. ⌜ (n ≤ length energies) × LoadsOf (now (wanted .entry)) (take n energies) r ⌝ }
+    ensures { λ r. ⌜ (n ≤ length energies) × LoadsOf (take n energies) r ⌝ }
 {
     let mut loads = [0u32; 3200];
     for l in 0..n {
-        let is_wanted = wanted[l];
-        if !is_wanted {
-            continue;
-        }
         let e = energies[l];
         let row = e.energies;
         put(&mut loads, l, row);
@@ -59,7 +55,7 @@ pub fn loads_of(wanted: &[bool; 128], n: usize, energies: [Energies; 128]) -> [u
     loads
 }
 
-// Up to four lodgements' energies by hour, one after the other.
+// Four lodgements' energies by hour, one after the other.
 pub fn rows_of(
     first: [u32; 25],
     second: [u32; 25],
@@ -88,7 +84,7 @@ pub fn lowest_hour(
     hours: usize,
     limit: [u64; 25],
 ) -> u32
-    requires { ⌜ (count ≤ 128) × (hours ≤ 25) × (count ≤ length (now at)) × ((l : ℕ) → l < count → (getD (now at) l 0 < 128) × (getD (now at) l 0 * 25 + 25 ≤ length (now loads))) ⌝ }
+    requires { ⌜ (count ≤ 128) × (hours ≤ 25) × RowsAt (now at) count (now loads) ⌝ }
     ensures { λ r. ⌜ r ≡ lowest (passedAt own (loadBy own (now (loads .entry)) (take count (now (at .entry)))) (laid limit)) hours ⌝ }
 {
     let mut passed: u32 = 0;

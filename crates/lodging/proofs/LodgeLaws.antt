@@ -1,7 +1,7 @@
 -- Lodging: each way out.
 use Prim.Native.Nat.{ℕ}
 use mathlib.Core.Path.{_≡_, sym, ap, _∙_}
-use mathlib.Core.Bool.{Bool, true, false}
+use mathlib.Core.Bool.{Bool, false}
 use mathlib.Core.List.{List, _∷_}
 use Rattle.rules.specs.Refusals.{Row, row, firstRow}
 use Rattle.rules.specs.Message.{energyWidth, decode, badForm}
@@ -12,7 +12,6 @@ use Rattle.session.specs.Parts.{told, Judges, Entered}
 use Rattle.session.specs.declared.Session.{Session}
 use Rattle.session.specs.declared.Turn.{Turn}
 use Rattle.session.specs.declared.Judged.{Judged}
-use Rattle.session.specs.declared.Judged.the-variants.{No}
 use Rattle.session.proofs.ImageLaws.{closed-as}
 use Rattle.session.proofs.StepLaws.{open-row}
 use Rattle.admission.specs.Judging.{fieldRows, lastRows, JudgesFields}

@@ -5,7 +5,7 @@ ghost use Prim.Native.Nat.{ℕ};
 ghost use Rattle.rules.specs.DayBook.{lodge};
 ghost use Rattle.changes.specs.Changes.{Placed, standingTurn};
 ghost use Rattle.session.specs.Steps.{Met};
-ghost use Rattle.pending.specs.Awaiting.{Ready, Pends, excerptAt};
+ghost use Rattle.pending.specs.Awaiting.{Prepared, Pends, excerptAt};
 use crate::entering::enter;
 use admission::judge_fields;
 use changes::StandingTurn;
@@ -21,35 +21,26 @@ use session::Turn;
 
 // What lodging a message that is read changes.
 pub fn lodge_pending(s: Session, p: Pending, x: Excerpt) -> StandingTurn
-    requires { ⌜ Ready s p × (x ≡ excerptAt s p) ⌝ }
+    requires { ⌜ Prepared s p × (x ≡ excerptAt s p) ⌝ }
     ensures { λ r. ⌜ ((bytes : List ℕ) → Pends s bytes p → Met s (lodge bytes) (standingTurn s r)) × Placed (r .change) ⌝ }
 {
-    if p.refused != 0 {
-        return standing_refused(s, p.refused, 0);
+    if p.refusal != 0 {
+        return standing_refused(s, p.refusal, 0);
     }
+    let j = judge_fields(s, p, x);
     let m = p.fields;
-    let holder = p.holder;
-    let beside = p.beside;
-    let j = judge_fields(s, m, p.at, holder, beside, x);
     match j {
         Judged::No(row, hour) => standing_refused(s, row, hour),
-        Judged::Clear => enter(s, m, p.at),
+        Judged::Clear => enter(s, m, p.replaces),
     }
-}
-
-// What lodging a message changes.
-pub fn lodge_change(s: Session, message: &[u8]) -> StandingTurn
-    ensures { λ r. ⌜ Met s (lodge (now (message .entry))) (standingTurn s r) × Placed (r .change) ⌝ }
-{
-    let p = pend(s, message);
-    let x = excerpt_of(s, p);
-    lodge_pending(s, p, x)
 }
 
 // Lodges a message: 2, 3, 4, 5, 6, 9, 10, 11, 12.
 pub fn lodge(s: Session, message: &[u8]) -> Turn
     ensures { λ r. ⌜ Met s (lodge (now (message .entry))) r ⌝ }
 {
-    let t = lodge_change(s, message);
+    let p = pend(s, message);
+    let x = excerpt_of(s, p);
+    let t = lodge_pending(s, p, x);
     with_standing(s, t)
 }

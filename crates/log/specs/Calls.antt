@@ -1,8 +1,8 @@
 -- The call log: a call's record, and the calls of a log.
 use Prim.Native.Nat.{ℕ, zero, suc, _+_, _*_, min}
-use mathlib.Core.Bool.{Bool, true, false, cond, not, _&&_}
+use mathlib.Core.Bool.{Bool, true, cond, not, _&&_}
 use mathlib.Core.List.{List, [], _∷_, map}
-use mathlib.Core.Option.{Option, some, none}
+use mathlib.Core.Option.{some, none}
 use lib.Dec.{eqb, leb}
 use lib.ListN.{getD, take, drop, length}
 use Rattle.rules.specs.Lists.{from}

@@ -18,7 +18,6 @@ use Rattle.matching.proofs.ViewLaws.{matched-small}
 use Rattle.borders.specs.Ways.{publishedIn}
 use Rattle.withdrawal.specs.declared.Ended.{Ended}
 use Rattle.withdrawal.specs.Turns.{Energies, Withdrew}
-use Rattle.market.specs.declared.Market.{Market}
 use Rattle.market.specs.Parts.{MarketCleared}
 
 -- the energies after the first match

@@ -18,6 +18,7 @@ use Rattle.rules.specs.Queries as Q
 use Rattle.rules.specs.Queries.{number, shown}
 use Rattle.rules.proofs.BalanceLaws.{marketFlow}
 use Rattle.borders.specs.Ways.{wayOf}
+use Rattle.session.specs.Bare.{bareNotice}
 use Rattle.session.specs.Image.{image, Sound, noticeAs, energyOf, figuresAs}
 use Rattle.session.specs.declared.Session.{Session}
 use Rattle.session.specs.declared.Notice.{Notice}
@@ -31,7 +32,7 @@ use Rattle.queries.proofs.FigureLaws.{figures-as}
 use Rattle.queries.proofs.ReplyLaws.{SameRows}
 use Rattle.balances.specs.Parts.{BorderFits}
 use Rattle.balances.proofs.FlowLaws.{by-way, market-at}
-use Rattle.maxima.specs.Parts.{noticePlace, capacityIn, bareNotice}
+use Rattle.maxima.specs.Parts.{noticePlace, capacityIn}
 use Rattle.maxima.proofs.MaximumLaws.{bilateral-by-flows, notice-hourly, no-maximum, no-capacity, the-capacity, the-maximum}
 
 -- a border's maxima are refused as its balances are

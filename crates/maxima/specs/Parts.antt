@@ -1,16 +1,12 @@
 -- What the parts of a maximum's query promise to each other.
 use Prim.Native.Nat.{ℕ}
-use mathlib.Core.Bool.{Bool, false, cond}
-use mathlib.Core.List.{[]}
+use mathlib.Core.Bool.{Bool, cond}
 use lib.Dec.{ltb}
 use lib.ListN.{getD}
 use Rattle.rules.specs.Units.{direction}
+use Rattle.session.specs.Bare.{bareNotice}
 use Rattle.session.specs.declared.Session.{Session}
 use Rattle.session.specs.declared.Notice.{Notice}
-
--- what is read beyond the directions' places
-abbrev pub bareNotice : Notice
-bareNotice = record { given = false; energies = [] }
 
 -- the place of a direction's notice; beyond the borders, the first
 unfoldable pub noticePlace : ℕ → Bool → ℕ

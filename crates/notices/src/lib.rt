@@ -7,7 +7,7 @@ ghost use Rattle.rules.specs.DayBook.{available};
 ghost use Rattle.session.specs.Laid.{pad, counted};
 ghost use Rattle.changes.specs.Changes.{registryTurn};
 ghost use Rattle.session.specs.Steps.{Met};
-ghost use Rattle.session.specs.Parts.{Judges, numberIs, placeOf};
+ghost use Rattle.session.specs.Parts.{Judges, unitPlace};
 ghost use Rattle.notices.specs.Notices.{keptAs, notedAt};
 use changes::RegistryChange;
 use changes::RegistryTurn;
@@ -68,7 +68,7 @@ pub fn kept_notice(count: usize, energies: [u32; 25]) -> Notice
 
 // The refusal that applies to a notice of `count` energies for a unit, `at` the unit's place.
 fn judge_available(s: Session, at: usize, number: u32, count: usize, energies: [u32; 25]) -> Judged
-    requires { ⌜ at ≡ placeOf (numberIs number) (take (s .enrolled) (s .units)) ⌝ }
+    requires { ⌜ at ≡ unitPlace s number ⌝ }
     ensures { λ r. ⌜ Judges s (available number (counted count energies)) r × (r ≡ Judged.Clear → at < s .enrolled) ⌝ }
 {
     if s.closed {

@@ -1,16 +1,16 @@
 -- What is read at the places of a message that awaits judgement is what its judgement asks for.
-use Prim.Native.Nat.{ℕ, _<_}
+use Prim.Native.Nat.{ℕ}
 use mathlib.Core.Path.{_≡_, ap, subst, sym}
 use native.Mathlib.Omega.{arith}
 use lib.ListN.{getD}
+use Rattle.session.specs.Bare.{bareNotice, bareEnergies}
 use Rattle.session.specs.declared.Session.{Session}
-use Rattle.loads.specs.Loads.{bareEnergies}
-use Rattle.pending.specs.Excerpts.{bareNotice, RowOf, Excerpts}
-use Rattle.pending.specs.Awaiting.{Awaits, Nth, Lies, excerptAt}
+use Rattle.pending.specs.Excerpts.{RowOf, Excerpts}
+use Rattle.pending.specs.Awaiting.{Awaits, Nth, Located, excerptAt}
 use Rattle.pending.specs.declared.Pending.{Pending}
 use Rattle.pending.specs.declared.Excerpt.{Excerpt}
 
-pub excerpts-at : (s : Session) (p : Pending) (x : Excerpt) → Awaits s p → Lies p → x ≡ excerptAt s p → Excerpts s (p .holder) (p .beside) x
+pub excerpts-at : (s : Session) (p : Pending) (x : Excerpt) → Awaits s p → Located p → x ≡ excerptAt s p → Excerpts s (p .holder) (p .beside) x
 excerpts-at s p x a l e =
     subst (λ (y : Excerpt). Excerpts s (p .holder) (p .beside) y) (sym e) (
       λ i. ap (λ k. getD (s .notices) k bareNotice) (l .notice .1 (omega (arith, i, a .within .enrolled))),

@@ -14,7 +14,7 @@ use Rattle.session.specs.declared.Judged.the-variants.{No}
 use Rattle.session.proofs.ImageLaws.{closed-as}
 use Rattle.message.specs.View.{fieldsIn}
 use Rattle.message.specs.declared.Fields.{Fields}
-use Rattle.pending.specs.Awaiting.{notPending, Awaits, Nth, Lies, Pends}
+use Rattle.pending.specs.Awaiting.{notPending, Awaits, Nth, Located, Pends}
 use Rattle.pending.specs.declared.Pending.{Pending}
 
 module _ (s : Session) (bytes : List ℕ) where
@@ -40,7 +40,7 @@ module _ (s : Session) (bytes : List ℕ) where
       none j = (omega arith, λ i. absurd (omega arith))
 
   -- read
-  pub pends-read : (m : Fields) (p : Pending) → (p .refused ≡ 0) × (p .fields ≡ m) × Awaits s p × Lies p
+  pub pends-read : (m : Fields) (p : Pending) → (p .refusal ≡ 0) × (p .fields ≡ m) × Awaits s p × Located p
       → s .closed ≡ false → badForm energyWidth bytes ≡ false → fieldsIn m ≡ decode energyWidth bytes → Pends s bytes p
   pends-read m p found o f e = record {
     ready = (λ z. found .2, found .3);

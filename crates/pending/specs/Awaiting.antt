@@ -8,25 +8,23 @@ use Rattle.rules.specs.Message.{energyWidth, decode, badForm}
 use Rattle.rules.specs.DayBook as D
 use Rattle.arrays.specs.declared.Places.{Places}
 use Rattle.message.specs.View.{fieldsIn}
-use Rattle.message.specs.declared.Fields.{Fields}
+use Rattle.session.specs.Bare.{bareNotice, bareEnergies}
 use Rattle.session.specs.Image.{noUnit}
 use Rattle.session.specs.Parts.{Within, Holds, refusedWith}
 use Rattle.session.specs.Steps.{Met}
 use Rattle.session.specs.declared.Session.{Session}
-use Rattle.session.specs.declared.Holder.{Holder}
 use Rattle.keys.specs.Keys.{keyFor, keyPlace}
-use Rattle.loads.specs.Loads.{PlacesOf, bareEnergies}
+use Rattle.loads.specs.Loads.{PlacesOf}
 use Rattle.beside.specs.Beside.{marksFor}
-use Rattle.pending.specs.Excerpts.{bareNotice}
 use Rattle.pending.specs.declared.Excerpt.{Excerpt}
 use Rattle.pending.specs.declared.Pending.{Pending}
 
 -- what is found for a message that is refused before it is read further
 abbrev pub notPending : ℕ → Pending
 notPending row = record {
-  refused = row;
+  refusal = row;
   fields = record { execution = false; default = false; unit = 0; contract = 0; map = 0; energies = replicate 25 0; prices = replicate 25 0 };
-  at = 0;
+  replaces = 0;
   holder = record { at = 0; unit = noUnit };
   beside = record { count = 0; at = replicate 128 0 };
   notice = 0;
@@ -39,8 +37,8 @@ notPending row = record {
 -- what is found for another
 pub record Awaits (s : Session) (p : Pending) : Type 0 where
   pub within : Within s
-  pub replaced : p .at ≡ keyPlace s (keyFor (p .fields))
-  pub most : p .at ≤ s .standing
+  pub replaced : p .replaces ≡ keyPlace s (keyFor (p .fields))
+  pub most : p .replaces ≤ s .standing
   pub holder : Holds (s .units) (s .enrolled) (p .fields .unit) (p .holder)
   pub beside : PlacesOf (marksFor s (p .fields)) (s .standing) (p .beside)
 
@@ -48,16 +46,17 @@ pub record Awaits (s : Session) (p : Pending) : Type 0 where
 abbrev pub Nth : Places → ℕ → ℕ → Type 0
 Nth p j i = (i < 128) × (j < p .count → i ≡ getD (p .at) j 0)
 
--- where its notice and the energies beside it lie
-pub record Lies (p : Pending) : Type 0 where
+-- where its notice and the energies beside it lie; also of a refused one, since a lent entry reads there before it is judged
+pub record Located (p : Pending) : Type 0 where
   pub notice : (p .notice < 64) × (p .holder .at < 64 → p .notice ≡ p .holder .at)
   pub first : Nth (p .beside) 0 (p .first)
   pub second : Nth (p .beside) 1 (p .second)
   pub third : Nth (p .beside) 2 (p .third)
   pub fourth : Nth (p .beside) 3 (p .fourth)
 
-abbrev pub Ready : Session → Pending → Type 0
-Ready s p = (p .refused ≡ 0 → Awaits s p) × Lies p
+-- what judging asks of a message that is read
+abbrev pub Prepared : Session → Pending → Type 0
+Prepared s p = (p .refusal ≡ 0 → Awaits s p) × Located p
 
 -- what stands there
 abbrev pub excerptAt : Session → Pending → Excerpt
@@ -69,10 +68,10 @@ excerptAt s p = record {
   fourth = getD (s .energies) (p .fourth) bareEnergies;
 }
 
--- a message's bytes, read: refused with 2 or 3 where that is what the rules say, else its fields
+-- a message's bytes, read: refused as the rules say, else its fields
 pub record Pends (s : Session) (bytes : List ℕ) (p : Pending) : Type 0 where
-  pub ready : Ready s p
-  pub refused : (p .refused ≡ 0 → ⊥) → Met s (D.lodge bytes) (refusedWith s (p .refused) 0)
-  pub opened : p .refused ≡ 0 → s .closed ≡ false
-  pub formed : p .refused ≡ 0 → badForm energyWidth bytes ≡ false
-  pub fields : p .refused ≡ 0 → fieldsIn (p .fields) ≡ decode energyWidth bytes
+  pub ready : Prepared s p
+  pub refused : (p .refusal ≡ 0 → ⊥) → Met s (D.lodge bytes) (refusedWith s (p .refusal) 0)
+  pub opened : p .refusal ≡ 0 → s .closed ≡ false
+  pub formed : p .refusal ≡ 0 → badForm energyWidth bytes ≡ false
+  pub fields : p .refusal ≡ 0 → fieldsIn (p .fields) ≡ decode energyWidth bytes

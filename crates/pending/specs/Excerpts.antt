@@ -1,25 +1,19 @@
 -- What judging a message reads of the session's long arrays.
 use Prim.Native.Nat.{ℕ, _<_}
 use mathlib.Core.Path.{_≡_}
-use mathlib.Core.Bool.{false}
-use mathlib.Core.List.{[]}
 use lib.ListN.{getD}
 use Rattle.arrays.specs.declared.Places.{Places}
+use Rattle.session.specs.Bare.{bareNotice, bareEnergies}
 use Rattle.session.specs.declared.Session.{Session}
-use Rattle.session.specs.declared.Notice.{Notice}
 use Rattle.session.specs.declared.Energies.{Energies}
 use Rattle.session.specs.declared.Holder.{Holder}
-use Rattle.loads.specs.Loads.{bareEnergies}
 use Rattle.pending.specs.declared.Excerpt.{Excerpt}
-
--- a notice that is read beyond an array
-abbrev pub bareNotice : Notice
-bareNotice = record { given = false; energies = [] }
 
 -- the energies of the lodgement at the j-th of some places, where there is one
 abbrev pub RowOf : Session → Places → ℕ → Energies → Type 0
 RowOf s p j e = j < p .count → e ≡ getD (s .energies) (getD (p .at) j 0) bareEnergies
 
+-- the first four of them
 abbrev pub EnergiesIn : Session → Places → Excerpt → Type 0
 EnergiesIn s p x = RowOf s p 0 (x .first) × RowOf s p 1 (x .second) × RowOf s p 2 (x .third) × RowOf s p 3 (x .fourth)
 

@@ -1,11 +1,11 @@
-// A message that is read, before it is judged: what it is refused for by its form, and the places of the session that its judgement reads. A lent session's arrays are read there, by the
-// entry that has the reference, and not copied.
+// A message that is read, before it is judged: whether its form refuses it, and the places of the session that its judgement
+// reads. A lent session's arrays are read there, by the entry that has the reference, and not copied.
 ghost use mathlib.Core.Path.{_≡_};
 ghost use Prim.Native.Nat.{ℕ, _≤_, _<_};
 ghost use lib.ListN.{getD};
 ghost use Rattle.session.specs.Parts.{Within};
 ghost use Rattle.keys.specs.Keys.{keyPlace};
-ghost use Rattle.pending.specs.Awaiting.{Awaits, Lies, Pends, notPending, excerptAt};
+ghost use Rattle.pending.specs.Awaiting.{Awaits, Located, Pends, notPending, excerptAt};
 use arrays::Places;
 use beside::beside_places;
 use keys::key_of;
@@ -23,7 +23,7 @@ use session::no_unit;
 use session::units::holder_of;
 
 // The refusal table's number for a wrong form.
-pub const FORM: u32 = 3;
+const FORM: u32 = 3;
 
 // What judging a message reads of the session's long arrays: its unit's notice, and the energies of the first four lodgements
 // that are counted beside it. A lent session is read at these places only; where more are counted, the array is copied.
@@ -35,12 +35,12 @@ pub struct Excerpt {
     pub fourth: Energies,
 }
 
-// A message that awaits judgement: its fields, the place of the lodgement that it replaces, its unit, the places of those that
-// are counted beside it; then where its notice and the first four of these lie. `refused` is 2 or 3 where that row applies, else 0.
+// A message that is read: the row that refuses it, 0 for none; its fields, the place of the lodgement that it replaces, its unit, the
+// places of those that are counted beside it; then the places of its unit's notice and of the first four of those.
 pub struct Pending {
-    pub refused: u32,
+    pub refusal: u32,
     pub fields: Fields,
-    pub at: usize,
+    pub replaces: usize,
     pub holder: Holder,
     pub beside: Places,
     pub notice: usize,
@@ -50,7 +50,7 @@ pub struct Pending {
     pub fourth: usize,
 }
 
-// "after a 3 nothing further is read".
+// A message that this row refuses, the rest 0: "after a 3 nothing further is read".
 fn not_pending(row: u32) -> Pending
     ensures { λ r. ⌜ r ≡ notPending row ⌝ }
 {
@@ -69,9 +69,9 @@ fn not_pending(row: u32) -> Pending
     let at = [0usize; 128];
     let beside = Places { count: 0, at: at };
     Pending {
-        refused: row,
+        refusal: row,
         fields: fields,
-        at: 0,
+        replaces: 0,
         holder: holder,
         beside: beside,
         notice: 0,
@@ -91,8 +91,8 @@ fn replaced_place(s: Session, key: Key) -> usize
     key_place(lodgements, s.standing, key)
 }
 
-// A place of a notice, also where the unit is behind the last.
-fn notice_place(at: usize) -> usize
+// A unit's place, also where it is behind the last.
+fn unit_place(at: usize) -> usize
     ensures { λ r. ⌜ (r < 64) × (at < 64 → r ≡ at) ⌝ }
 {
     if at < 64 {
@@ -115,35 +115,35 @@ fn nth_place(at: &[usize; 128], count: usize, j: usize) -> usize
 // What is found for a message of the right form.
 fn awaiting(s: Session, m: Fields) -> Pending
     requires { ⌜ Within s ⌝ }
-    ensures { λ r. ⌜ (r .refused ≡ 0) × (r .fields ≡ m) × Awaits s r × Lies r ⌝ }
+    ensures { λ r. ⌜ (r .refusal ≡ 0) × (r .fields ≡ m) × Awaits s r × Located r ⌝ }
 {
     let key = key_of(m);
-    let at = replaced_place(s, key);
+    let replaces = replaced_place(s, key);
     let units = s.units;
     let holder = holder_of(units, s.enrolled, m.unit);
     let lodgements = s.lodgements;
     let beside = beside_places(lodgements, s.standing, key);
     let count = beside.count;
-    let notice = notice_place(holder.at);
+    let notice = unit_place(holder.at);
     let first = nth_place(&beside.at, count, 0);
     let second = nth_place(&beside.at, count, 1);
     let third = nth_place(&beside.at, count, 2);
     let fourth = nth_place(&beside.at, count, 3);
     Pending {
-        refused: 0,
+        refusal: 0,
         fields: m,
-        at: at,
-        holder: holder,
-        beside: beside,
-        notice: notice,
-        first: first,
-        second: second,
-        third: third,
-        fourth: fourth,
+        replaces,
+        holder,
+        beside,
+        notice,
+        first,
+        second,
+        third,
+        fourth,
     }
 }
 
-// Reads a message.
+// Reads a message, 2 and 3, and finds what its judgement looks at.
 pub fn pend(s: Session, message: &[u8]) -> Pending
     ensures { λ r. ⌜ Pends s (now (message .entry)) r ⌝ }
 {
@@ -160,9 +160,9 @@ pub fn pend(s: Session, message: &[u8]) -> Pending
     awaiting(s, m)
 }
 
-// What its judgement reads, of a session by value.
+// What a message's judgement reads, of a session by value.
 pub fn excerpt_of(s: Session, p: Pending) -> Excerpt
-    requires { ⌜ Lies p ⌝ }
+    requires { ⌜ Located p ⌝ }
     ensures { λ r. ⌜ r ≡ excerptAt s p ⌝ }
 {
     let notices = s.notices;

@@ -11,6 +11,7 @@ use Rattle.rules.specs.Lists.{from}
 use Rattle.rules.specs.Refusals.{given}
 use Rattle.rules.specs.Book.{Book, hours}
 use Rattle.rules.specs.Queries as Q
+use Rattle.session.specs.Bare.{bareFigures}
 use Rattle.session.specs.Laid.{pad}
 use Rattle.session.specs.Image.{image, Sound, hoursIn, figuresAs, noFigures}
 use Rattle.session.specs.declared.Session.{Session}
@@ -18,7 +19,7 @@ use Rattle.session.specs.declared.Cleared.{Cleared}
 use Rattle.session.proofs.PlaceLaws.{getD-map}
 use Rattle.session.proofs.ImageLaws.{hours-as, cleared-as}
 use Rattle.queries.specs.Replies.{replyIn}
-use Rattle.queries.specs.Parts.{placeIn, figuresIn, bareFigures, HourFits}
+use Rattle.queries.specs.Parts.{placeIn, figuresIn, HourFits}
 use Rattle.queries.specs.declared.Reply.the-variants.{Number}
 
 -- Places of lists

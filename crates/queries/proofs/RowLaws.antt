@@ -11,7 +11,7 @@ use Rattle.rules.specs.Book.{Book, hours}
 use Rattle.rules.specs.Queries as Q
 use Rattle.rules.proofs.BoolLaws.{by-bool}
 use Rattle.session.specs.Image.{image, Sound}
-use Rattle.session.specs.Parts.{within, numberIs, told}
+use Rattle.session.specs.Parts.{within, told}
 use Rattle.session.specs.declared.Session.{Session}
 use Rattle.session.specs.declared.Judged.the-variants.{No, Clear}
 use Rattle.session.proofs.ImageLaws.{image-within, hours-as, cleared-as}

@@ -2,12 +2,12 @@
 use Prim.Native.Nat.{ℕ, _-_, _≤_, _<_}
 use mathlib.Core.Path.{_≡_}
 use mathlib.Core.Bool.{true, cond}
-use mathlib.Core.List.{[]}
 use lib.Dec.{ltb}
 use lib.ListN.{getD}
 use Rattle.rules.specs.Refusals.{firstRow}
 use Rattle.rules.specs.Book.{Book}
 use Rattle.rules.specs.Queries.{Query, queryRows}
+use Rattle.session.specs.Bare.{bareFigures}
 use Rattle.session.specs.Image.{image, Sound}
 use Rattle.session.specs.Parts.{Within, told}
 use Rattle.session.specs.declared.Session.{Session}
@@ -24,10 +24,6 @@ pub record HourFits (s : Session) (hour : ℕ) : Type 0 where
   pub cleared : s .cleared ≡ true
   pub low : 0 < hour
   pub high : hour ≤ s .hours
-
--- what is read beyond the hours' places
-abbrev pub bareFigures : Cleared
-bareFigures = record { price = 0; market = []; bilateral = []; maxima = []; matched = []; executed = [] }
 
 -- the place of an hour's figures; beyond the longest day's hours, the first
 unfoldable pub placeIn : ℕ → ℕ

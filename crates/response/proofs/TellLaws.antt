@@ -20,7 +20,7 @@ use Rattle.response.specs.Told.{MetAs}
 use Rattle.told.specs.declared.Response.{Response}
 use Rattle.told.specs.Told.{ofAnswer}
 use Rattle.effects.specs.declared.Registered.{Registered}
-use Rattle.effects.specs.declared.Noted.{Noted}
+use Rattle.effects.specs.declared.CapacitiesNoted.{CapacitiesNoted}
 use Rattle.effects.specs.declared.Lodged.{Lodged}
 use Rattle.effects.specs.declared.Closed.{Closed}
 use Rattle.effects.specs.declared.DayCleared.{DayCleared}
@@ -33,7 +33,7 @@ module _ (s : Session) (c : D.Call) where
   pub registry-met : (t : RegistryTurn) (r : Registered) → Met s c (registryTurn s t) → r ≡ registeredAs t → MetAs s c (registryLeft s r)
   registry-met t r m e = subst (λ x. MetAs s c (registryLeft s x)) (sym e) (met-as s c (registryTurn s t) m)
 
-  pub capacity-met : (t : CapacityTurn) (r : Noted) → Met s c (capacityTurn s t) → r ≡ notedAs t → MetAs s c (capacitiesLeft s r)
+  pub capacity-met : (t : CapacityTurn) (r : CapacitiesNoted) → Met s c (capacityTurn s t) → r ≡ notedAs t → MetAs s c (capacitiesLeft s r)
   capacity-met t r m e = subst (λ x. MetAs s c (capacitiesLeft s x)) (sym e) (met-as s c (capacityTurn s t) m)
 
   pub standing-met : (t : StandingTurn) (r : Lodged) → Met s c (standingTurn s t) → r ≡ lodgedAs t → MetAs s c (standingLeft s r)

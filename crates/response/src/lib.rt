@@ -7,16 +7,16 @@ ghost use Rattle.rules.specs.DayBook.{register, available, capacity, lodge, ann
 ghost use Rattle.calendar.specs.View.{dateIn, clockIn, countedAs, namedAs};
 ghost use Rattle.session.specs.Image.{unitIn, keyIn};
 ghost use Rattle.changes.specs.Changes.{Placed};
-ghost use Rattle.pending.specs.Awaiting.{Ready, Pends, excerptAt};
+ghost use Rattle.pending.specs.Awaiting.{Prepared, Pends, excerptAt};
 ghost use Rattle.told.specs.Told.{ofCounted, ofNamed};
 ghost use Rattle.effects.specs.Effects.{registryLeft, capacitiesLeft, standingLeft, closingLeft, clearingLeft};
 ghost use Rattle.response.specs.Told.{availableIn, capacityIn, OpensAs, MetAs};
 use calendar::Clock;
 use calendar::Date;
+use effects::CapacitiesNoted;
 use effects::Closed;
 use effects::DayCleared;
 use effects::Lodged;
-use effects::Noted;
 use effects::Registered;
 use effects::of_capacity;
 use effects::of_registry;
@@ -113,7 +113,7 @@ pub fn available(s: Session, notice: Availability) -> Registered
 }
 
 // Takes a capacity notice: 2, 4, 5.
-pub fn capacity(s: Session, notice: Capacities) -> Noted
+pub fn capacity(s: Session, notice: Capacities) -> CapacitiesNoted
     ensures { λ r. ⌜ MetAs s (capacityIn notice) (capacitiesLeft s r) ⌝ }
 {
     let directions = notice.directions;
@@ -131,7 +131,7 @@ pub fn lodge(
     third: Energies,
     fourth: Energies,
 ) -> Lodged
-    requires { ⌜ Ready s p × (record { notice = notice; first = first; second = second; third = third; fourth = fourth } ≡ excerptAt s p) ⌝ }
+    requires { ⌜ Prepared s p × (record { notice = notice; first = first; second = second; third = third; fourth = fourth } ≡ excerptAt s p) ⌝ }
     ensures { λ r. ⌜ ((bytes : List ℕ) → Pends s bytes p → MetAs s (lodge bytes) (standingLeft s r)) × Placed (r .change) ⌝ }
 {
     let x = Excerpt {

@@ -15,7 +15,7 @@ use Rattle.rules.specs.Lists.{keep, sum, sumOf, from}
 use Rattle.rules.specs.Match.{Holder, Offer}
 use Rattle.rules.specs.Borders.{Execution, runs}
 use Rattle.rules.proofs.BoolLaws.{by-bool}
-use Rattle.arrays.proofs.PlaceLaws.{from-all, from-next, from-end, none-off, map-all}
+use Rattle.arrays.proofs.PlaceLaws.{from-all, map-all}
 use Rattle.matching.specs.declared.Offers.{Offers}
 use Rattle.matching.specs.View.{offerAt, offersOf}
 use Rattle.borders.specs.declared.Executions.{Executions}

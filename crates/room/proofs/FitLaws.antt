@@ -3,8 +3,6 @@ use Prim.Native.Nat.{ℕ, _+_, _*_, _≤_, _<_}
 use mathlib.Core.Path.{_≡_, subst}
 use mathlib.Core.Bool.{Bool, true, false, false≢true, true≢false}
 use mathlib.Core.List.{List}
-use native.Mathlib.Omega.{arith}
-use borrow.Author.Count.{below-more}
 use lib.ListN.{getD}
 use Rattle.ceilings.specs.Ceilings.{RowAt}
 use Rattle.room.specs.Room.{leftAt, Fits, holds, lacks, Admitted, taken, left}

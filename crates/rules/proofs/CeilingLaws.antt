@@ -1,15 +1,15 @@
 -- The ceiling is passed exactly when one of the limits is.
-use Prim.Native.Nat.{ℕ, suc, _<_, _≤_, min}
-use mathlib.Core.Path.{_≡_, refl, sym, _∙_, ap}
-use mathlib.Core.Bool.{Bool, true, false, cond, _||_, or-assoc}
-use mathlib.Core.List.{List, [], _∷_, map}
+use Prim.Native.Nat.{ℕ, min}
+use mathlib.Core.Path.{_≡_, refl, sym, _∙_}
+use mathlib.Core.Bool.{Bool, true, false, _||_, or-assoc}
+use mathlib.Core.List.{List, [], _∷_}
 use mathlib.Core.Option.{Option, some, none}
-use lib.Dec.{leb, ltb, eqb}
+use lib.Dec.{ltb}
 use native.Mathlib.Nat.{min-le-left, min-le-right, le-min}
 use native.Mathlib.Omega.{arith}
 use borrow.Author.Tests.{lt-ltb, le-ltb, ltb-true, ltb-false}
 use Rattle.rules.specs.Lists.{any}
-use Rattle.rules.specs.Units.{Registered, Limit, Capacities, availableAt, borderSum, maximumLimit, limits, passes, leastOf, ceiling}
+use Rattle.rules.specs.Units.{Registered, Capacities, availableAt, borderSum, maximumLimit, limits, passes, leastOf, ceiling}
 use Rattle.rules.proofs.BoolLaws.{by-bool}
 
 -- the lesser of two is passed exactly when one of them is

@@ -5,7 +5,7 @@ use mathlib.Core.List.{List, [], _∷_}
 use native.Mathlib.Omega.{arith}
 use Rattle.rules.specs.Match.{Offer}
 use Rattle.rules.specs.Borders.{Directed}
-use Rattle.rules.specs.Withdrawal.{Withdrawn, overruns, step, repeat}
+use Rattle.rules.specs.Withdrawal.{overruns, step, repeat}
 
 -- with no balance over its maximum it ends, whatever the bound
 pub repeat-ended : (bound : ℕ) (ms : List Directed) (os : List Offer) (made : ℕ) → overruns ms os ≡ [] → repeat bound ms os made ≡ record { offers = os; steps = made }

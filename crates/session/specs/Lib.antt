@@ -2,3 +2,4 @@ pub mod Laid
 pub mod Image
 pub mod Steps
 pub mod Parts
+pub mod Bare

@@ -58,6 +58,10 @@ placeOf p (x ∷ xs) = cond (p x) 0 (suc (placeOf p xs))
 abbrev pub numberIs : ℕ → Unit → Bool
 numberIs n u = eqb (u .number) n
 
+-- the place of a unit among the registered ones, or their number
+abbrev pub unitPlace : Session → ℕ → ℕ
+unitPlace s unit = placeOf (numberIs unit) (take (s .enrolled) (s .units))
+
 -- the unit of a number among the first n: its place, or behind the last, and what stands there
 pub record Holds (units : List Unit) (n number : ℕ) (h : Holder) : Type 0 where
   pub place : h .at ≡ placeOf (numberIs number) (take n units)

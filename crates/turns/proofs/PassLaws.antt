@@ -4,7 +4,7 @@ use mathlib.Core.Path.{_≡_, refl, sym, ap, _∙_}
 use mathlib.Core.Bool.{Bool, true, false}
 use mathlib.Core.List.{List}
 use native.Mathlib.Omega.{arith}
-use lib.ListN.{length, getD, set, take, length-map}
+use lib.ListN.{length, getD, set, length-map}
 use Rattle.rules.specs.Book.{Book}
 use Rattle.session.specs.Image.{image, Sound, unitOf, noLodgement}
 use Rattle.session.specs.Parts.{Within}

@@ -1,12 +1,12 @@
 -- The room under the ceilings, as verdicts are given.
-use Prim.Native.Nat.{ℕ, zero, suc, _+_, _-_, _*_, _≤_, _<_}
+use Prim.Native.Nat.{ℕ, suc, _+_, _-_, _*_, _≤_, _<_}
 use mathlib.Core.Path.{_≡_, refl, sym, ap, subst, _∙_}
-use mathlib.Core.Bool.{Bool, true, false, false≢true, not, _&&_}
+use mathlib.Core.Bool.{Bool, true, false, not}
 use mathlib.Core.List.{List, [], _∷_, map}
 use mathlib.Core.Logic.{⊎-elim}
 use native.Mathlib.Nat.{eq-or-lt-of-le}
 use native.Mathlib.Omega.{arith}
-use lib.Dec.{eqb, ltb, leb}
+use lib.Dec.{eqb, ltb}
 use lib.ListN.{length, getD, set, take, replicate, length-map, length-set, length-replicate, getD-replicate}
 use lib.Seq.{ext-getD, getD-take, getD-set-same, getD-set-other, length-take-le}
 use borrow.Author.Tests.{eqb-true, eqb-false, eq-eqb, ltb-true, ltb-false, le-ltb, lt-leb}
@@ -16,29 +16,29 @@ use Rattle.rules.specs.Book.{Book}
 use Rattle.rules.specs.Demands.{turnOf}
 use Rattle.rules.proofs.BoolLaws.{by-bool, both}
 use Rattle.rules.proofs.ListLaws.{hourly-suc}
-use Rattle.session.specs.Image.{image, Sound, noUnit, noVerdict, noLodgement, verdictAs}
-use Rattle.session.specs.Parts.{Within, numberIs, placeOf}
+use Rattle.session.specs.Bare.{bareNotice, bareEnergies}
+use Rattle.session.specs.Image.{image, Sound, noUnit, noVerdict, noLodgement}
+use Rattle.session.specs.Parts.{Within, numberIs, placeOf, unitPlace}
 use Rattle.session.specs.declared.Lodgement.{Lodgement}
 use Rattle.session.specs.declared.Unit.{Unit}
-use Rattle.session.specs.declared.Notice.{Notice}
 use Rattle.session.specs.declared.Energies.{Energies}
 use Rattle.session.specs.declared.Verdict.{Verdict}
 use Rattle.session.specs.declared.Judged.{Judged}
-use Rattle.session.specs.declared.Judged.the-variants.{No, Clear}
+use Rattle.session.specs.declared.Judged.the-variants.{Clear}
 use Rattle.session.specs.declared.Session.{Session}
-use Rattle.loads.specs.Loads.{marked, energyIn, loadIn, bareEnergies}
+use Rattle.loads.specs.Loads.{marked, energyIn, loadIn}
 use Rattle.loads.proofs.LoadLaws.{and-false}
 use Rattle.loads.proofs.MarkLaws.{sum-mark, marked-nothing}
 use Rattle.limits.specs.Limits.{judgedIn}
-use Rattle.ceilings.specs.Ceilings.{ceilingAt, bareNotice, RowAt}
+use Rattle.ceilings.specs.Ceilings.{ceilingAt, RowAt}
 use Rattle.ceilings.proofs.JudgedLaws.{Refuses, refuses, judged-under, judged-over}
 use Rattle.room.specs.Room.{leftAt, Fits, lacks}
 use Rattle.room.proofs.FitLaws.{held}
-use Rattle.validation.specs.Turns.{standingAt, verdictAt, isTaken, hasPassed, verdictSoFar, Reached, Loaded, JudgesAt, countsOn, countsAt, verdictBy}
+use Rattle.validation.specs.Turns.{standingAt, isTaken, hasPassed, verdictSoFar, Reached, Loaded, JudgesAt, countsOn, countsAt, verdictBy}
 use Rattle.validation.proofs.CountLaws.{length-from, places-at}
 use Rattle.validation.proofs.StandingLaws.{loaded-at}
 use Rattle.validation.proofs.JudgeLaws.{unit-placed, judge-given}
-use Rattle.turns.specs.Passes.{usedIn, placeIn, Kept}
+use Rattle.turns.specs.Passes.{usedIn, Kept}
 
 -- Marks of what is accepted on a unit
 
@@ -132,38 +132,38 @@ module _ (s : Session) (vs : List Verdict) (room after loads : List ℕ) (i : �
   abbrev unitHere : ℕ
   unitHere = getD (s .lodgements) i noLodgement .key .unit
 
-  module _ (f : (x : ℕ) → x < s .hours → getD loads (i * 25 + x) 0 ≤ getD room (placeIn s unitHere * 25 + x) 0) (r : RowAt (placeIn s unitHere) (leftAt room (placeIn s unitHere) loads i) (s .hours) room after) where
+  module _ (f : (x : ℕ) → x < s .hours → getD loads (i * 25 + x) 0 ≤ getD room (unitPlace s unitHere * 25 + x) 0) (r : RowAt (unitPlace s unitHere) (leftAt room (unitPlace s unitHere) loads i) (s .hours) room after) where
     -- on its own unit
-    left-here : (x : ℕ) → x < s .hours → placeIn s unitHere < s .enrolled
-        → getD after (placeIn s unitHere * 25 + x) 0 + usedIn s (set vs i v) unitHere (suc x) ≡ ceilingAt (s .units) (s .notices) (s .capacities) (placeIn s unitHere) x
+    left-here : (x : ℕ) → x < s .hours → unitPlace s unitHere < s .enrolled
+        → getD after (unitPlace s unitHere * 25 + x) 0 + usedIn s (set vs i v) unitHere (suc x) ≡ ceilingAt (s .units) (s .notices) (s .capacities) (unitPlace s unitHere) x
     unfolding countsOn leftAt
     left-here x m p =
         let used = used-more s vs i v h blank (w .standing) (lent .room) in-list unitHere x (rw (yes, eq-eqb unitHere unitHere refl)) in
         omega (arith, r .here x m, used, loaded-at s loads i x in-list (w .standing) lent (omega (arith, w .hours)), f x m, k .left unitHere x p m)
 
     -- on another
-    row-other : (p x : ℕ) → (p ≡ placeIn s unitHere → ⊥) → x < s .hours → getD after (p * 25 + x) 0 ≡ getD room (p * 25 + x) 0
+    row-other : (p x : ℕ) → (p ≡ unitPlace s unitHere → ⊥) → x < s .hours → getD after (p * 25 + x) 0 ≡ getD room (p * 25 + x) 0
     row-other p x n m =
-        by-bool (ltb p (placeIn s unitHere)) (λ t. r .below (p * 25 + x) (front (ltb-true p (placeIn s unitHere) t))) (λ t. r .above (p * 25 + x) (behind (ltb-false p (placeIn s unitHere) t)))
+        by-bool (ltb p (unitPlace s unitHere)) (λ t. r .below (p * 25 + x) (front (ltb-true p (unitPlace s unitHere) t))) (λ t. r .above (p * 25 + x) (behind (ltb-false p (unitPlace s unitHere) t)))
       where
-        front : p < placeIn s unitHere → p * 25 + x < placeIn s unitHere * 25
+        front : p < unitPlace s unitHere → p * 25 + x < unitPlace s unitHere * 25
         front l = omega (arith, w .hours)
 
-        behind : placeIn s unitHere ≤ p → placeIn s unitHere * 25 + s .hours ≤ p * 25 + x
-        behind l = ⊎-elim (λ q. absurd (n (sym q))) (λ (q : placeIn s unitHere < p). omega (arith, w .hours)) (eq-or-lt-of-le l)
+        behind : unitPlace s unitHere ≤ p → unitPlace s unitHere * 25 + s .hours ≤ p * 25 + x
+        behind l = ⊎-elim (λ q. absurd (n (sym q))) (λ (q : unitPlace s unitHere < p). omega (arith, w .hours)) (eq-or-lt-of-le l)
 
-    module _ (full : length (take (s .enrolled) (s .units)) ≡ s .enrolled) (q : placeIn s unitHere < s .enrolled) where
-      left-other : (unit x : ℕ) → eqb unitHere unit ≡ false → placeIn s unit < s .enrolled → x < s .hours
-          → getD after (placeIn s unit * 25 + x) 0 + usedIn s (set vs i v) unit (suc x) ≡ ceilingAt (s .units) (s .notices) (s .capacities) (placeIn s unit) x
+    module _ (full : length (take (s .enrolled) (s .units)) ≡ s .enrolled) (q : unitPlace s unitHere < s .enrolled) where
+      left-other : (unit x : ℕ) → eqb unitHere unit ≡ false → unitPlace s unit < s .enrolled → x < s .hours
+          → getD after (unitPlace s unit * 25 + x) 0 + usedIn s (set vs i v) unit (suc x) ≡ ceilingAt (s .units) (s .notices) (s .capacities) (unitPlace s unit) x
       unfolding countsOn
       left-other unit x e p m =
-          let other : placeIn s unit ≡ placeIn s unitHere → ⊥ = λ z. eqb-false unitHere unit e (sym (places-differ (take (s .enrolled) (s .units)) unitHere unit (omega arith) z)) in
-          rw (row-other (placeIn s unit) x other m, used-same s vs i v h blank unit (suc x) (rw (yes, e))) (k .left unit x p m)
+          let other : unitPlace s unit ≡ unitPlace s unitHere → ⊥ = λ z. eqb-false unitHere unit e (sym (places-differ (take (s .enrolled) (s .units)) unitHere unit (omega arith) z)) in
+          rw (row-other (unitPlace s unit) x other m, used-same s vs i v h blank unit (suc x) (rw (yes, e))) (k .left unit x p m)
 
       pub kept-accepted : Kept s (set vs i v) after
       kept-accepted = record {
         left = λ unit x p m. by-bool (eqb unitHere unit)
-            (λ t. subst (λ u. placeIn s u < s .enrolled → getD after (placeIn s u * 25 + x) 0 + usedIn s (set vs i v) u (suc x) ≡ ceilingAt (s .units) (s .notices) (s .capacities) (placeIn s u) x) (eqb-true unitHere unit t) (left-here x m) p)
+            (λ t. subst (λ u. unitPlace s u < s .enrolled → getD after (unitPlace s u * 25 + x) 0 + usedIn s (set vs i v) u (suc x) ≡ ceilingAt (s .units) (s .notices) (s .capacities) (unitPlace s u) x) (eqb-true unitHere unit t) (left-here x m) p)
             (λ t. left-other unit x t p m);
       }
 
@@ -179,7 +179,7 @@ pub kept-start : (s : Session) (none : Verdict) (room : List ℕ) → Within s �
     → ((p h : ℕ) → p < s .enrolled → h < 25 → getD room (p * 25 + h) 0 ≡ ceilingAt (s .units) (s .notices) (s .capacities) p h) → Kept s (replicate 128 none) room
 unfolding usedIn sumOf sum
 kept-start s none room w e f = record {
-  left = λ unit x p m. rw (e, marks-none (s .lodgements) unit, marked-nothing 128 (take (s .standing) (s .energies))) (omega (arith, f (placeIn s unit) x p (omega (arith, w .hours))));
+  left = λ unit x p m. rw (e, marks-none (s .lodgements) unit, marked-nothing 128 (take (s .standing) (s .energies))) (omega (arith, f (unitPlace s unit) x p (omega (arith, w .hours))));
 }
 
 -- a place that is taken has no verdict yet
@@ -206,38 +206,38 @@ module _ (s : Session) (vs : List Verdict) (room loads : List ℕ) (i : ℕ) (h 
   load = loadIn own (marks (s .lodgements) holder vs) (take (s .standing) (s .energies))
 
   abbrev judged : Judged
-  judged = judgedIn (getD (s .units) (placeIn s holder) noUnit) (getD (s .notices) (placeIn s holder) bareNotice) (s .capacities) false (s .hours) own load
+  judged = judgedIn (getD (s .units) (unitPlace s holder) noUnit) (getD (s .notices) (unitPlace s holder) bareNotice) (s .capacities) false (s .hours) own load
 
   load-is : (x : ℕ) → load (suc x) ≡ getD own x 0 + usedIn s vs holder (suc x)
   unfolding loadIn usedIn
   load-is x = ap (λ n. n + sumOf (energyIn (suc x)) (marked (marks (s .lodgements) holder vs) (take (s .standing) (s .energies)))) (hourly-suc own x)
 
-  module _ (q : placeIn s holder < s .enrolled) where
-    judged-fits : ((x : ℕ) → x < s .hours → getD loads (i * 25 + x) 0 ≤ getD room (placeIn s holder * 25 + x) 0) → judged ≡ Clear
+  module _ (q : unitPlace s holder < s .enrolled) where
+    judged-fits : ((x : ℕ) → x < s .hours → getD loads (i * 25 + x) 0 ≤ getD room (unitPlace s holder * 25 + x) 0) → judged ≡ Clear
     unfolding ceilingAt
     judged-fits f =
-        judged-under (getD (s .units) (placeIn s holder) noUnit) (getD (s .notices) (placeIn s holder) bareNotice) (s .capacities) (s .hours) own load
+        judged-under (getD (s .units) (unitPlace s holder) noUnit) (getD (s .notices) (unitPlace s holder) bareNotice) (s .capacities) (s .hours) own load
         (λ x a b. let e : suc (x - 1) ≡ x = omega arith in rw e at (under (x - 1) (omega arith)))
       where
-        under : (x : ℕ) → x < s .hours → load (suc x) ≤ ceilingAt (s .units) (s .notices) (s .capacities) (placeIn s holder) x
+        under : (x : ℕ) → x < s .hours → load (suc x) ≤ ceilingAt (s .units) (s .notices) (s .capacities) (unitPlace s holder) x
         under x m = omega (arith, load-is x, loaded-at s loads i x h (w .standing) lent (omega (arith, w .hours)), f x m, k .left holder x q m)
 
-    judged-lacks : (x : ℕ) → x < s .hours → getD room (placeIn s holder * 25 + x) 0 < getD loads (i * 25 + x) 0 → Refuses judged
+    judged-lacks : (x : ℕ) → x < s .hours → getD room (unitPlace s holder * 25 + x) 0 < getD loads (i * 25 + x) 0 → Refuses judged
     unfolding ceilingAt
     judged-lacks x m l =
         let own-is = loaded-at s loads i x h (w .standing) lent (omega (arith, w .hours)) in
-        judged-over (getD (s .units) (placeIn s holder) noUnit) (getD (s .notices) (placeIn s holder) bareNotice) (s .capacities) (s .hours) own load (suc x) (omega arith) m
+        judged-over (getD (s .units) (unitPlace s holder) noUnit) (getD (s .notices) (unitPlace s holder) bareNotice) (s .capacities) (s .hours) own load (suc x) (omega arith) m
         (λ z. absurd (omega (arith, hourly-suc own x))) (omega (arith, load-is x, k .left holder x q m))
 
   -- what the room holds is accepted
-  pub admitted : (v : Verdict) → v ≡ verdictBy Clear → Fits room (placeIn s holder) loads i (s .hours) true → JudgesAt s vs i v
+  pub admitted : (v : Verdict) → v ≡ verdictBy Clear → Fits room (unitPlace s holder) loads i (s .hours) true → JudgesAt s vs i v
   admitted v e f b turn sound x r t =
       let q = unit-placed s vs i h noLodgement b sound x in
-      judge-given s vs i h noLodgement (placeIn s holder) refl bareEnergies noUnit bareNotice (marks (s .lodgements) holder vs) Clear v q refl (sym (judged-fits q (held room (placeIn s holder) loads i f refl))) e b turn sound x r t
+      judge-given s vs i h noLodgement (unitPlace s holder) refl bareEnergies noUnit bareNotice (marks (s .lodgements) holder vs) Clear v q refl (sym (judged-fits q (held room (unitPlace s holder) loads i f refl))) e b turn sound x r t
 
   -- and another is not
-  pub refused : (v : Verdict) (b : Book) (turn : ℕ) → JudgesAt s vs i v → Fits room (placeIn s holder) loads i (s .hours) false → Sound b → s ≡ image b → Reached b turn (i + 1) vs → isTaken b turn i ≡ true → v .accepted ≡ false
+  pub refused : (v : Verdict) (b : Book) (turn : ℕ) → JudgesAt s vs i v → Fits room (unitPlace s holder) loads i (s .hours) false → Sound b → s ≡ image b → Reached b turn (i + 1) vs → isTaken b turn i ≡ true → v .accepted ≡ false
   refused v b turn g (lacks y m l) sound x r t =
       let q = unit-placed s vs i h noLodgement b sound x in
-      let z = judge-given s vs i h noLodgement (placeIn s holder) refl bareEnergies noUnit bareNotice (marks (s .lodgements) holder vs) judged (verdictBy judged) q refl refl refl b turn sound x r t in
+      let z = judge-given s vs i h noLodgement (unitPlace s holder) refl bareEnergies noUnit bareNotice (marks (s .lodgements) holder vs) judged (verdictBy judged) q refl refl refl b turn sound x r t in
       ap (λ (d : Verdict). d .accepted) (g b turn sound x r t ∙ sym z) ∙ refused-verdict (judged-lacks q y m l)

@@ -7,7 +7,7 @@ use lib.ListN.{getD, take}
 use Rattle.rules.specs.Lists.{from, sumOf}
 use Rattle.rules.specs.Book.{Book}
 use Rattle.session.specs.Image.{image, Sound}
-use Rattle.session.specs.Parts.{numberIs, placeOf}
+use Rattle.session.specs.Parts.{unitPlace}
 use Rattle.session.specs.declared.Key.{Key}
 use Rattle.session.specs.declared.Verdict.{Verdict}
 use Rattle.session.specs.declared.Session.{Session}
@@ -33,13 +33,10 @@ pub record Held (s : Session) (holders : List ℕ) : Type 0 where
 unfoldable pub usedIn : Session → List Verdict → ℕ → ℕ → ℕ
 usedIn s vs unit h = sumOf (energyIn h) (marked (map (countsAt unit vs (s .lodgements)) (from 0 128)) (take (s .standing) (s .energies)))
 
-abbrev pub placeIn : Session → ℕ → ℕ
-placeIn s unit = placeOf (numberIs unit) (take (s .enrolled) (s .units))
-
 -- the room with what is accepted is the ceiling, of each unit in each hour
 pub record Kept (s : Session) (vs : List Verdict) (room : List ℕ) : Type 0 where
-  pub left : (unit h : ℕ) → placeIn s unit < s .enrolled → h < s .hours
-      → getD room (placeIn s unit * 25 + h) 0 + usedIn s vs unit (suc h) ≡ ceilingAt (s .units) (s .notices) (s .capacities) (placeIn s unit) h
+  pub left : (unit h : ℕ) → unitPlace s unit < s .enrolled → h < s .hours
+      → getD room (unitPlace s unit * 25 + h) 0 + usedIn s vs unit (suc h) ≡ ceilingAt (s .units) (s .notices) (s .capacities) (unitPlace s unit) h
 
 -- a closing that stands at place i of a turn: its verdicts and the room that they leave
 pub record Along (s : Session) (b : Book) (turn i : ℕ) (vs : List Verdict) (room : List ℕ) : Type 0 where

@@ -7,7 +7,7 @@ use mathlib.Core.Option.{Option, some, none}
 use native.Mathlib.Omega.{arith}
 use lib.Dec.{eqb}
 use lib.ListN.{length, getD, take, length-map, length-take}
-use lib.Seq.{ext-getD, getD-take, length-take-le}
+use lib.Seq.{ext-getD, getD-take}
 use borrow.Author.Tests.{eqb-true, not-true}
 use Rattle.rules.specs.Lists.{keep, any, sumOf, from, hourly}
 use Rattle.rules.specs.Refusals.{Row, firstRow}
@@ -19,6 +19,7 @@ use Rattle.rules.specs.Demands.{turnOf, takenBefore, verdictOf, acceptedBefore,
 use Rattle.rules.proofs.BoolLaws.{both}
 use Rattle.rules.proofs.ListLaws.{all-at, keep-keep}
 use Rattle.rules.proofs.ClosingLaws.{verdict-with}
+use Rattle.session.specs.Bare.{bareEnergies}
 use Rattle.session.specs.Image.{image, Sound, unitAs, noticeAs, verdictAs, noLodgement}
 use Rattle.session.specs.Parts.{Within, told, numberIs, placeOf}
 use Rattle.session.specs.declared.Session.{Session}
@@ -30,11 +31,11 @@ use Rattle.session.specs.declared.Verdict.{Verdict}
 use Rattle.session.specs.declared.Judged.{Judged}
 use Rattle.session.proofs.ImageLaws.{standing-as, hours-as, capacities-as, energies-as, registered-as, unit-as, notice-as}
 use Rattle.session.proofs.PlaceLaws.{placed, getD-map}
-use Rattle.loads.specs.Loads.{marked, energyIn, loadIn, bareEnergies, LoadsOf, loadBy}
+use Rattle.loads.specs.Loads.{marked, energyIn, loadIn, loadBy}
 use Rattle.limits.specs.Limits.{judgedIn}
 use Rattle.limits.proofs.NoticeLaws.{judged-as}
 use Rattle.loads.proofs.MarkLaws.{load-keep}
-use Rattle.limits.proofs.PlaceLaws.{loads-all, judged-places, judged-same}
+use Rattle.limits.proofs.PlaceLaws.{judged-places, judged-same}
 use Rattle.validation.specs.Turns.{beyond, standingAt, verdictAt, isTaken, verdictSoFar, Reached, Loaded, JudgesAt, countsOn, countsAt, verdictBy}
 use Rattle.validation.proofs.CountLaws.{length-from, places-at, counted-as}
 use Rattle.validation.proofs.TurnLaws.{passed-before, verdict-at}
@@ -148,13 +149,10 @@ module _ (s : Session) (vs : List Verdict) (i : ℕ) (h : i < s .standing) (dl :
     judge-lent du dn own ms loads ps j v k w eo lent em ep ej ev =
         judge-given bareEnergies du dn ms j v k em
         (ej
-        ∙ judged-places (getD (s .units) p du) (getD (s .notices) p dn) (s .capacities) false (s .hours) own loads ps ms (s .standing) (s .energies) (w .hours) (lent .room) counted ep
+        ∙ judged-places (getD (s .units) p du) (getD (s .notices) p dn) (s .capacities) false (s .hours) own loads ps ms (s .standing) (s .energies) (w .hours) (lent .room) (lent .energies) ep
         ∙ judged-same (getD (s .units) p du) (getD (s .notices) p dn) (s .capacities) false (s .hours) own here (loadIn own ms (take (s .standing) (s .energies))) (loadIn here ms (take (s .standing) (s .energies))) same (λ x a b. load-same x (same x a b)))
         ev
       where
-        counted : LoadsOf ms (take (s .standing) (s .energies)) loads
-        counted = loads-all 128 ms (take (s .standing) (s .energies)) loads (omega (arith, length-take-le (s .standing) (s .energies) (lent .room), w .standing)) (lent .energies)
-
         here : List ℕ
         here = getD (s .energies) i bareEnergies .energies
 

@@ -1,19 +1,19 @@
 -- What the session's arrays show of a standing lodgement and its unit.
 use Prim.Native.Nat.{ℕ, _+_, _*_, _≤_, _<_}
 use mathlib.Core.Path.{_≡_, sym, ap, _∙_}
-use mathlib.Core.Bool.{true, false}
 use mathlib.Core.List.{List}
 use native.Mathlib.Omega.{arith}
-use lib.ListN.{length, getD, getD-replicate}
+use lib.ListN.{length, getD}
 use lib.Seq.{getD-take, length-take-le}
 use Rattle.rules.specs.Book.{Book}
+use Rattle.session.specs.Bare.{bareEnergies}
 use Rattle.session.specs.Image.{image, lodgementAs, energiesAs}
 use Rattle.session.specs.declared.Lodgement.{Lodgement}
 use Rattle.session.specs.declared.Energies.{Energies}
 use Rattle.session.specs.declared.Session.{Session}
 use Rattle.session.proofs.ImageLaws.{standing-as, lodgements-as, energies-as}
 use Rattle.session.proofs.PlaceLaws.{getD-map}
-use Rattle.loads.specs.Loads.{bareEnergies, LoadsOf}
+use Rattle.loads.specs.Loads.{RowAt, LoadsOf}
 use Rattle.validation.specs.Turns.{beyond, standingAt, Loaded}
 
 module _ (s : Session) (b : Book) (e : s ≡ image b) (i : ℕ) (h : i < s .standing) where
@@ -32,7 +32,7 @@ module _ (s : Session) (b : Book) (e : s ≡ image b) (i : ℕ) (h : i < s .stan
 
 -- the energies that are lent
 pub loaded-at : (s : Session) (loads : List ℕ) (i x : ℕ) → i < s .standing → s .standing ≤ 128 → Loaded s loads → x < 25 → getD loads (i * 25 + x) 0 ≡ getD (getD (s .energies) i bareEnergies .energies) x 0
-unfolding LoadsOf
+unfolding LoadsOf RowAt
 loaded-at s loads i x h w lent k =
-    lent .energies i x (omega (arith, length-take-le (s .standing) (s .energies) (lent .room))) (getD-replicate 128 i true false (omega arith)) k
+    lent .energies i (omega (arith, length-take-le (s .standing) (s .energies) (lent .room))) x k
     ∙ ap (λ (e : Energies). getD (e .energies) x 0) (getD-take (s .standing) (s .energies) i bareEnergies h)

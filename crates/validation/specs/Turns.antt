@@ -4,7 +4,7 @@ use mathlib.Core.Path.{_≡_}
 use mathlib.Core.Bool.{Bool, true, false, cond, not, _&&_, _||_}
 use mathlib.Core.List.{List, []}
 use lib.Dec.{ltb, leb, eqb}
-use lib.ListN.{length, getD, take, replicate}
+use lib.ListN.{length, getD, take}
 use Rattle.rules.specs.Lodging as L
 use Rattle.rules.specs.Book.{Book}
 use Rattle.rules.specs.Closing as C
@@ -51,7 +51,7 @@ pub record Reached (b : Book) (turn i : ℕ) (vs : List Verdict) : Type 0 where
 -- the array has the energies of every standing lodgement
 pub record Loaded (s : Session) (loads : List ℕ) : Type 0 where
   pub room : s .standing ≤ length (s .energies)
-  pub energies : LoadsOf (replicate 128 true) (take (s .standing) (s .energies)) loads
+  pub energies : LoadsOf (take (s .standing) (s .energies)) loads
 
 -- What judging a lodgement promises
 

@@ -18,6 +18,7 @@ use Rattle.rules.specs.Queries as Q
 use Rattle.rules.specs.Queries.{judged, isStanding}
 use Rattle.rules.proofs.BoolLaws.{by-bool, of-not}
 use Rattle.rules.proofs.ListLaws.{first-passes}
+use Rattle.session.specs.Bare.{bareVerdict}
 use Rattle.session.specs.Laid.{pad}
 use Rattle.session.specs.Image.{image, verdictsIn, verdictAs, noVerdict, lodgementAs}
 use Rattle.session.specs.Parts.{placeOf}
@@ -26,7 +27,7 @@ use Rattle.session.specs.declared.Verdict.{Verdict}
 use Rattle.session.proofs.PlaceLaws.{placed, unplaced, place-first, place-map, getD-map}
 use Rattle.session.proofs.ImageLaws.{closed-as, standing-as, lodgements-as}
 use Rattle.queries.specs.Replies.{replyIn, Answered}
-use Rattle.verdicts.specs.Parts.{lodged, toldAs, bareVerdict, verdictPlace, verdictAt}
+use Rattle.verdicts.specs.Parts.{lodged, toldAs, verdictPlace, verdictAt}
 use Rattle.queries.specs.declared.Reply.{Reply}
 use Rattle.queries.specs.declared.Reply.the-variants.{Refused}
 use Rattle.queries.proofs.FigureLaws.{pad-at}

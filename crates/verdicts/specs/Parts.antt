@@ -1,19 +1,16 @@
 -- What the parts of a verdict's query promise to each other.
 use Prim.Native.Nat.{ℕ}
-use mathlib.Core.Bool.{Bool, false, cond}
+use mathlib.Core.Bool.{Bool, cond}
 use mathlib.Core.Path.{_≡_}
 use lib.Dec.{eqb, ltb}
 use lib.ListN.{getD, take}
+use Rattle.session.specs.Bare.{bareVerdict}
 use Rattle.session.specs.Parts.{Within, placeOf}
 use Rattle.session.specs.declared.Session.{Session}
 use Rattle.session.specs.declared.Lodgement.{Lodgement}
 use Rattle.session.specs.declared.Verdict.{Verdict}
 use Rattle.queries.specs.declared.Reply.{Reply}
 use Rattle.queries.specs.declared.Reply.the-variants.{Accepted, Hidden, Limit}
-
--- what is read beyond the lodgements' places
-abbrev pub bareVerdict : Verdict
-bareVerdict = record { accepted = false; limit = 0; hour = 0 }
 
 -- whether a lodgement has a number
 abbrev pub lodged : ℕ → Lodgement → Bool

@@ -6,12 +6,12 @@ use mathlib.Core.List.{List, [], _∷_, map}
 use native.Mathlib.Nat.{le-trans}
 use native.Mathlib.Omega.{arith}
 use lib.Dec.{ltb}
-use lib.ListN.{getD, length}
+use lib.ListN.{getD}
 use borrow.Author.Tests.{ltb-true, ltb-false}
 use Rattle.rules.specs.Match.{Offer, volume}
 use Rattle.rules.specs.Borders.{Directed}
 use Rattle.rules.specs.Lists.{from, sum, sumOf}
-use Rattle.rules.specs.Withdrawal.{Withdrawn, overruns, step, repeat, stepBound, withdraw}
+use Rattle.rules.specs.Withdrawal.{overruns, step, repeat, stepBound, withdraw}
 use Rattle.rules.proofs.BoolLaws.{by-bool}
 use Rattle.rules.proofs.RepeatLaws.{repeat-ended, repeat-step, repeat-out}
 use Rattle.matching.specs.declared.Offers.{Offers}
@@ -23,7 +23,6 @@ use Rattle.borders.specs.Flows.{BorderFlows}
 use Rattle.borders.specs.Limits.{nonEmpty}
 use Rattle.overrun.specs.Lent.{Lent}
 use Rattle.withdrawal.specs.Steps.{Stepped}
-use Rattle.withdrawal.specs.declared.Ended.{Ended}
 use Rattle.withdrawal.specs.Turns.{Energies, Turning, Withdrew}
 
 -- energies stay in their range

@@ -6,7 +6,7 @@ use mathlib.Core.List.{List}
 use lib.ListN.{getD, length}
 use Rattle.rules.specs.Units.{maxEnergy}
 use Rattle.rules.specs.Match.{volume}
-use Rattle.rules.specs.Withdrawal.{Withdrawn, repeat, withdraw}
+use Rattle.rules.specs.Withdrawal.{repeat, withdraw}
 use Rattle.matching.specs.declared.Offers.{Offers}
 use Rattle.matching.specs.View.{offersOf}
 use Rattle.borders.specs.Ways.{publishedIn}

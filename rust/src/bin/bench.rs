@@ -203,6 +203,7 @@ fn main() {
     let contract = fields(execution(40, 9), 25, |hour| (30 + hour, 0));
     let beside_bytes = message(&fields(offer(40), 2, |hour| (100 + hour, 4000)));
     let replaced_bytes = message(&fields(execution(40, 2), 25, |hour| (30 + hour, 0)));
+    let crowded_bytes = message(&Fields::of(offer(64)).with(1, 1, 4000));
     let (two_bytes, all_bytes, contract_bytes) = (message(&two), message(&all), message(&contract));
     let key = execution(64, 2);
     let notice = (1..=4).fold(Capacities::none(), |notice, line| {
@@ -284,6 +285,9 @@ fn main() {
         .unwrap());
     change!("lodge, full: an execution, an offer beside", 300, 50, quiet.lodged, |exchange, index| exchange
         .lodge(&replaced_bytes)
+        .unwrap());
+    change!("lodge: an offer, 64 executions beside", 300, 50, hard.lodged, |exchange, index| exchange
+        .lodge(&crowded_bytes)
         .unwrap());
     change!("lodge, full: refused as full", 300, 50, quiet.lodged, |exchange, index| exchange
         .lodge(&contract_bytes)

@@ -29,22 +29,18 @@ slice-aggregate-judge-energy-2 : tie.Need-slice-aggregate-judge-energy-2
 slice-aggregate-judge-energy-2 c = search needs
 
 judge-energy-requires : tie.Need-judge-energy-requires
-judge-energy-requires c κs =
-    let a = c .before .before .before .before .before .before .before .before .before .before .before .args in
-    let asked = c .before .before .before .before .before .before .before .before .before .before .before .pre in
-    let q = rows-asked (a .beside .count) (a .s .hours) (asked .3) (asked .0 .hours) in
-    (q .0, q .1, q .2, λ l i. (q .3 l i .0, omega (arith, q .3 l i .1)))
+judge-energy-requires c κs = rows-asked (c .before .before .before .before .before .before .before .before .before .before .before .before .args .p .beside .count) (c .before .before .before .before .before .before .before .before .before .before .before .before .args .s .hours) (c .before .before .before .before .rows-of .result) (c .before .before .before .before .before .before .before .before .before .before .before .before .pre .2) (c .before .before .before .before .before .before .before .before .before .before .before .before .pre .0 .within .hours) (omega arith)
 
 returns : tie.Need-returns
 returns c =
-    let a = c .before .before .before .before .before .before .before .before .before .before .before .before .args in
-    let asked = c .before .before .before .before .before .before .before .before .before .before .before .before .pre in
-    let s = a .s in
-    let beside = a .beside in
-    let long = sym (length-map (s .energies) _) ∙ c .before .before .before .before .before .before .before .before .before .before .before .before .good .0 .1 .1 .1 .1 .1 .1 .1 .1 .1 .1 .0 .1 .0 .1 in
+    let asked = c .before .before .before .before .before .before .before .before .before .before .before .before .before .pre in
+    let s = c .before .before .before .before .before .before .before .before .before .before .before .before .before .args .s in
+    let beside = c .before .before .before .before .before .before .before .before .before .before .before .before .before .args .p .beside in
+    let places = asked .0 .beside in
+    let long = sym (length-map (s .energies) _) ∙ c .before .before .before .before .before .before .before .before .before .before .before .before .before .good .0 .1 .1 .1 .1 .1 .1 .1 .1 .1 .1 .0 .1 .0 .1 in
     c .judge-energy .ensures
-    ∙ judged-rows _ _ _ _ (s .hours) _ _ (beside .count) (beside .at) _ (s .standing) (s .energies) (asked .0 .hours) (omega (arith, asked .0 .standing, long)) (asked .3) (omega (arith, asked .3, asked .1 .2)) (asked .1 .1)
-    (rows-in s beside (a .x) _ (asked .3) (asked .2) (c .before .before .before .before .rows-of .ensures))
+    ∙ judged-rows _ _ _ _ (s .hours) _ _ (beside .count) (beside .at) _ (s .standing) (s .energies) (asked .0 .within .hours) (omega (arith, asked .0 .within .standing, long)) (asked .2) (omega (arith, asked .2, places .long)) (places .places)
+    (rows-in s beside (c .before .before .before .before .before .before .before .before .before .before .before .before .before .args .x) _ (asked .2) (asked .1) (c .before .before .before .before .before .rows-of .ensures))
 
 pub judge-few-spec : {M : Type 1} → statement M
 judge-few-spec =

@@ -7,8 +7,6 @@ use Rattle.arrays.proofs.PlaceLaws.{total-next, total-end}
 use borrow.Author.Needs.{needs}
 use Rattle.arrays.proofs.total.Statement.{statement}
 use Rattle.arrays.proofs.total.Tie as tie
-use Rattle.arrays.proofs.total.Reads as reads
-use Rattle.arrays.proofs.total.Lts as lts
 
 abbrev Inv-loop : tie.InvT-loop
 Inv-loop a n s₀ i₀ s i = (i ≤ n) × (s ≤ 99999 * i) × (s + sum (vals a i n) ≡ sum (vals a 0 n))

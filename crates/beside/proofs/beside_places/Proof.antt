@@ -21,7 +21,7 @@ abbrev μ-loop : tie.MeasureT-loop
 μ-loop n key lodgements at₀ count₀ i₀ at count i = n - i
 
 returns : tie.Need-returns Inv-loop μ-loop
-returns c = (omega arith, none-noted (c .before .args .key) (c .before .args .t1) (c .before .args .n) (c .if1 .taken), refl, λ l i. absurd (omega arith))
+returns c = record { most = omega arith; places = none-noted (c .before .args .key) (c .before .args .t1) (c .before .args .n) (c .if1 .taken); long = refl; below = λ l i. absurd (omega arith) }
 
 loop-holds : tie.Need-loop-holds Inv-loop μ-loop
 loop-holds c = (omega arith, omega arith, refl, place-start _, λ j k. absurd (omega arith))
@@ -79,7 +79,7 @@ returns-2 : tie.Need-returns-2 Inv-loop μ-loop
 returns-2 c =
     let s = c .before .loop in
     let e : s .i ≡ c .before .before .before .args .n = omega arith in
-    (omega arith, rw e at (s .inv .3), s .inv .2, s .inv .4)
+    record { most = omega arith; places = rw e at (s .inv .3); long = s .inv .2; below = s .inv .4 }
 
 pub beside-places-spec : {M : Type 1} → statement M
 beside-places-spec =

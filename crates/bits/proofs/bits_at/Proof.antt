@@ -1,5 +1,5 @@
 -- `bits::bits_at` meets its contract: a field is that of its bits that are there.
-use mathlib.Core.Path.{sym, _∙_}
+use mathlib.Core.Path.{sym}
 use native.Mathlib.Omega.{arith}
 use Rattle.bits.proofs.WordLaws.{field-there, field-none}
 use Rattle.bits.proofs.bits_at.Statement.{statement}

@@ -3,9 +3,6 @@ use Rattle.ceilings.specs.Ceilings.{ceilingBy}
 use borrow.Author.Needs.{needs}
 use Rattle.ceilings.proofs.ceiling_at.Statement.{statement}
 use Rattle.ceilings.proofs.ceiling_at.Tie as tie
-use Rattle.ceilings.proofs.ceiling_at.Reads as reads
-use Rattle.ceilings.proofs.ceiling_at.Lts as lts
-use Rattle.arrays.proofs.lower.Reads as lower-reads
 
 lower-requires : tie.Need-lower-requires
 lower-requires c κs = search needs

@@ -7,16 +7,11 @@ use Prim.Native.Nat.{_-_, _≤_}
 use mathlib.Core.Path.{_≡_, refl, _∙_}
 use native.Mathlib.Omega.{arith}
 use lib.ListN.{length}
-use Rattle.ceilings.specs.Ceilings.{ceilingIn}
 use Rattle.ceilings.proofs.RowLaws.{Rows, rows-start, rows-next, rows-end}
 use Rattle.ceilings.proofs.CeilingLaws.{laidAt, laid-as}
 use borrow.Author.Needs.{needs}
 use Rattle.ceilings.proofs.ceilings_of.Statement.{statement}
 use Rattle.ceilings.proofs.ceilings_of.Tie as tie
-use Rattle.ceilings.proofs.ceilings_of.Reads as reads
-use Rattle.ceilings.proofs.ceilings_of.Lts as lts
-use Rattle.ceilings.proofs.lay_unit.Reads as lay-unit-reads
-use Rattle.ceilings.proofs.lines_of.Reads as lines-of-reads
 
 abbrev Inv-loop : tie.InvT-loop
 Inv-loop n units notices lines ceilings₀ p₀ ceilings p = (p ≤ n) × (length ceilings ≡ 1625) × Rows (laidAt units notices lines) p ceilings × ((k : ℕ) → k < p → getD units k noUnit .maximum ≤ most)

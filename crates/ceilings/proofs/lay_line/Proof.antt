@@ -1,5 +1,5 @@
 use Prim.Native.Nat.{_-_, _≤_}
-use mathlib.Core.Path.{_≡_, refl, _∙_}
+use mathlib.Core.Path.{_≡_, _∙_}
 use native.Mathlib.Omega.{arith}
 use lib.ListN.{length, length-set}
 use Rattle.ceilings.specs.Ceilings.{lineIn, RowAt}
@@ -7,9 +7,6 @@ use Rattle.ceilings.proofs.RowLaws.{row-start, row-next, row-end}
 use borrow.Author.Needs.{needs}
 use Rattle.ceilings.proofs.lay_line.Statement.{statement}
 use Rattle.ceilings.proofs.lay_line.Tie as tie
-use Rattle.ceilings.proofs.lay_line.Reads as reads
-use Rattle.ceilings.proofs.lay_line.Lts as lts
-use Rattle.ceilings.proofs.line_at.Reads as line-at-reads
 
 abbrev Inv-loop : tie.InvT-loop
 Inv-loop lines₀ border limit h₀ lines h = (h ≤ 25) × (length lines ≡ 125) × RowAt border (lineIn limit) h lines₀ lines

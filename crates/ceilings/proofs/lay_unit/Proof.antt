@@ -1,5 +1,5 @@
 use Prim.Native.Nat.{_-_, _≤_}
-use mathlib.Core.Path.{_≡_, refl, _∙_}
+use mathlib.Core.Path.{_≡_, _∙_}
 use native.Mathlib.Omega.{arith}
 use lib.ListN.{length, length-set}
 use Rattle.ceilings.specs.Ceilings.{ceilingIn, RowAt}
@@ -7,10 +7,6 @@ use Rattle.ceilings.proofs.RowLaws.{row-start, row-next, row-end}
 use borrow.Author.Needs.{needs}
 use Rattle.ceilings.proofs.lay_unit.Statement.{statement}
 use Rattle.ceilings.proofs.lay_unit.Tie as tie
-use Rattle.ceilings.proofs.lay_unit.Reads as reads
-use Rattle.ceilings.proofs.lay_unit.Lts as lts
-use Rattle.ceilings.proofs.ceiling_at.Reads as ceiling-at-reads
-use Rattle.ceilings.proofs.line_row.Reads as line-row-reads
 
 abbrev Inv-loop : tie.InvT-loop
 Inv-loop ceilings₀ p u lines notice row h₀ ceilings h = (h ≤ 25) × (length ceilings ≡ 1625) × RowAt p (ceilingIn u notice lines) h ceilings₀ ceilings

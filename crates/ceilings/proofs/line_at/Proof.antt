@@ -4,8 +4,6 @@ use Rattle.ceilings.specs.Ceilings.{lineBy}
 use borrow.Author.Needs.{needs}
 use Rattle.ceilings.proofs.line_at.Statement.{statement}
 use Rattle.ceilings.proofs.line_at.Tie as tie
-use Rattle.ceilings.proofs.line_at.Reads as reads
-use Rattle.ceilings.proofs.line_at.Lts as lts
 
 returns : tie.Need-returns
 unfolding lineBy

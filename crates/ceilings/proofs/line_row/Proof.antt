@@ -1,11 +1,8 @@
 use native.Mathlib.Omega.{arith}
 use borrow.Author.Tests.{lt-ltb, le-ltb}
 use Rattle.ceilings.specs.Ceilings.{lineRow}
-use borrow.Author.Needs.{needs}
 use Rattle.ceilings.proofs.line_row.Statement.{statement}
 use Rattle.ceilings.proofs.line_row.Tie as tie
-use Rattle.ceilings.proofs.line_row.Reads as reads
-use Rattle.ceilings.proofs.line_row.Lts as lts
 
 returns : tie.Need-returns
 unfolding lineRow

@@ -1,5 +1,5 @@
 use Prim.Native.Nat.{suc, _-_, _≤_}
-use mathlib.Core.Path.{_≡_, refl, _∙_}
+use mathlib.Core.Path.{_≡_, refl}
 use native.Mathlib.Omega.{arith}
 use lib.ListN.{length}
 use Rattle.ceilings.specs.Ceilings.{lineIn, lineAt}
@@ -8,10 +8,6 @@ use Rattle.ceilings.proofs.CeilingLaws.{line-as}
 use borrow.Author.Needs.{needs}
 use Rattle.ceilings.proofs.lines_of.Statement.{statement}
 use Rattle.ceilings.proofs.lines_of.Tie as tie
-use Rattle.ceilings.proofs.lines_of.Reads as reads
-use Rattle.ceilings.proofs.lines_of.Lts as lts
-use Rattle.ceilings.proofs.lay_line.Reads as lay-line-reads
-use Rattle.limits.proofs.border_limit.Reads as border-limit-reads
 
 abbrev Inv-loop : tie.InvT-loop
 Inv-loop capacities lines₀ b₀ lines b = (b ≤ 5) × (length lines ≡ 125) × Rows (lineAt capacities) b lines

@@ -3,13 +3,6 @@ use Rattle.closing.proofs.CloseLaws.{close-entered}
 use borrow.Author.Needs.{needs}
 use Rattle.closing.proofs.verdicts.Statement.{statement}
 use Rattle.closing.proofs.verdicts.Tie as tie
-use Rattle.closing.proofs.verdicts.Reads as reads
-use Rattle.closing.proofs.verdicts.Lts as lts
-use Rattle.ceilings.proofs.ceilings_of.Reads as ceilings-of-reads
-use Rattle.turns.proofs.pass.Reads as pass-reads
-use Rattle.holders.proofs.holders_of.Reads as holders-of-reads
-use Rattle.loads.proofs.loads_of.Reads as loads-of-reads
-use Rattle.session.proofs.no_verdict.Reads as no-verdict-reads
 
 no-verdict-requires : tie.Need-no-verdict-requires
 no-verdict-requires c κs = search needs
@@ -24,16 +17,16 @@ ceilings-of-requires : tie.Need-ceilings-of-requires
 ceilings-of-requires c κs = search needs
 
 pass-requires : tie.Need-pass-requires
-pass-requires c κs = (c .before .before .before .before .before .before .before .before .before .before .before .before .before .pre, record { room = c .before .before .before .before .before .loads-of .ensures .0; energies = c .before .before .before .before .before .loads-of .ensures .1 }, record { at = c .before .before .before .before .holders-of .ensures .0; most = c .before .before .before .before .holders-of .ensures .1 }, omega arith)
+pass-requires c κs = (c .before .before .before .before .before .before .before .before .before .before .before .before .pre, record { room = c .before .before .before .before .before .loads-of .ensures .0; energies = c .before .before .before .before .before .loads-of .ensures .1 }, record { at = c .before .before .before .before .holders-of .ensures .0; most = c .before .before .before .before .holders-of .ensures .1 }, omega arith)
 
 pass-requires-2 : tie.Need-pass-requires-2
-pass-requires-2 c κs = (c .before .before .before .before .before .before .before .before .before .before .before .before .before .before .before .before .before .pre, record { room = c .before .before .before .before .before .before .before .before .before .loads-of .ensures .0; energies = c .before .before .before .before .before .before .before .before .before .loads-of .ensures .1 }, record { at = c .before .before .before .before .before .before .before .before .holders-of .ensures .0; most = c .before .before .before .before .before .before .before .before .holders-of .ensures .1 }, c .before .before .before .pass .ensures .0)
+pass-requires-2 c κs = (c .before .before .before .before .before .before .before .before .before .before .before .before .before .before .before .before .pre, record { room = c .before .before .before .before .before .before .before .before .before .loads-of .ensures .0; energies = c .before .before .before .before .before .before .before .before .before .loads-of .ensures .1 }, record { at = c .before .before .before .before .before .before .before .before .holders-of .ensures .0; most = c .before .before .before .before .before .before .before .before .holders-of .ensures .1 }, c .before .before .before .pass .ensures .0)
 
 pass-requires-3 : tie.Need-pass-requires-3
-pass-requires-3 c κs = (c .before .before .before .before .before .before .before .before .before .before .before .before .before .before .before .before .before .before .before .before .before .pre, record { room = c .before .before .before .before .before .before .before .before .before .before .before .before .before .loads-of .ensures .0; energies = c .before .before .before .before .before .before .before .before .before .before .before .before .before .loads-of .ensures .1 }, record { at = c .before .before .before .before .before .before .before .before .before .before .before .before .holders-of .ensures .0; most = c .before .before .before .before .before .before .before .before .before .before .before .before .holders-of .ensures .1 }, c .before .before .before .pass2 .ensures .0)
+pass-requires-3 c κs = (c .before .before .before .before .before .before .before .before .before .before .before .before .before .before .before .before .before .before .before .before .pre, record { room = c .before .before .before .before .before .before .before .before .before .before .before .before .before .loads-of .ensures .0; energies = c .before .before .before .before .before .before .before .before .before .before .before .before .before .loads-of .ensures .1 }, record { at = c .before .before .before .before .before .before .before .before .before .before .before .before .holders-of .ensures .0; most = c .before .before .before .before .before .before .before .before .before .before .before .before .holders-of .ensures .1 }, c .before .before .before .pass2 .ensures .0)
 
 returns : tie.Need-returns
-returns c = close-entered (c .before .before .before .before .before .before .before .before .before .before .before .before .before .before .before .before .before .before .before .before .before .before .args .s) (c .before .before .before .before .before .before .before .before .before .before .before .before .before .before .before .before .before .before .before .before .before .no-verdict .result) (c .before .before .before .before .before .before .before .before .pass .result) (c .before .before .before .before .pass2 .result) (c .pass3 .result) (c .before .before .before .before .before .before .before .before .before .before .before .before .ceilings-of .result) _ _ _ (c .before .before .before .before .before .before .before .before .before .before .before .before .before .before .before .before .before .before .before .before .before .before .pre) (c .before .before .before .before .before .before .before .before .before .before .before .before .before .before .before .before .before .before .before .before .before .no-verdict .ensures) (c .before .before .before .before .before .before .before .before .before .before .before .before .ceilings-of .ensures) (c .before .before .before .before .before .before .before .before .pass .ensures .1) (c .before .before .before .before .pass2 .ensures .1) (c .pass3 .ensures .1) (omega arith)
+returns c = close-entered (c .before .before .before .before .before .before .before .before .before .before .before .before .before .before .before .before .before .before .before .before .before .args .s) (c .before .before .before .before .before .before .before .before .before .before .before .before .before .before .before .before .before .before .before .before .no-verdict .result) (c .before .before .before .before .before .before .before .before .pass .result) (c .before .before .before .before .pass2 .result) (c .pass3 .result) (c .before .before .before .before .before .before .before .before .before .before .before .before .ceilings-of .result) _ _ _ (c .before .before .before .before .before .before .before .before .before .before .before .before .before .before .before .before .before .before .before .before .before .pre) (c .before .before .before .before .before .before .before .before .before .before .before .before .before .before .before .before .before .before .before .before .no-verdict .ensures) (c .before .before .before .before .before .before .before .before .before .before .before .before .ceilings-of .ensures) (c .before .before .before .before .before .before .before .before .pass .ensures .1) (c .before .before .before .before .pass2 .ensures .1) (c .pass3 .ensures .1) (omega arith)
 
 pub verdicts-spec : {M : Type 1} → statement M
 verdicts-spec =

@@ -4,8 +4,6 @@ use lib.ListN.{length}
 use borrow.Author.Needs.{needs}
 use Rattle.figures.proofs.line_end.Statement.{statement}
 use Rattle.figures.proofs.line_end.Tie as tie
-use Rattle.figures.proofs.line_end.Reads as reads
-use Rattle.figures.proofs.line_end.Lts as lts
 
 abbrev Inv-loop : tie.InvT-loop
 Inv-loop s at i₀ i-end i = (at ≤ i) × (i ≤ length s) × (i-end ≡ length s)

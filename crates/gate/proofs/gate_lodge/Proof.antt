@@ -45,11 +45,10 @@ use Rattle.rules.specs.DayBook as D
 use Rattle.effects.specs.Effects.{Stepped}
 use Rattle.response.specs.Told.{MetAs}
 use Rattle.changes.specs.Changes.{Placed, standingWith}
+use Rattle.session.specs.Bare.{bareNotice, bareEnergies}
 use Rattle.session.specs.declared.Session.{Session}
 use Rattle.session.specs.declared.Notice.{Notice}
 use Rattle.session.specs.declared.Energies.{Energies}
-use Rattle.loads.specs.Loads.{bareEnergies}
-use Rattle.pending.specs.Excerpts.{bareNotice}
 use Rattle.pending.specs.Awaiting.{Pends}
 use Rattle.pending.specs.declared.Pending.{Pending}
 use Rattle.told.specs.declared.Response.{Response}

@@ -1,5 +1,4 @@
 use Rattle.gathering.proofs.PlaceLaws.{wanted-counts, other-counts}
-use borrow.Author.Needs.{needs}
 use Rattle.gathering.proofs.counts.Statement.{statement}
 use Rattle.gathering.proofs.counts.Tie as tie
 

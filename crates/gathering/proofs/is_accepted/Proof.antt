@@ -1,6 +1,5 @@
 use borrow.Author.Tests.{not-true, not-false}
 use Rattle.gathering.proofs.PlaceLaws.{accepted-kind, accepted-none}
-use borrow.Author.Needs.{needs}
 use Rattle.gathering.proofs.is_accepted.Statement.{statement}
 use Rattle.gathering.proofs.is_accepted.Tie as tie
 

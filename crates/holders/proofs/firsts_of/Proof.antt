@@ -8,8 +8,6 @@ use Rattle.holders.proofs.HolderLaws.{firsts-start, firsts-next, firsts
 use borrow.Author.Needs.{needs}
 use Rattle.holders.proofs.firsts_of.Statement.{statement}
 use Rattle.holders.proofs.firsts_of.Tie as tie
-use Rattle.holders.proofs.firsts_of.Reads as reads
-use Rattle.holders.proofs.firsts_of.Lts as lts
 
 abbrev Inv-loop : tie.InvT-loop
 Inv-loop numbers n firsts₀ i₀ firsts i = (i ≤ n) × (length firsts ≡ 256) × ((k : ℕ) → k < 256 → getD firsts k 0 ≡ reach (endsIn k) numbers n i)

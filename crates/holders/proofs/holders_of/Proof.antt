@@ -7,11 +7,6 @@ use Rattle.holders.proofs.HolderLaws.{foundAt, found-as, most-start, mo
 use borrow.Author.Needs.{needs}
 use Rattle.holders.proofs.holders_of.Statement.{statement}
 use Rattle.holders.proofs.holders_of.Tie as tie
-use Rattle.holders.proofs.holders_of.Reads as reads
-use Rattle.holders.proofs.holders_of.Lts as lts
-use Rattle.holders.proofs.firsts_of.Reads as firsts-of-reads
-use Rattle.holders.proofs.numbers_of.Reads as numbers-of-reads
-use Rattle.holders.proofs.place_by.Reads as place-by-reads
 
 abbrev Inv-loop : tie.InvT-loop
 Inv-loop n m lodgements numbers firsts holders₀ j₀ holders j = (j ≤ m) × (length holders ≡ 128) × ((k : ℕ) → k < j → getD holders k 0 ≡ foundAt numbers n lodgements k) × ((k : ℕ) → getD holders k 0 ≤ n)

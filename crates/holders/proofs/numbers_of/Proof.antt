@@ -9,8 +9,6 @@ use Rattle.holders.specs.Holders.{numberOf}
 use borrow.Author.Needs.{needs}
 use Rattle.holders.proofs.numbers_of.Statement.{statement}
 use Rattle.holders.proofs.numbers_of.Tie as tie
-use Rattle.holders.proofs.numbers_of.Reads as reads
-use Rattle.holders.proofs.numbers_of.Lts as lts
 
 abbrev Inv-loop : tie.InvT-loop
 Inv-loop units numbers₀ i₀ numbers i = (i ≤ 64) × (length numbers ≡ 64) × (take i numbers ≡ map numberOf (take i units))

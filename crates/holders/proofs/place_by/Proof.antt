@@ -5,9 +5,6 @@ use Rattle.holders.proofs.HolderLaws.{by-none, by-first}
 use borrow.Author.Needs.{needs}
 use Rattle.holders.proofs.place_by.Statement.{statement}
 use Rattle.holders.proofs.place_by.Tie as tie
-use Rattle.holders.proofs.place_by.Reads as reads
-use Rattle.holders.proofs.place_by.Lts as lts
-use Rattle.holders.proofs.place_in.Reads as place-in-reads
 
 cast-end : tie.Need-cast-end
 cast-end c = search needs

@@ -9,8 +9,6 @@ use Rattle.holders.specs.Holders.{isNumber}
 use borrow.Author.Needs.{needs}
 use Rattle.holders.proofs.place_in.Statement.{statement}
 use Rattle.holders.proofs.place_in.Tie as tie
-use Rattle.holders.proofs.place_in.Reads as reads
-use Rattle.holders.proofs.place_in.Lts as lts
 
 abbrev Inv-loop : tie.InvT-loop
 Inv-loop numbers n number i₀ i = (i ≤ n) × (reach (isNumber number) numbers n i ≡ placeOf (isNumber number) (take n numbers))

@@ -38,15 +38,15 @@ use denote.Triple.Walked.{says, Stays, stay-ref, stay-none, walkOf, AllGo, goes-
 use denote.Exit.{yes}
 use Rattle.changes.specs.Changes.{withCapacities, capacitiesWith}
 use Rattle.session.specs.declared.Session.{Session}
-use Rattle.effects.specs.declared.Noted.{Noted}
+use Rattle.effects.specs.declared.CapacitiesNoted.{CapacitiesNoted}
 use Rattle.session.proofs.Session as T
 use Rattle.session.proofs.Session.Laws as T′
 use Rattle.session.proofs.Notice as X
 use Rattle.session.proofs.Notice.Laws as X′
 use Rattle.changes.proofs.CapacityChange as C
 use Rattle.changes.proofs.CapacityChange.Laws as C′
-use Rattle.effects.proofs.Noted as G
-use Rattle.effects.proofs.Noted.Laws as G′
+use Rattle.effects.proofs.CapacitiesNoted as G
+use Rattle.effects.proofs.CapacitiesNoted.Laws as G′
 use Rattle.told.proofs.Response as N
 use Rattle.told.proofs.Response.Laws as N′
 use Rattle.lent.proofs.ArrayLaws.{vals, All}
@@ -60,7 +60,7 @@ use Rattle.lent.proofs.settle_capacities.Code as code′
 use Rattle.lent.proofs.settle_capacities.Code.Mir as code
 
 -- the machine values of what is stored, and of its capacities
-abbrev tv : Noted → Val
+abbrev tv : CapacitiesNoted → Val
 tv t = LL.val G.the-type G′.the-laws t
 
 abbrev refTy : Ty
@@ -69,7 +69,7 @@ refTy = tyRef (named 0) mut (pointee (T.the-row .written))
 abbrev capacitiesTy : Ty
 capacitiesTy = tyArray X′.mir 8
 
-abbrev cv : Noted → Val
+abbrev cv : CapacitiesNoted → Val
 cv t = arrayVal (vals X.the-field X′.the-field-laws (t .change .capacities))
 
 module _ {M : Type 1} {𝓤 : URA M} {H : Heap 𝓤} {A : Atoms 𝓤} {K : Type 0} {W : Given 𝓤 H A} {Γ : List (Item 𝓤)} where
@@ -77,26 +77,26 @@ module _ {M : Type 1} {𝓤 : URA M} {H : Heap 𝓤} {A : Atoms 𝓤} {K : Type 
   of-capacities : K → {E : Env 𝓤 H} {l : ℕ} → Walks′ K W Γ E (G′.mir, l, 0) (field 0 ∷ field 0 ∷ []) (capacitiesTy, l, 0)
   of-capacities k = fld k refl (fld k refl (stop k))
 
-  get-capacities : K → {q : Share} {l : ℕ} (t : Noted) (n : ℕ) → nth 𝓤 H A n Γ ≡ ‵ (fat q G′.mir l 0 (tv t)) → Reads K W Γ capacitiesTy l 0 (cv t)
+  get-capacities : K → {q : Share} {l : ℕ} (t : CapacitiesNoted) (n : ℕ) → nth 𝓤 H A n Γ ≡ ‵ (fat q G′.mir l 0 (tv t)) → Reads K W Γ capacitiesTy l 0 (cv t)
   get-capacities k t n e = nested-read k n 0 0 e refl refl refl refl
 
   of-changed : K → {E : Env 𝓤 H} {l : ℕ} → Walks′ K W Γ E (G′.mir, l, 0) (field 0 ∷ field 1 ∷ []) (tyBool, l, 832)
   of-changed k = fld k refl (fld k refl (stop k))
 
-  get-changed : K → {q : Share} {l : ℕ} (t : Noted) (n : ℕ) → nth 𝓤 H A n Γ ≡ ‵ (fat q G′.mir l 0 (tv t)) → Reads K W Γ tyBool l 832 (vbool (t .change .changed))
+  get-changed : K → {q : Share} {l : ℕ} (t : CapacitiesNoted) (n : ℕ) → nth 𝓤 H A n Γ ≡ ‵ (fat q G′.mir l 0 (tv t)) → Reads K W Γ tyBool l 832 (vbool (t .change .changed))
   get-changed k t n e = nested-read k n 0 1 e refl refl refl refl
 
   of-response : K → {E : Env 𝓤 H} {l : ℕ} → Walks′ K W Γ E (G′.mir, l, 0) (field 1 ∷ []) (N′.mir, l, 840)
   of-response k = fld k refl (stop k)
 
-  get-response : K → {q : Share} {l : ℕ} (t : Noted) (n : ℕ) → nth 𝓤 H A n Γ ≡ ‵ (fat q G′.mir l 0 (tv t)) → Reads K W Γ N′.mir l 840 (LL.val N.the-type N′.the-laws (t .response))
+  get-response : K → {q : Share} {l : ℕ} (t : CapacitiesNoted) (n : ℕ) → nth 𝓤 H A n Γ ≡ ‵ (fat q G′.mir l 0 (tv t)) → Reads K W Γ N′.mir l 840 (LL.val N.the-type N′.the-laws (t .response))
   get-response k t n e = field-read k n 1 e refl refl
 
 abbrev stayed : Stays (f.ended .signature .params) (f.ended .kept)
 stayed = (stay-ref (0 ∷ []) tt (plain (λ _. T.the-row)), (stay-none (λ _. G.the-row) yes, tt))
 
-module _ {M : Type 1} (𝓤 : URA M) (H : Heap 𝓤) (A : Atoms 𝓤) (W : Given 𝓤 H A) (at-mem : Memory → SProp 𝓤) (run : Routine → Fun 𝓤) (κ : Lft) (q : Share) (b o : ℕ) (γ : GName) (h : Session) (t : Noted) where
-  abbrev x : RefT Session × (Noted × Unit {0})
+module _ {M : Type 1} (𝓤 : URA M) (H : Heap 𝓤) (A : Atoms 𝓤) (W : Given 𝓤 H A) (at-mem : Memory → SProp 𝓤) (run : Routine → Fun 𝓤) (κ : Lft) (q : Share) (b o : ℕ) (γ : GName) (h : Session) (t : CapacitiesNoted) where
+  abbrev x : RefT Session × (CapacitiesNoted × Unit {0})
   x = (record { ptr = (b, o); name = γ; now = h }, (t, tt))
 
   -- the session with the capacities stored, and what is left

@@ -9,8 +9,6 @@ use Rattle.loads.proofs.LoadLaws.{place-start, place-noted, place-passe
 use borrow.Author.Needs.{needs}
 use Rattle.loads.proofs.counted_places.Statement.{statement}
 use Rattle.loads.proofs.counted_places.Tie as tie
-use Rattle.loads.proofs.counted_places.Reads as reads
-use Rattle.loads.proofs.counted_places.Lts as lts
 
 abbrev Inv-loop : tie.InvT-loop
 Inv-loop counted n at₀ count₀ l₀ at count l = (l ≤ n) × (count ≤ l) × (length at ≡ 128) × (take count at ≡ marked counted (from 0 l)) × ((j : ℕ) → j < count → getD at j 0 < n)
@@ -71,7 +69,7 @@ returns : tie.Need-returns Inv-loop μ-loop
 returns c =
     let s = c .before .loop in
     let e : s .l ≡ c .before .before .args .n = omega arith in
-    (omega arith, rw e at (s .inv .3), s .inv .2, s .inv .4)
+    record { most = omega arith; places = rw e at (s .inv .3); long = s .inv .2; below = s .inv .4 }
 
 pub counted-places-spec : {M : Type 1} → statement M
 counted-places-spec =

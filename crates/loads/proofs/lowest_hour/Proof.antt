@@ -96,18 +96,18 @@ shared-slice-read-place : tie.Need-shared-slice-read-place Inv-loop μ-loop Inv-
 shared-slice-read-place c = search needs
 
 mul-more : tie.Need-mul-more Inv-loop μ-loop Inv-hours μ-hours
-mul-more c = let k = c .before .before .before .before .before .before .before .before .before .before .pre .3 (c .before .before .before .loop .l) (omega arith) in record { fits = omega arith }
+mul-more c = let k = c .before .before .before .before .before .before .before .before .before .before .pre .2 .1 (c .before .before .before .loop .l) (omega arith) in record { fits = omega arith }
 
 add-more : tie.Need-add-more Inv-loop μ-loop Inv-hours μ-hours
-add-more c = let k = c .before .before .before .before .before .before .before .before .before .before .pre .3 (c .before .before .before .loop .l) (omega arith) in record { fits = omega arith }
+add-more c = let k = c .before .before .before .before .before .before .before .before .before .before .pre .2 .1 (c .before .before .before .loop .l) (omega arith) in record { fits = omega arith }
 
 mul-more-2 : tie.Need-mul-more-2 Inv-loop μ-loop Inv-hours μ-hours
-mul-more-2 c = let k = c .before .before .before .before .before .before .before .before .before .before .pre .3 (c .before .before .before .loop .l) (omega arith) in record { fits = omega arith }
+mul-more-2 c = let k = c .before .before .before .before .before .before .before .before .before .before .pre .2 .1 (c .before .before .before .loop .l) (omega arith) in record { fits = omega arith }
 
 shared-slice-read-more : tie.Need-shared-slice-read-more Inv-loop μ-loop Inv-hours μ-hours
 shared-slice-read-more c =
     let asked = c .before .before .before .before .before .before .before .before .before .before .before .pre in
-    let k = asked .3 (c .before .before .before .before .loop .l) (omega arith) in
+    let k = asked .2 .1 (c .before .before .before .before .loop .l) (omega arith) in
     search needs
 
 wide-requires-2 : tie.Need-wide-requires-2 Inv-loop μ-loop Inv-hours μ-hours

@@ -1,6 +1,5 @@
 use borrow.Author.Tests.{eq-eqb, ne-eqb}
 use Rattle.log.specs.Calls.{isCall}
-use borrow.Author.Needs.{needs}
 use Rattle.log.proofs.is_call.Statement.{statement}
 use Rattle.log.proofs.is_call.Tie as tie
 

@@ -1,9 +1,9 @@
 use mathlib.Core.Path.{ap}
 use lib.ListN.{getD}
-use Rattle.maxima.specs.Parts.{bareNotice}
 use borrow.Author.Needs.{needs}
 use Rattle.maxima.proofs.capacity_at.Statement.{statement}
 use Rattle.maxima.proofs.capacity_at.Tie as tie
+use Rattle.session.specs.Bare.{bareNotice}
 
 notice-place-requires : tie.Need-notice-place-requires
 notice-place-requires c κs = search needs

@@ -17,20 +17,20 @@ holder-of-requires c κs = search needs
 beside-places-requires : tie.Need-beside-places-requires
 beside-places-requires c κs = search needs
 
-notice-place-requires : tie.Need-notice-place-requires
-notice-place-requires c κs = search needs
+unit-place-requires : tie.Need-unit-place-requires
+unit-place-requires c κs = search needs
 
 nth-place-requires : tie.Need-nth-place-requires
-nth-place-requires c κs = let places = c .before .before .before .beside-places .ensures in let most = c .before .before .before .before .before .before .before .before .before .pre .standing in (omega (arith, places .0, most), λ l i. omega (arith, places .3 l i, most))
+nth-place-requires c κs = let places = c .before .before .before .beside-places .ensures in let most = c .before .before .before .before .before .before .before .before .before .pre .standing in (omega (arith, places .most, most), λ l i. omega (arith, places .below l i, most))
 
 nth-place-requires-2 : tie.Need-nth-place-requires-2
-nth-place-requires-2 c κs = let places = c .before .before .before .before .before .before .beside-places .ensures in let most = c .before .before .before .before .before .before .before .before .before .before .before .before .pre .standing in (omega (arith, places .0, most), λ l i. omega (arith, places .3 l i, most))
+nth-place-requires-2 c κs = let places = c .before .before .before .before .before .before .beside-places .ensures in let most = c .before .before .before .before .before .before .before .before .before .before .before .before .pre .standing in (omega (arith, places .most, most), λ l i. omega (arith, places .below l i, most))
 
 nth-place-requires-3 : tie.Need-nth-place-requires-3
-nth-place-requires-3 c κs = let places = c .before .before .before .before .before .before .before .before .before .beside-places .ensures in let most = c .before .before .before .before .before .before .before .before .before .before .before .before .before .before .before .pre .standing in (omega (arith, places .0, most), λ l i. omega (arith, places .3 l i, most))
+nth-place-requires-3 c κs = let places = c .before .before .before .before .before .before .before .before .before .beside-places .ensures in let most = c .before .before .before .before .before .before .before .before .before .before .before .before .before .before .before .pre .standing in (omega (arith, places .most, most), λ l i. omega (arith, places .below l i, most))
 
 nth-place-requires-4 : tie.Need-nth-place-requires-4
-nth-place-requires-4 c κs = let places = c .before .before .before .before .before .before .before .before .before .before .before .before .beside-places .ensures in let most = c .before .before .before .before .before .before .before .before .before .before .before .before .before .before .before .before .before .before .pre .standing in (omega (arith, places .0, most), λ l i. omega (arith, places .3 l i, most))
+nth-place-requires-4 c κs = let places = c .before .before .before .before .before .before .before .before .before .before .before .before .beside-places .ensures in let most = c .before .before .before .before .before .before .before .before .before .before .before .before .before .before .before .before .before .before .pre .standing in (omega (arith, places .most, most), λ l i. omega (arith, places .below l i, most))
 
 returns : tie.Need-returns
 returns c =
@@ -47,7 +47,7 @@ returns c =
         beside = rw key at places;
       },
       record {
-        notice = c .before .before .before .before .before .before .before .before .before .before .before .before .notice-place .ensures;
+        notice = c .before .before .before .before .before .before .before .before .before .before .before .before .unit-place .ensures;
         first = c .before .before .before .before .before .before .before .before .before .nth-place .ensures;
         second = c .before .before .before .before .before .before .nth-place2 .ensures;
         third = c .before .before .before .nth-place3 .ensures;
@@ -63,7 +63,7 @@ awaiting-spec =
     replaced-place-requires
     holder-of-requires
     beside-places-requires
-    notice-place-requires
+    unit-place-requires
     nth-place-requires
     nth-place-requires-2
     nth-place-requires-3

@@ -1,9 +1,9 @@
 use mathlib.Core.Path.{ap}
 use lib.ListN.{getD}
-use Rattle.queries.specs.Parts.{bareFigures}
 use borrow.Author.Needs.{needs}
 use Rattle.queries.proofs.figures_at.Statement.{statement}
 use Rattle.queries.proofs.figures_at.Tie as tie
+use Rattle.session.specs.Bare.{bareFigures}
 
 place-of-requires : tie.Need-place-of-requires
 place-of-requires c κs = search needs

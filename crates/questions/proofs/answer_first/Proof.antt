@@ -3,9 +3,6 @@ use lib.Seq.{length-take-le}
 use borrow.Author.Needs.{needs}
 use Rattle.questions.proofs.answer_first.Statement.{statement}
 use Rattle.questions.proofs.answer_first.Tie as tie
-use Rattle.questions.proofs.answer_first.Reads as reads
-use Rattle.questions.proofs.answer_first.Lts as lts
-use Rattle.questions.proofs.answer_bytes.Reads as answer-bytes-reads
 
 returns : tie.Need-returns
 returns c = search needs

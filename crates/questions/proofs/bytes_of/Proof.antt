@@ -4,8 +4,6 @@ use lib.ListN.{length}
 use borrow.Author.Needs.{needs}
 use Rattle.questions.proofs.bytes_of.Statement.{statement}
 use Rattle.questions.proofs.bytes_of.Tie as tie
-use Rattle.questions.proofs.bytes_of.Reads as reads
-use Rattle.questions.proofs.bytes_of.Lts as lts
 
 abbrev Inv-loop : tie.InvT-loop
 Inv-loop n bytes₀ i₀ bytes i = (i ≤ 128) × (length bytes ≡ 128)

@@ -4,8 +4,6 @@ use lib.ListN.{length}
 use borrow.Author.Needs.{needs}
 use Rattle.questions.proofs.fields_given.Statement.{statement}
 use Rattle.questions.proofs.fields_given.Tie as tie
-use Rattle.questions.proofs.fields_given.Reads as reads
-use Rattle.questions.proofs.fields_given.Lts as lts
 
 abbrev Inv-loop : tie.InvT-loop
 Inv-loop n energies₀ prices₀ i₀ energies prices i = (i ≤ 25) × (length energies ≡ 25) × (length prices ≡ 25)

@@ -4,10 +4,6 @@ use lib.ListN.{length}
 use borrow.Author.Needs.{needs}
 use Rattle.questions.proofs.numbers_of.Statement.{statement}
 use Rattle.questions.proofs.numbers_of.Tie as tie
-use Rattle.questions.proofs.numbers_of.Reads as reads
-use Rattle.questions.proofs.numbers_of.Lts as lts
-use Rattle.questions.proofs.ended.Reads as ended-reads
-use Rattle.questions.proofs.with_byte.Reads as with-byte-reads
 
 abbrev Inv-loop : tie.InvT-loop
 Inv-loop line hex n₀ i₀ i-end n i = (i ≤ length line) × (i-end ≡ length line)

@@ -2,11 +2,6 @@ use Prim.Native.Nat.{_≤_, _-_}
 use borrow.Author.Needs.{needs}
 use Rattle.questions.proofs.put_fields.Statement.{statement}
 use Rattle.questions.proofs.put_fields.Tie as tie
-use Rattle.questions.proofs.put_fields.Reads as reads
-use Rattle.questions.proofs.put_fields.Lts as lts
-use Rattle.questions.proofs.put.Reads as put-reads
-use Rattle.questions.proofs.put_hour.Reads as put-hour-reads
-use Rattle.questions.proofs.put_key.Reads as put-key-reads
 
 abbrev Inv-loop : tie.InvT-loop
 Inv-loop m i₀ t4 i = i ≤ 25

@@ -4,11 +4,6 @@ use lib.ListN.{length}
 use borrow.Author.Needs.{needs}
 use Rattle.questions.proofs.put_hex.Statement.{statement}
 use Rattle.questions.proofs.put_hex.Tie as tie
-use Rattle.questions.proofs.put_hex.Reads as reads
-use Rattle.questions.proofs.put_hex.Lts as lts
-use Rattle.questions.proofs.put.Reads as put-reads
-use Rattle.questions.proofs.wide.Reads as wide-reads
-use Rattle.io.proofs.print_hex.Reads as print-hex-reads
 
 abbrev Inv-loop : tie.InvT-loop
 Inv-loop s i₀ t3 t4 i-end i = (i ≤ length s) × (i-end ≡ length s)

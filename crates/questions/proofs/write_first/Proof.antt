@@ -3,9 +3,6 @@ use lib.Seq.{length-take-le}
 use borrow.Author.Needs.{needs}
 use Rattle.questions.proofs.write_first.Statement.{statement}
 use Rattle.questions.proofs.write_first.Tie as tie
-use Rattle.questions.proofs.write_first.Reads as reads
-use Rattle.questions.proofs.write_first.Lts as lts
-use Rattle.questions.proofs.write_and_show.Reads as write-and-show-reads
 
 returns : tie.Need-returns
 returns c = search needs

@@ -1,5 +1,5 @@
 -- `judged` meets its contract: each way out is an outcome of the table, in its order.
-use mathlib.Core.Path.{_≡_, refl, ap, sym, _∙_}
+use mathlib.Core.Path.{_≡_, refl, sym, _∙_}
 use mathlib.Core.Bool.{false, _||_}
 use native.Mathlib.Omega.{arith}
 use Rattle.rules.specs.Message.{energyWidth, badForm, badMap, badFields, decode}

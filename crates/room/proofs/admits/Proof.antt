@@ -6,10 +6,6 @@ use Rattle.room.proofs.FitLaws.{fits-as}
 use borrow.Author.Needs.{needs}
 use Rattle.room.proofs.admits.Statement.{statement}
 use Rattle.room.proofs.admits.Tie as tie
-use Rattle.room.proofs.admits.Reads as reads
-use Rattle.room.proofs.admits.Lts as lts
-use Rattle.room.proofs.fits.Reads as fits-reads
-use Rattle.room.proofs.take.Reads as take-reads
 
 fits-requires : tie.Need-fits-requires
 fits-requires c κs = search needs

@@ -2,12 +2,10 @@ use Prim.Native.Nat.{ℕ, _+_, _*_, _-_, _≤_, _<_}
 use native.Mathlib.Omega.{arith}
 use borrow.Author.Count.{below-more}
 use lib.ListN.{getD}
-use Rattle.room.specs.Room.{Fits, holds, lacks}
+use Rattle.room.specs.Room.{holds, lacks}
 use borrow.Author.Needs.{needs}
 use Rattle.room.proofs.fits.Statement.{statement}
 use Rattle.room.proofs.fits.Tie as tie
-use Rattle.room.proofs.fits.Reads as reads
-use Rattle.room.proofs.fits.Lts as lts
 
 abbrev Inv-loop : tie.InvT-loop
 Inv-loop room p loads at hours h₀ h = (h ≤ hours) × ((k : ℕ) → k < h → getD loads (at * 25 + k) 0 ≤ getD room (p * 25 + k) 0)

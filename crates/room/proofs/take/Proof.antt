@@ -9,8 +9,6 @@ use Rattle.room.proofs.FitLaws.{held}
 use borrow.Author.Needs.{needs}
 use Rattle.room.proofs.take.Statement.{statement}
 use Rattle.room.proofs.take.Tie as tie
-use Rattle.room.proofs.take.Reads as reads
-use Rattle.room.proofs.take.Lts as lts
 
 abbrev Inv-loop : tie.InvT-loop
 Inv-loop room₀ p loads at hours h₀ room h = (h ≤ hours) × (length room ≡ 1625) × RowAt p (leftAt room₀ p loads at) h room₀ room

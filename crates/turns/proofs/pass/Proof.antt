@@ -6,12 +6,6 @@ use Rattle.turns.proofs.PassLaws.{holder-in, Left, left-start, left-end
 use borrow.Author.Needs.{needs}
 use Rattle.turns.proofs.pass.Statement.{statement}
 use Rattle.turns.proofs.pass.Tie as tie
-use Rattle.turns.proofs.pass.Reads as reads
-use Rattle.turns.proofs.pass.Lts as lts
-use Rattle.turns.proofs.takes.Reads as takes-reads
-use Rattle.room.proofs.admits.Reads as admits-reads
-use Rattle.validation.proofs.accepted.Reads as accepted-reads
-use Rattle.validation.proofs.judge_place.Reads as judge-place-reads
 
 abbrev Inv-loop : tie.InvT-loop
 Inv-loop s loads holders room₀ turn given₀ lodgements n hours passed₀ room given passed = (passed ≤ s .standing) × (length given ≡ 128) × (length room ≡ 1625) × Left s turn given₀ room₀ (s .standing - passed) given room

@@ -6,8 +6,6 @@ use Rattle.loads.proofs.LoadLaws.{written-next}
 use borrow.Author.Needs.{needs}
 use Rattle.validation.proofs.energies_at.Statement.{statement}
 use Rattle.validation.proofs.energies_at.Tie as tie
-use Rattle.validation.proofs.energies_at.Reads as reads
-use Rattle.validation.proofs.energies_at.Lts as lts
 
 abbrev Inv-loop : tie.InvT-loop
 Inv-loop loads at energies₀ h₀ energies h = (h ≤ 25) × (length energies ≡ 25) × ((k : ℕ) → k < h → getD energies k 0 ≡ getD loads (at * 25 + k) 0)

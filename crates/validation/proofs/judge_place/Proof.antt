@@ -57,8 +57,7 @@ judge-energy-requires c κs =
     let s = c .before .before .before .before .before .before .before .before .before .before .before .before .before .before .before .before .before .before .args .s in
     let w = c .before .before .before .before .before .before .before .before .before .before .before .before .before .before .before .before .before .before .pre .0 in
     let r = c .before .before .before .before .counted-places in
-    let q = places-asked (r .result .count) (s .standing) (s .hours) (r .result .at) (r .ensures .0) (w .standing) (w .hours) (r .ensures .2) (r .ensures .3) in
-    (q .0, q .1, q .2, λ l i. (q .3 l i .0, omega (arith, q .3 l i .1)))
+    places-asked _ (s .standing) (s .hours) (r .result) (c .before .before .before .before .before .before .before .before .before .before .before .before .before .before .before .before .before .before .args .loads .now) (r .ensures) (w .standing) (w .hours) (omega arith)
 
 verdict-by-requires : tie.Need-verdict-by-requires
 verdict-by-requires c κs = search needs
@@ -71,7 +70,7 @@ returns-2 c =
     let marks = c .before .before .before .before .before .before .before .before .accepted-on in
     let own = c .before .before .before .before .before .before .before .before .before .energies-at in
     judge-lent (a .s) (a .verdicts) (a .at) (q .1) noLodgement (at .result) (at .ensures .0) noUnit (record { given = false; energies = [] }) (own .result) (marks .result) (a .loads .now) _ (c .before .judge-energy .result) (c .verdict-by .result)
-    (c .before .before .before .before .before .before .before .before .before .before .before .before .before .before .if1 .left) (q .0) (own .ensures .1) (q .2) (marks .ensures) (c .before .before .before .before .before .before .counted-places .ensures .1) (c .before .judge-energy .ensures) (c .verdict-by .ensures)
+    (c .before .before .before .before .before .before .before .before .before .before .before .before .before .before .if1 .left) (q .0) (own .ensures .1) (q .2) (marks .ensures) (c .before .before .before .before .before .before .counted-places .ensures .places) (c .before .judge-energy .ensures) (c .verdict-by .ensures)
 
 pub judge-place-spec : {M : Type 1} → statement M
 judge-place-spec =

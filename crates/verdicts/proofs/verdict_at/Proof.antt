@@ -1,9 +1,9 @@
 use mathlib.Core.Path.{ap}
 use lib.ListN.{getD}
-use Rattle.verdicts.specs.Parts.{bareVerdict}
 use borrow.Author.Needs.{needs}
 use Rattle.verdicts.proofs.verdict_at.Statement.{statement}
 use Rattle.verdicts.proofs.verdict_at.Tie as tie
+use Rattle.session.specs.Bare.{bareVerdict}
 
 verdict-place-requires : tie.Need-verdict-place-requires
 verdict-place-requires c κs = search needs

@@ -16,9 +16,7 @@ returns : tie.Need-returns
 returns c = (λ bytes d. subst (λ (r : Turn). Met (c .before .before .before .args .s) (D.lodge bytes) r) (sym (c .standing-refused .ensures .0)) (d .refused (c .before .if1 .taken)), c .standing-refused .ensures .1)
 
 judge-fields-requires : tie.Need-judge-fields-requires
-judge-fields-requires c κs =
-    let found = c .before .before .before .before .before .pre .0 .0 (c .before .before .before .if1 .left) in
-    (found .within, found .replaced, found .holder, found .beside, excerpts-at _ _ _ found (c .before .before .before .before .before .pre .0 .1) (c .before .before .before .before .before .pre .1))
+judge-fields-requires c κs = let found = c .before .before .pre .0 .0 (c .if1 .left) in (found, excerpts-at _ _ _ found (c .before .before .pre .0 .1) (c .before .before .pre .1))
 
 enum-known-j : tie.Need-enum-known-j
 enum-known-j c = search needs
@@ -30,19 +28,17 @@ enum-told : tie.Need-enum-told
 enum-told c = search needs
 
 enter-requires : tie.Need-enter-requires
-enter-requires c κs =
-    let found = c .before .before .before .before .before .before .before .before .pre .0 .0 (c .before .before .before .before .before .before .if1 .left) in
-    (c .before .before .judge-fields .ensures .1 (c .enum-told .given .1), found .replaced, found .most)
+enter-requires c κs = let found = c .before .before .before .before .before .before .pre .0 .0 (c .before .before .before .before .if1 .left) in (c .before .before .before .judge-fields .ensures .1 (c .enum-told .given .1), found .replaced, found .most)
 
 returns-2 : tie.Need-returns-2
 returns-2 c =
-    let z = c .before .before .before .before .before .before .before .before .if1 .left in
-    (λ bytes d. out-refused _ _ _ _ _ (c .standing-refused2 .ensures .0) (lodge-judged _ _ _ (d .fields z) (d .opened z) (d .formed z) _ (λ b e. sym (c .before .before .j .given .1) ∙ c .before .before .before .before .judge-fields .ensures .0 b e)), c .standing-refused2 .ensures .1)
+    let z = c .before .before .before .before .before .before .if1 .left in
+    (λ bytes d. out-refused _ _ _ _ _ (c .standing-refused2 .ensures .0) (lodge-judged _ _ _ (d .fields z) (d .opened z) (d .formed z) _ (λ b e. sym (c .before .before .j .given .1) ∙ c .before .before .before .before .before .judge-fields .ensures .0 b e)), c .standing-refused2 .ensures .1)
 
 returns-3 : tie.Need-returns-3
 returns-3 c =
-    let z = c .before .before .before .before .before .before .before .if1 .left in
-    (λ bytes d. out-entered _ _ _ (lodge-judged _ _ _ (d .fields z) (d .opened z) (d .formed z) _ (λ b e. sym (c .before .enum-told .given .1) ∙ c .before .before .before .judge-fields .ensures .0 b e)) (lodge-entered _ _ _ (d .fields z) _ (c .enter .ensures .0)), c .enter .ensures .1)
+    let z = c .before .before .before .before .before .if1 .left in
+    (λ bytes d. out-entered _ _ _ (lodge-judged _ _ _ (d .fields z) (d .opened z) (d .formed z) _ (λ b e. sym (c .before .enum-told .given .1) ∙ c .before .before .before .before .judge-fields .ensures .0 b e)) (lodge-entered _ _ _ (d .fields z) _ (c .enter .ensures .0)), c .enter .ensures .1)
 
 pub lodge-pending-spec : {M : Type 1} → statement M
 lodge-pending-spec =

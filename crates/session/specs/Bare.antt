@@ -1,0 +1,19 @@
+-- What is read beyond the places of an array.
+use mathlib.Core.Bool.{false}
+use mathlib.Core.List.{[]}
+use Rattle.session.specs.declared.Notice.{Notice}
+use Rattle.session.specs.declared.Energies.{Energies}
+use Rattle.session.specs.declared.Verdict.{Verdict}
+use Rattle.session.specs.declared.Cleared.{Cleared}
+
+abbrev pub bareNotice : Notice
+bareNotice = record { given = false; energies = [] }
+
+abbrev pub bareEnergies : Energies
+bareEnergies = record { energies = []; prices = [] }
+
+abbrev pub bareVerdict : Verdict
+bareVerdict = record { accepted = false; limit = 0; hour = 0 }
+
+abbrev pub bareFigures : Cleared
+bareFigures = record { price = 0; market = []; bilateral = []; maxima = []; matched = []; executed = [] }
