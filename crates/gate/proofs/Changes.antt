@@ -2,21 +2,21 @@
 use Prim.Native.Nat.{_<_}
 use denote.Struct.Laws as LL
 use Rattle.changes.specs.Changes.{Placed, withVerdicts, withFigures, registryWith, capacitiesWith, standingWith}
-use Rattle.effects.specs.declared.Registered.{Registered}
-use Rattle.effects.specs.declared.CapacitiesNoted.{CapacitiesNoted}
-use Rattle.effects.specs.declared.Lodged.{Lodged}
-use Rattle.effects.specs.declared.Closed.{Closed}
-use Rattle.effects.specs.declared.DayCleared.{DayCleared}
-use Rattle.effects.proofs.Registered as R
-use Rattle.effects.proofs.Registered.Laws as R′
-use Rattle.effects.proofs.CapacitiesNoted as N
-use Rattle.effects.proofs.CapacitiesNoted.Laws as N′
-use Rattle.effects.proofs.Lodged as L
-use Rattle.effects.proofs.Lodged.Laws as L′
-use Rattle.effects.proofs.Closed as C
-use Rattle.effects.proofs.Closed.Laws as C′
-use Rattle.effects.proofs.DayCleared as D
-use Rattle.effects.proofs.DayCleared.Laws as D′
+use Rattle.response.specs.declared.Registered.{Registered}
+use Rattle.response.specs.declared.CapacitiesNoted.{CapacitiesNoted}
+use Rattle.response.specs.declared.Lodged.{Lodged}
+use Rattle.response.specs.declared.Closed.{Closed}
+use Rattle.response.specs.declared.DayCleared.{DayCleared}
+use Rattle.response.proofs.Registered as R
+use Rattle.response.proofs.Registered.Laws as R′
+use Rattle.response.proofs.CapacitiesNoted as N
+use Rattle.response.proofs.CapacitiesNoted.Laws as N′
+use Rattle.response.proofs.Lodged as L
+use Rattle.response.proofs.Lodged.Laws as L′
+use Rattle.response.proofs.Closed as C
+use Rattle.response.proofs.Closed.Laws as C′
+use Rattle.response.proofs.DayCleared as D
+use Rattle.response.proofs.DayCleared.Laws as D′
 use Rattle.gate.proofs.Passing.{Passed, Laws}
 use Rattle.gate.proofs.Applied as A
 use Rattle.gate.proofs.AppliedTo as B

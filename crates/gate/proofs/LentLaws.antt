@@ -8,7 +8,7 @@ use Rattle.session.specs.declared.Answer.{Answer}
 use Rattle.daybook.specs.Runs as R
 use Rattle.daybook.proofs.DemandLaws.{demand-3}
 use Rattle.told.specs.Told.{ofAnswer}
-use Rattle.effects.specs.Effects.{Stepped}
+use Rattle.response.specs.Effects.{Stepped}
 use Rattle.told.specs.declared.Response.{Response}
 use Rattle.gate.specs.Lent.{Lends, registers, notifies, avails, lodges, annuls, closes, clears, LentTo, ended, then, LentDemanded}
 

@@ -16,7 +16,7 @@ use Rattle.session.specs.declared.Key.{Key}
 use Rattle.queries.specs.declared.Reply.{Reply}
 use Rattle.daybook.specs.Demand3.{Demand3}
 use Rattle.told.specs.Told.{ofAnswer}
-use Rattle.effects.specs.Effects.{Stepped}
+use Rattle.response.specs.Effects.{Stepped}
 use Rattle.response.specs.Told.{availableIn, capacityIn, OpensAs, MetAs}
 use Rattle.told.specs.Told.{ofReply}
 use Rattle.replies.specs.Told.{AnsweredAs}

@@ -5,11 +5,11 @@ ghost use Prim.Native.Nat.{_<_};
 ghost use Rattle.changes.specs.Changes.{Placed, withVerdicts, withFigures, registryWith, capacitiesWith, standingWith};
 ghost use Rattle.verdicts.specs.Parts.{LodgedFound};
 ghost use Rattle.energies.specs.Parts.{UnitFound};
-use effects::CapacitiesNoted;
-use effects::Closed;
-use effects::DayCleared;
-use effects::Lodged;
-use effects::Registered;
+use response::CapacitiesNoted;
+use response::Closed;
+use response::DayCleared;
+use response::Lodged;
+use response::Registered;
 use session::Session;
 use told::Response;
 

@@ -15,15 +15,15 @@ use Rattle.changes.specs.declared.ClosingTurn.{ClosingTurn}
 use Rattle.changes.specs.declared.ClearingTurn.{ClearingTurn}
 use Rattle.session.specs.declared.Answer.{Answer}
 use Rattle.session.specs.declared.Answer.the-variants as A
-use Rattle.effects.specs.Effects.{Stepped, steppedAs, registeredAs, notedAs, lodgedAs, closedAs, dayClearedAs, registryLeft, capacitiesLeft, standingLeft, closingLeft, clearingLeft}
+use Rattle.response.specs.Effects.{Stepped, steppedAs, registeredAs, notedAs, lodgedAs, closedAs, dayClearedAs, registryLeft, capacitiesLeft, standingLeft, closingLeft, clearingLeft}
 use Rattle.response.specs.Told.{MetAs}
 use Rattle.told.specs.declared.Response.{Response}
 use Rattle.told.specs.Told.{ofAnswer}
-use Rattle.effects.specs.declared.Registered.{Registered}
-use Rattle.effects.specs.declared.CapacitiesNoted.{CapacitiesNoted}
-use Rattle.effects.specs.declared.Lodged.{Lodged}
-use Rattle.effects.specs.declared.Closed.{Closed}
-use Rattle.effects.specs.declared.DayCleared.{DayCleared}
+use Rattle.response.specs.declared.Registered.{Registered}
+use Rattle.response.specs.declared.CapacitiesNoted.{CapacitiesNoted}
+use Rattle.response.specs.declared.Lodged.{Lodged}
+use Rattle.response.specs.declared.Closed.{Closed}
+use Rattle.response.specs.declared.DayCleared.{DayCleared}
 
 -- a call's answer is told, whatever it changes
 met-as : (s : Session) (c : D.Call) (t : Turn) → Met s c t → MetAs s c (steppedAs t)

@@ -8,7 +8,7 @@ use Rattle.session.specs.Steps.{Met, Opens}
 use Rattle.session.specs.declared.Session.{Session}
 use Rattle.session.specs.declared.Answer.{Answer}
 use Rattle.told.specs.Told.{ofAnswer}
-use Rattle.effects.specs.Effects.{Stepped}
+use Rattle.response.specs.Effects.{Stepped}
 use Rattle.response.specs.declared.Availability.{Availability}
 use Rattle.response.specs.declared.Capacities.{Capacities}
 use Rattle.response.specs.declared.Opening.{Opening}

@@ -9,26 +9,35 @@ ghost use Rattle.session.specs.Image.{unitIn, keyIn};
 ghost use Rattle.changes.specs.Changes.{Placed};
 ghost use Rattle.pending.specs.Awaiting.{Prepared, Pends, excerptAt};
 ghost use Rattle.told.specs.Told.{ofCounted, ofNamed};
-ghost use Rattle.effects.specs.Effects.{registryLeft, capacitiesLeft, standingLeft, closingLeft, clearingLeft};
+ghost use Rattle.response.specs.Effects.{
+  registeredAs,
+  notedAs,
+  lodgedAs,
+  registryLeft,
+  capacitiesLeft,
+  standingLeft,
+  closingLeft,
+  clearingLeft,
+};
 ghost use Rattle.response.specs.Told.{availableIn, capacityIn, OpensAs, MetAs};
 use calendar::Clock;
 use calendar::Date;
-use effects::CapacitiesNoted;
-use effects::Closed;
-use effects::DayCleared;
-use effects::Lodged;
-use effects::Registered;
-use effects::of_capacity;
-use effects::of_registry;
-use effects::of_standing;
+use changes::CapacityChange;
+use changes::CapacityTurn;
+use changes::RegistryChange;
+use changes::RegistryTurn;
+use changes::StandingChange;
+use changes::StandingTurn;
 use pending::Excerpt;
 use pending::Pending;
+use session::Cleared;
 use session::Energies;
 use session::Key;
 use session::Notice;
 use session::Published;
 use session::Session;
 use session::Unit;
+use session::Verdict;
 use told::ClockName;
 use told::Response;
 use told::of_answer;
@@ -54,6 +63,67 @@ pub struct Capacities {
 pub struct Opening {
     pub response: Response,
     pub session: Session,
+}
+
+// What a call changes of units and their notices, and says.
+pub struct Registered {
+    pub change: RegistryChange,
+    pub response: Response,
+}
+
+// What a capacity notice changes, and says.
+pub struct CapacitiesNoted {
+    pub change: CapacityChange,
+    pub response: Response,
+}
+
+// What a call changes of standing lodgements, and says.
+pub struct Lodged {
+    pub change: StandingChange,
+    pub response: Response,
+}
+
+// What closing changes, and says.
+pub struct Closed {
+    pub verdicts: [Verdict; 128],
+    pub closed: bool,
+    pub response: Response,
+}
+
+// What clearing changes, and says.
+pub struct DayCleared {
+    pub figures: [Cleared; 25],
+    pub cleared: bool,
+    pub response: Response,
+}
+
+// What a call changes stays as it is, and its answer is told.
+
+fn of_registry(t: RegistryTurn) -> Registered
+    ensures { λ r. ⌜ r ≡ registeredAs t ⌝ }
+{
+    let change = t.change;
+    let answer = t.answer;
+    let response = of_answer(answer);
+    Registered { change, response }
+}
+
+fn of_capacity(t: CapacityTurn) -> CapacitiesNoted
+    ensures { λ r. ⌜ r ≡ notedAs t ⌝ }
+{
+    let change = t.change;
+    let answer = t.answer;
+    let response = of_answer(answer);
+    CapacitiesNoted { change, response }
+}
+
+fn of_standing(t: StandingTurn) -> Lodged
+    ensures { λ r. ⌜ r ≡ lodgedAs t ⌝ }
+{
+    let change = t.change;
+    let answer = t.answer;
+    let response = of_answer(answer);
+    Lodged { change, response }
 }
 
 // Dates

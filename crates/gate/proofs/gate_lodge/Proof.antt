@@ -42,7 +42,7 @@ use denote.Triple.Table.{entered, cited}
 use denote.Triple.Walked.{says, Stays, gave-ref, stay-none-slice, walkOf, AllGo, goes-none-slice, goes-gave-ref, Walks, ends-at, walked, walk-meets}
 use denote.Exit.{yes}
 use Rattle.rules.specs.DayBook as D
-use Rattle.effects.specs.Effects.{Stepped}
+use Rattle.response.specs.Effects.{Stepped}
 use Rattle.response.specs.Told.{MetAs}
 use Rattle.changes.specs.Changes.{Placed, standingWith}
 use Rattle.session.specs.Bare.{bareNotice, bareEnergies}
@@ -52,7 +52,7 @@ use Rattle.session.specs.declared.Energies.{Energies}
 use Rattle.pending.specs.Awaiting.{Pends}
 use Rattle.pending.specs.declared.Pending.{Pending}
 use Rattle.told.specs.declared.Response.{Response}
-use Rattle.effects.specs.declared.Lodged.{Lodged}
+use Rattle.response.specs.declared.Lodged.{Lodged}
 use Rattle.session.proofs.Session as T
 use Rattle.session.proofs.Session.Laws as T′
 use Rattle.session.proofs.Notice as X
@@ -61,8 +61,8 @@ use Rattle.session.proofs.Energies as E
 use Rattle.session.proofs.Energies.Laws as E′
 use Rattle.pending.proofs.Pending as P
 use Rattle.pending.proofs.Pending.Laws as P′
-use Rattle.effects.proofs.Lodged as G
-use Rattle.effects.proofs.Lodged.Laws as G′
+use Rattle.response.proofs.Lodged as G
+use Rattle.response.proofs.Lodged.Laws as G′
 use Rattle.told.proofs.Response as N
 use Rattle.told.proofs.Response.Laws as N′
 use Rattle.pending.proofs.pend as read

@@ -38,15 +38,15 @@ use denote.Triple.Walked.{says, Stays, stay-ref, stay-none, walkOf, AllGo, goes-
 use denote.Exit.{yes}
 use Rattle.changes.specs.Changes.{withCapacities, capacitiesWith}
 use Rattle.session.specs.declared.Session.{Session}
-use Rattle.effects.specs.declared.CapacitiesNoted.{CapacitiesNoted}
+use Rattle.response.specs.declared.CapacitiesNoted.{CapacitiesNoted}
 use Rattle.session.proofs.Session as T
 use Rattle.session.proofs.Session.Laws as T′
 use Rattle.session.proofs.Notice as X
 use Rattle.session.proofs.Notice.Laws as X′
 use Rattle.changes.proofs.CapacityChange as C
 use Rattle.changes.proofs.CapacityChange.Laws as C′
-use Rattle.effects.proofs.CapacitiesNoted as G
-use Rattle.effects.proofs.CapacitiesNoted.Laws as G′
+use Rattle.response.proofs.CapacitiesNoted as G
+use Rattle.response.proofs.CapacitiesNoted.Laws as G′
 use Rattle.told.proofs.Response as N
 use Rattle.told.proofs.Response.Laws as N′
 use Rattle.lent.proofs.ArrayLaws.{vals, All}

@@ -35,13 +35,13 @@ use denote.Triple.Table.{entered}
 use denote.Triple.Walked.{says, Stays, stay-ref, stay-none, walkOf, AllGo, goes-none, goes-ref, Walks, ends-at, walked, walk-meets}
 use denote.Exit.{yes}
 use Rattle.session.specs.declared.Session.{Session}
-use Rattle.effects.specs.declared.DayCleared.{DayCleared}
+use Rattle.response.specs.declared.DayCleared.{DayCleared}
 use Rattle.changes.specs.Changes.{withFigures}
 use Rattle.session.proofs.Session as T
 use Rattle.session.proofs.Session.Laws as T′
 use Rattle.session.proofs.Cleared.Laws as E′
-use Rattle.effects.proofs.DayCleared as G
-use Rattle.effects.proofs.DayCleared.Laws as G′
+use Rattle.response.proofs.DayCleared as G
+use Rattle.response.proofs.DayCleared.Laws as G′
 use Rattle.told.proofs.Response as N
 use Rattle.told.proofs.Response.Laws as N′
 use Rattle.lent.proofs.Cell.{sv, field-read, field-stored}

@@ -35,13 +35,13 @@ use denote.Triple.Table.{entered}
 use denote.Triple.Walked.{says, Stays, stay-ref, stay-none, walkOf, AllGo, goes-none, goes-ref, Walks, ends-at, walked, walk-meets}
 use denote.Exit.{yes}
 use Rattle.session.specs.declared.Session.{Session}
-use Rattle.effects.specs.declared.Closed.{Closed}
+use Rattle.response.specs.declared.Closed.{Closed}
 use Rattle.changes.specs.Changes.{withVerdicts}
 use Rattle.session.proofs.Session as T
 use Rattle.session.proofs.Session.Laws as T′
 use Rattle.session.proofs.Verdict.Laws as E′
-use Rattle.effects.proofs.Closed as G
-use Rattle.effects.proofs.Closed.Laws as G′
+use Rattle.response.proofs.Closed as G
+use Rattle.response.proofs.Closed.Laws as G′
 use Rattle.told.proofs.Response as N
 use Rattle.told.proofs.Response.Laws as N′
 use Rattle.lent.proofs.Cell.{sv, field-read, field-stored}

@@ -38,7 +38,7 @@ use denote.Triple.Walked.{says, Stays, stay-ref, stay-none, walkOf, needs, AllGo
 use denote.Exit.{yes}
 use Rattle.changes.specs.Changes.{registryWith}
 use Rattle.session.specs.declared.Session.{Session}
-use Rattle.effects.specs.declared.Registered.{Registered}
+use Rattle.response.specs.declared.Registered.{Registered}
 use Rattle.session.proofs.Session as T
 use Rattle.session.proofs.Session.Laws as T′
 use Rattle.session.proofs.Unit as U
@@ -47,8 +47,8 @@ use Rattle.session.proofs.Notice as X
 use Rattle.session.proofs.Notice.Laws as X′
 use Rattle.changes.proofs.RegistryChange as C
 use Rattle.changes.proofs.RegistryChange.Laws as C′
-use Rattle.effects.proofs.Registered as G
-use Rattle.effects.proofs.Registered.Laws as G′
+use Rattle.response.proofs.Registered as G
+use Rattle.response.proofs.Registered.Laws as G′
 use Rattle.told.proofs.Response as N
 use Rattle.told.proofs.Response.Laws as N′
 use Rattle.lent.proofs.ArrayLaws.{One}

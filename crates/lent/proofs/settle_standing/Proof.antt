@@ -46,7 +46,7 @@ use Rattle.changes.specs.Changes.{movedIn, standingWith, Placed}
 use Rattle.session.specs.declared.Session.{Session}
 use Rattle.session.specs.declared.Lodgement.{Lodgement}
 use Rattle.session.specs.declared.Energies.{Energies}
-use Rattle.effects.specs.declared.Lodged.{Lodged}
+use Rattle.response.specs.declared.Lodged.{Lodged}
 use Rattle.changes.proofs.ChangeLaws.{session-none, session-more}
 use Rattle.session.proofs.Session as T
 use Rattle.session.proofs.Session.Laws as T′
@@ -56,8 +56,8 @@ use Rattle.session.proofs.Energies as E
 use Rattle.session.proofs.Energies.Laws as E′
 use Rattle.changes.proofs.StandingChange as S
 use Rattle.changes.proofs.StandingChange.Laws as S′
-use Rattle.effects.proofs.Lodged as G
-use Rattle.effects.proofs.Lodged.Laws as G′
+use Rattle.response.proofs.Lodged as G
+use Rattle.response.proofs.Lodged.Laws as G′
 use Rattle.told.proofs.Response as N
 use Rattle.told.proofs.Response.Laws as N′
 use Rattle.lent.proofs.ArrayLaws.{One}

@@ -9,11 +9,11 @@ use Rattle.changes.specs.declared.ClosingTurn.{ClosingTurn}
 use Rattle.changes.specs.declared.ClearingTurn.{ClearingTurn}
 use Rattle.told.specs.declared.Response.{Response}
 use Rattle.told.specs.Told.{ofAnswer}
-use Rattle.effects.specs.declared.Registered.{Registered}
-use Rattle.effects.specs.declared.CapacitiesNoted.{CapacitiesNoted}
-use Rattle.effects.specs.declared.Lodged.{Lodged}
-use Rattle.effects.specs.declared.Closed.{Closed}
-use Rattle.effects.specs.declared.DayCleared.{DayCleared}
+use Rattle.response.specs.declared.Registered.{Registered}
+use Rattle.response.specs.declared.CapacitiesNoted.{CapacitiesNoted}
+use Rattle.response.specs.declared.Lodged.{Lodged}
+use Rattle.response.specs.declared.Closed.{Closed}
+use Rattle.response.specs.declared.DayCleared.{DayCleared}
 
 -- what a call leaves and says
 pub record Stepped : Type 0 where
