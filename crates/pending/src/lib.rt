@@ -143,7 +143,7 @@ fn awaiting(s: Session, m: Fields) -> Pending
     }
 }
 
-// Reads a message, 2 and 3, and finds what its judgement looks at.
+// Reads a message: it is refused as 2 or 3, or what its judgement looks at is found.
 pub fn pend(s: Session, message: &[u8]) -> Pending
     ensures { λ r. ⌜ Pends s (now (message .entry)) r ⌝ }
 {
