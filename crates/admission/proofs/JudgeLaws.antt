@@ -19,7 +19,7 @@ use Rattle.message.specs.declared.Fields.{Fields}
 use Rattle.arrays.specs.declared.Places.{Places}
 use Rattle.session.specs.Bare.{bareNotice, bareEnergies}
 use Rattle.session.specs.Image.{image, keyIn, noUnit}
-use Rattle.session.specs.Parts.{Within, told, Holds}
+use Rattle.session.specs.Parts.{Within, judgement, Holds}
 use Rattle.session.specs.declared.Session.{Session}
 use Rattle.session.specs.declared.Energies.{Energies}
 use Rattle.session.specs.declared.Unit.{Unit}
@@ -118,7 +118,7 @@ module _ (s : Session) (m : Fields) where
       t
       ∙ (judged-by registered (b .capacities) (s .hours) (m .energies) (loadIn (m .energies) (marksFor s m) (take (s .standing) (s .energies))) _ _ _ (m .default) (L.judgedAt (b .standing) (fieldsIn m))
       (held .unit in-list ∙ unit-as s b e (m .unit) p (held .place) in-list noUnit) (noticed ∙ notice-as s b e (m .unit) p (held .place) in-list bareNotice) (capacities-as s b e) (λ h low high. load-as s b e m h)
-      ∙ ap (λ H. told (firstRow (L.limitRows H (m .energies) (L.judgedAt (b .standing) (fieldsIn m)) (L.judgedBy (b .capacities) registered (m .default))))) (sym (hours-as s b e)))
+      ∙ ap (λ H. judgement (firstRow (L.limitRows H (m .energies) (L.judgedAt (b .standing) (fieldsIn m)) (L.judgedBy (b .capacities) registered (m .default))))) (sym (hours-as s b e)))
 
 -- Rows 4, 5, 6, 9 and the limits
 

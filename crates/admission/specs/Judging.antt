@@ -12,7 +12,7 @@ use Rattle.rules.specs.Lodging.{keyOf, judgedAt, judgedBy, limitRows, namesBeyo
 use Rattle.rules.specs.Book.{Book, hours}
 use Rattle.rules.specs.DayBook.{badHolder, full}
 use Rattle.session.specs.Image.{image}
-use Rattle.session.specs.Parts.{Within, told}
+use Rattle.session.specs.Parts.{Within, judgement}
 use Rattle.message.specs.declared.Fields as M
 use Rattle.session.specs.declared.Key.{Key}
 use Rattle.session.specs.declared.Unit.{Unit}
@@ -45,10 +45,10 @@ fieldRows b m =
 
 -- a judgement of a message's fields
 abbrev pub JudgesFields : Session → Fields → Judged → Type 0
-JudgesFields s m j = (b : Book) → s ≡ image b → j ≡ told (firstRow (fieldRows b m))
+JudgesFields s m j = (b : Book) → s ≡ image b → j ≡ judgement (firstRow (fieldRows b m))
 
 abbrev pub JudgesLimits : Session → Fields → Judged → Type 0
-JudgesLimits s m j = (b : Book) → s ≡ image b → j ≡ told (firstRow (lastRows b m))
+JudgesLimits s m j = (b : Book) → s ≡ image b → j ≡ judgement (firstRow (lastRows b m))
 
 -- the judgement by the limits of a unit and its notice, with those that are counted
 abbrev pub judgedWith : Session → M.Fields → Unit → Notice → Judged

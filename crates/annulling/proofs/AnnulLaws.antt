@@ -10,7 +10,7 @@ use Rattle.rules.specs.Book as B
 use Rattle.rules.specs.DayBook as D
 use Rattle.session.specs.Image.{image, keyIn}
 use Rattle.changes.specs.Changes.{Placed, standingTurn}
-use Rattle.session.specs.Steps.{said, isRefusal}
+use Rattle.answer.specs.Told.{told, isRefusal}
 use Rattle.session.specs.Parts.{Judges, Entered}
 use Rattle.session.specs.declared.Key.{Key}
 use Rattle.session.specs.declared.Session.{Session}
@@ -57,7 +57,7 @@ module _ (s : Session) (k : Key) where
 
     -- "annulling drops the key's lodgement"
     pub annulled : leftOf (s .standing) p < 128 → Entered s call (standingTurn s (struckAt s p))
-    unfolding said isRefusal D.reply D.rowsOf D.applied
+    unfolding told isRefusal D.reply D.rowsOf D.applied
     annulled free = record {
       book = λ b sound o e. record { answer = refl; session = taken-image s k p (leftOf (s .standing) p) at refl free b sound (open-row b _ o) e };
       fine = refl;

@@ -1,9 +1,9 @@
 -- What annulling changes.
 use mathlib.Core.Bool.{true}
 use Prim.Native.Nat.{ℕ}
+use Rattle.answer.specs.Told.{accepted}
 use Rattle.session.specs.Image.{noLodgement, noEnergies}
 use Rattle.session.specs.declared.Session.{Session}
-use Rattle.session.specs.declared.Answer.the-variants.{Done}
 use Rattle.changes.specs.declared.StandingTurn.{StandingTurn}
 use Rattle.keys.specs.Keys.{leftOf}
 
@@ -13,5 +13,5 @@ struckAt s p =
     let m = leftOf (s .standing) p in
     record {
       change = record { from = p; to = m; at = m; lodgement = noLodgement; energies = noEnergies; standing = m; last = s .last; changed = true };
-      answer = Done;
+      answer = accepted;
     }

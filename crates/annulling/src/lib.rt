@@ -8,6 +8,7 @@ ghost use Rattle.session.specs.Steps.{Met};
 ghost use Rattle.session.specs.Parts.{Within, Judges};
 ghost use Rattle.keys.specs.Keys.{keyPlace};
 ghost use Rattle.annulling.specs.Annulling.{struckAt};
+use answer::accepted;
 use changes::StandingChange;
 use changes::StandingTurn;
 use changes::standing_refused;
@@ -16,7 +17,6 @@ use keys::bad_holder;
 use keys::bad_key;
 use keys::key_place;
 use keys::left_of;
-use session::Answer;
 use session::GATE;
 use session::Judged;
 use session::Key;
@@ -70,10 +70,8 @@ fn strike(s: Session, at: usize) -> StandingTurn
         last: s.last,
         changed: true,
     };
-    StandingTurn {
-        change: change,
-        answer: Answer::Done,
-    }
+    let answer = accepted();
+    StandingTurn { change, answer }
 }
 
 // What annulling the lodgement of a key changes.

@@ -1,7 +1,7 @@
 // The session's queries, each by a number.
 ghost use Rattle.queries.specs.Replies.{Answered};
 ghost use Rattle.asking.specs.Asked.{asked};
-use queries::Reply;
+use answer::Response;
 use session::Session;
 
 pub const VERDICT: u8 = 11;
@@ -21,7 +21,7 @@ pub const MARKET_MAXIMUM: u8 = 17;
 pub const BILATERAL_MAXIMUM: u8 = 18;
 
 // A query of a lodging number, a unit or a border, of a direction and of an hour, where its kind asks for them.
-pub fn reply_to(s: Session, kind: u8, of: u32, export: bool, hour: u32) -> Reply
+pub fn reply_to(s: Session, kind: u8, of: u32, export: bool, hour: u32) -> Response
     ensures { λ r. ⌜ Answered s (asked kind of export hour) r ⌝ }
 {
     if kind == VERDICT {

@@ -6,21 +6,19 @@ use native.Mathlib.Omega.{arith}
 use lib.Dec.{eqb}
 use lib.IntN.{ℤ, subℕ}
 use lib.ListN.{getD}
-use Rattle.rules.specs.Refusals.{given}
 use Rattle.rules.specs.Book.{Book}
 use Rattle.rules.specs.Borders.{balance, marketBalance, executionBalance}
 use Rattle.rules.specs.Clearing.{figuresAt}
 use Rattle.rules.specs.Queries as Q
-use Rattle.rules.specs.Queries.{number, shown}
+use Rattle.rules.specs.Queries.{shown}
 use Rattle.rules.proofs.BalanceLaws.{marketFlow, executionFlow}
 use Rattle.borders.specs.Ways.{wayOf}
 use Rattle.borders.proofs.WayLaws.{way-small, way-border, way-export}
 use Rattle.session.specs.Image.{image, Sound, byWay, figuresAs}
 use Rattle.session.specs.declared.Session.{Session}
 use Rattle.session.specs.declared.Cleared.{Cleared}
-use Rattle.queries.specs.Replies.{replyIn}
+use Rattle.answer.specs.Told.{valueTold, figure}
 use Rattle.queries.specs.Parts.{HourFits, figuresIn}
-use Rattle.queries.specs.declared.Reply.the-variants.{Number}
 use Rattle.queries.proofs.FigureLaws.{made-at, figures-as}
 use Rattle.balances.specs.Parts.{BorderFits}
 
@@ -49,11 +47,11 @@ module _ (s : Session) (hour : ℕ) (x : Cleared) (at : x ≡ figuresIn s hour) 
         ∙ by-way (λ k t. executionFlow k t (figuresAt b hour .executions)) border export (f .high)
 
     pub market-shown : (z : ℤ) → z ≡ subℕ (getD (x .market) (wayOf border true) 0) (getD (x .market) (wayOf border false) 0)
-        → replyIn (Number z) ≡ given (shown b (Q.market border hour))
-    unfolding replyIn shown marketBalance balance
-    market-shown z q = ap (λ y. given (number y)) (q ∙ ap₂ subℕ (market-at true) (market-at false))
+        → figure z ≡ valueTold (shown b (Q.market border hour))
+    unfolding valueTold shown marketBalance balance
+    market-shown z q = ap figure (q ∙ ap₂ subℕ (market-at true) (market-at false))
 
     pub bilateral-shown : (z : ℤ) → z ≡ subℕ (getD (x .bilateral) (wayOf border true) 0) (getD (x .bilateral) (wayOf border false) 0)
-        → replyIn (Number z) ≡ given (shown b (Q.bilateral border hour))
-    unfolding replyIn shown executionBalance balance
-    bilateral-shown z q = ap (λ y. given (number y)) (q ∙ ap₂ subℕ (bilateral-at true) (bilateral-at false))
+        → figure z ≡ valueTold (shown b (Q.bilateral border hour))
+    unfolding valueTold shown executionBalance balance
+    bilateral-shown z q = ap figure (q ∙ ap₂ subℕ (bilateral-at true) (bilateral-at false))

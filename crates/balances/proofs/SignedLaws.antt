@@ -9,7 +9,7 @@ use mir.Val.{toZ, ofZ, SFits}
 use mir.ValLaws.{toZ-ofZ}
 use borrow.Author.Tests.{le-ltb}
 use Rattle.rules.proofs.BoolLaws.{by-bool}
-use Rattle.queries.proofs.SignedLaws.{as-is}
+use Rattle.answer.proofs.SignedLaws.{as-is}
 
 minus : (a b : ℕ) → pos a -ℤ pos b ≡ subℕ a b
 minus a zero = rw (le-ltb a 0 (omega arith)) (ap pos (omega arith))

@@ -6,10 +6,13 @@ ghost use lib.ListN.{getD};
 ghost use lib.IntN.{subℕ};
 ghost use Rattle.rules.specs.Queries as Q;
 ghost use Rattle.borders.specs.Ways.{wayOf};
+ghost use Rattle.answer.specs.Told as T;
 ghost use Rattle.queries.specs.Replies.{Answered};
 ghost use Rattle.queries.specs.Parts.{Judges, figuresIn};
 ghost use Rattle.balances.specs.Parts.{BorderFits};
-use queries::Reply;
+use answer::Response;
+use answer::figure;
+use answer::refused;
 use queries::figures_at;
 use queries::judge_hour;
 use session::Cleared;
@@ -44,18 +47,18 @@ pub fn of_way(energies: [u32; 10], border: u32, export: bool) -> u32
 }
 
 // a less b, which may be below zero.
-pub fn difference(a: u64, b: u64) -> Reply
+pub fn difference(a: u64, b: u64) -> Response
     requires { ⌜ (a < 2 ^ 33) × (b < 2 ^ 33) ⌝ }
-    ensures { λ r. ⌜ r ≡ Reply.Number (subℕ a b) ⌝ }
+    ensures { λ r. ⌜ r ≡ T.figure (subℕ a b) ⌝ }
 {
     let net = a as i64 - b as i64;
-    Reply::Number(net)
+    figure(net)
 }
 
 // "exports less imports"
-fn balance(energies: [u32; 10], border: u32) -> Reply
+fn balance(energies: [u32; 10], border: u32) -> Response
     requires { ⌜ border ≤ 4 ⌝ }
-    ensures { λ r. ⌜ r ≡ Reply.Number (subℕ (getD energies (wayOf border true) 0) (getD energies (wayOf border false) 0)) ⌝ }
+    ensures { λ r. ⌜ r ≡ T.figure (subℕ (getD energies (wayOf border true) 0) (getD energies (wayOf border false) 0)) ⌝ }
 {
     let exports = of_way(energies, border, true);
     let imports = of_way(energies, border, false);
@@ -63,20 +66,20 @@ fn balance(energies: [u32; 10], border: u32) -> Reply
 }
 
 // The final market balance of a border, from the hour's figures: 2, 4, 5.
-pub fn market_from(s: Session, x: Cleared, border: u32, hour: u32) -> Reply
+pub fn market_from(s: Session, x: Cleared, border: u32, hour: u32) -> Response
     requires { ⌜ x ≡ figuresIn s hour ⌝ }
     ensures { λ r. ⌜ Answered s (Q.market border hour) r ⌝ }
 {
     let j = judge_border(s, border, hour);
     if let Judged::No(row, at) = j {
-        return Reply::Refused(row, at);
+        return refused(row, at);
     }
     let energies = x.market;
     balance(energies, border)
 }
 
 // The final market balance of a border: 2, 4, 5.
-pub fn market(s: Session, border: u32, hour: u32) -> Reply
+pub fn market(s: Session, border: u32, hour: u32) -> Response
     ensures { λ r. ⌜ Answered s (Q.market border hour) r ⌝ }
 {
     let x = figures_at(s, hour);
@@ -84,20 +87,20 @@ pub fn market(s: Session, border: u32, hour: u32) -> Reply
 }
 
 // The final balance of its executions, from the hour's figures: 2, 4, 5.
-pub fn bilateral_from(s: Session, x: Cleared, border: u32, hour: u32) -> Reply
+pub fn bilateral_from(s: Session, x: Cleared, border: u32, hour: u32) -> Response
     requires { ⌜ x ≡ figuresIn s hour ⌝ }
     ensures { λ r. ⌜ Answered s (Q.bilateral border hour) r ⌝ }
 {
     let j = judge_border(s, border, hour);
     if let Judged::No(row, at) = j {
-        return Reply::Refused(row, at);
+        return refused(row, at);
     }
     let energies = x.bilateral;
     balance(energies, border)
 }
 
 // The final balance of its executions: 2, 4, 5.
-pub fn bilateral(s: Session, border: u32, hour: u32) -> Reply
+pub fn bilateral(s: Session, border: u32, hour: u32) -> Response
     ensures { λ r. ⌜ Answered s (Q.bilateral border hour) r ⌝ }
 {
     let x = figures_at(s, hour);

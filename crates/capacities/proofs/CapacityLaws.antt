@@ -19,7 +19,8 @@ use Rattle.rules.proofs.HoursLaws.{hours-most}
 use Rattle.session.specs.Laid.{counted}
 use Rattle.session.specs.Image.{image, verdictsIn, hoursIn, publishedIn, capacitiesIn, noticeAs, noNotice}
 use Rattle.changes.specs.Changes.{withCapacities, capacityTurn}
-use Rattle.session.specs.Steps.{said, isRefusal}
+use Rattle.answer.specs.Told.{told, isRefusal, accepted}
+use Rattle.answer.specs.declared.Response.{Response}
 use Rattle.session.specs.Parts.{Judges, Entered}
 use Rattle.notices.specs.Notices.{keptAs}
 use Rattle.capacities.specs.Capacities.{directionAs, offHours, offRange}
@@ -27,7 +28,6 @@ use Rattle.session.specs.declared.Session.{Session}
 use Rattle.session.specs.declared.Notice.{Notice}
 use Rattle.session.specs.declared.Published.{Published}
 use Rattle.session.specs.declared.Judged.the-variants.{No, Clear}
-use Rattle.session.specs.declared.Answer.the-variants.{Done}
 use Rattle.session.proofs.LaidLaws.{length-counted, any-map}
 use Rattle.session.proofs.ImageLaws.{closed-as, hours-as}
 use Rattle.session.proofs.StepLaws.{open-row}
@@ -92,10 +92,10 @@ hours-fit : (b : B.Book) → B.hours b ≤ 25
 unfolding B.hours
 hours-fit b = hours-most (b .date)
 
-pub capacity-entered : (s : Session) (ps : List Published) (ns : List Notice) → ns ≡ map directionAs ps
-    → Entered s (D.capacity (capacitiesIn ps)) (capacityTurn s (record { change = record { capacities = ns; changed = true }; answer = Done }))
-unfolding said isRefusal D.reply D.rowsOf
-capacity-entered s ps ns q = record {
+pub capacity-entered : (s : Session) (ps : List Published) (ns : List Notice) (a : Response) → ns ≡ map directionAs ps → a ≡ accepted
+    → Entered s (D.capacity (capacitiesIn ps)) (capacityTurn s (record { change = record { capacities = ns; changed = true }; answer = a }))
+unfolding told isRefusal D.reply D.rowsOf
+capacity-entered s ps ns a q f = rw f (record {
   book = λ b sound o e.
       let k = q ∙ directions-as (B.hours b) (hours-fit b) ps (of-hours b (capacitiesIn ps) o) in
       let early = open-row b _ o in
@@ -104,4 +104,4 @@ capacity-entered s ps ns q = record {
         session = rw (k, e) (capacity-image b (capacitiesIn ps) early (open-stage b sound early));
       };
   fine = refl;
-}
+})

@@ -3,10 +3,16 @@ use Prim.Native.Nat.{ℕ}
 use mathlib.Core.Bool.{Bool, false, cond}
 use mathlib.Core.List.{[]}
 use Rattle.rules.specs.Units as U
-use Rattle.session.specs.Image.{publishedIn, noNotice}
+use Rattle.rules.specs.DayBook as D
+use Rattle.session.specs.Image.{publishedIn, capacitiesIn, noNotice}
 use Rattle.session.specs.declared.Notice.{Notice}
 use Rattle.session.specs.declared.Published.{Published}
 use Rattle.notices.specs.Notices.{keptAs}
+use Rattle.capacities.specs.declared.Capacities.{Capacities}
+
+-- the call that a notice stands for
+abbrev pub capacityIn : Capacities → D.Call
+capacityIn n = D.capacity (capacitiesIn (n .directions))
 
 -- a direction as it is kept
 unfoldable pub directionAs : Published → Notice

@@ -8,14 +8,14 @@ ghost use Rattle.session.specs.Image.{publishedIn, capacitiesIn};
 ghost use Rattle.changes.specs.Changes.{capacityTurn};
 ghost use Rattle.session.specs.Steps.{Met};
 ghost use Rattle.session.specs.Parts.{Judges, Entered};
-ghost use Rattle.capacities.specs.Capacities.{directionAs, offHours, offRange};
+ghost use Rattle.capacities.specs.Capacities.{directionAs, offHours, offRange, capacityIn};
+use answer::accepted;
 use changes::CapacityChange;
 use changes::CapacityTurn;
 use changes::capacity_refused;
 use changes::with_capacities;
 use notices::bad_energies;
 use notices::kept_notice;
-use session::Answer;
 use session::GATE;
 use session::HOUR;
 use session::Judged;
@@ -25,6 +25,12 @@ use session::RANGE;
 use session::Session;
 use session::Turn;
 use session::no_notice;
+
+// A capacity notice: export and import of border 1, of 2, of 3, of 4.
+#[repr(C)]
+pub struct Capacities {
+    pub directions: [Published; 8],
+}
 
 // Row 4, of a direction: "a notice not of H hours". What is absent has no hours.
 fn not_of_hours(hours: usize, p: Published) -> bool
@@ -123,16 +129,15 @@ fn note_capacity(s: Session, directions: [Published; 8]) -> CapacityTurn
         capacities: kept,
         changed: true,
     };
-    CapacityTurn {
-        change: change,
-        answer: Answer::Done,
-    }
+    let answer = accepted();
+    CapacityTurn { change, answer }
 }
 
 // What a capacity notice changes.
-pub fn capacity_change(s: Session, directions: [Published; 8]) -> CapacityTurn
-    ensures { λ r. ⌜ Met s (capacity (capacitiesIn directions)) (capacityTurn s r) ⌝ }
+pub fn capacity_change(s: Session, notice: Capacities) -> CapacityTurn
+    ensures { λ r. ⌜ Met s (capacityIn notice) (capacityTurn s r) ⌝ }
 {
+    let directions = notice.directions;
     if !s.sound() {
         return capacity_refused(s, GATE, 0);
     }
@@ -143,10 +148,10 @@ pub fn capacity_change(s: Session, directions: [Published; 8]) -> CapacityTurn
     }
 }
 
-// Takes a capacity notice, export and import of border 1, of 2, of 3, of 4: 2, 4, 5.
-pub fn capacity(s: Session, directions: [Published; 8]) -> Turn
-    ensures { λ r. ⌜ Met s (capacity (capacitiesIn directions)) r ⌝ }
+// Takes a capacity notice: 2, 4, 5.
+pub fn capacity(s: Session, notice: Capacities) -> Turn
+    ensures { λ r. ⌜ Met s (capacityIn notice) r ⌝ }
 {
-    let t = capacity_change(s, directions);
+    let t = capacity_change(s, notice);
     with_capacities(s, t)
 }

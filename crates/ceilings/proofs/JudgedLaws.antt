@@ -14,7 +14,7 @@ use Rattle.rules.specs.Lodging.{passedAt, judgedBy, limitRows}
 use Rattle.rules.proofs.BoolLaws.{by-bool, neither}
 use Rattle.rules.proofs.LowestLaws.{lowest-none, Least, missing, found, least}
 use Rattle.rules.proofs.CeilingLaws.{over-ceiling}
-use Rattle.session.specs.Parts.{told}
+use Rattle.session.specs.Parts.{judgement}
 use Rattle.session.specs.declared.Unit.{Unit}
 use Rattle.session.specs.declared.Notice.{Notice}
 use Rattle.session.specs.declared.Judged.{Judged}
@@ -55,7 +55,7 @@ module _ (H : ℕ) (own : List ℕ) (load : ℕ → ℕ) where
       rw (lowest-none (passedAt own load l) H (λ h a b. under l h (neither (passes (load h) (l .at h)) (over ls h) (f h a b) .0)))
       (rows-under ls (λ h a b. neither (passes (load h) (l .at h)) (over ls h) (f h a b) .1))
 
-  rows-over : (ls : List Limit) (h : ℕ) → 1 ≤ h → h ≤ H → eqb (hourly own h) 0 ≡ false → over ls h ≡ true → Refuses (told (firstRow (limitRows H own load ls)))
+  rows-over : (ls : List Limit) (h : ℕ) → 1 ≤ h → h ≤ H → eqb (hourly own h) 0 ≡ false → over ls h ≡ true → Refuses (judgement (firstRow (limitRows H own load ls)))
   unfolding limitRows limitRow firstRow any
   rows-over [] h a b n e = absurd (false≢true e)
   rows-over (l ∷ ls) h a b n e =
@@ -72,7 +72,7 @@ module _ (u : Unit) (n : Notice) (cs : List Notice) (H : ℕ) (own : List ℕ) (
   pub judged-under : ((h : ℕ) → 1 ≤ h → h ≤ H → load h ≤ top h) → judgedIn u n cs false H own load ≡ Clear
   unfolding judgedIn judgedBy
   judged-under f =
-      ap told (rows-under H own load (limits (map noticeIn cs) (registeredIn u n)) (λ h a b. sym (over-ceiling (map noticeIn cs) (registeredIn u n) h (load h)) ∙ le-ltb (top h) (load h) (f h a b)))
+      ap judgement (rows-under H own load (limits (map noticeIn cs) (registeredIn u n)) (λ h a b. sym (over-ceiling (map noticeIn cs) (registeredIn u n) h (load h)) ∙ le-ltb (top h) (load h) (f h a b)))
 
   pub judged-over : (h : ℕ) → 1 ≤ h → h ≤ H → (hourly own h ≡ 0 → ⊥) → top h < load h → Refuses (judgedIn u n cs false H own load)
   unfolding judgedIn judgedBy

@@ -6,13 +6,15 @@ use mathlib.Core.List.{List, [], _∷_}
 use native.Mathlib.Omega.{arith}
 use native.Mathlib.Numerals.{add-one}
 use lib.ListN.{length, getD, set}
-use Rattle.changes.specs.Changes.{withLodgements, withRegistry, withCapacities, moved, movedIn, registryTurn, capacityTurn, standingTurn}
+use Rattle.changes.specs.Changes.{withLodgements, withRegistry, withCapacities, withVerdicts, withFigures, moved, movedIn, registryTurn, capacityTurn, standingTurn, closingTurn, clearingTurn}
 use Rattle.session.specs.declared.Lodgement.{Lodgement}
 use Rattle.session.specs.declared.Energies.{Energies}
 use Rattle.session.specs.declared.Session.{Session}
 use Rattle.changes.specs.declared.RegistryTurn.{RegistryTurn}
 use Rattle.changes.specs.declared.CapacityTurn.{CapacityTurn}
 use Rattle.changes.specs.declared.StandingTurn.{StandingTurn}
+use Rattle.changes.specs.declared.ClosingTurn.{ClosingTurn}
+use Rattle.changes.specs.declared.ClearingTurn.{ClearingTurn}
 
 -- Elements moved forward
 
@@ -85,3 +87,15 @@ module _ (s : Session) where
   pub standing-changed : (t : StandingTurn) (m : Session) → m ≡ movedIn s (t .change .from) (t .change .to) → t .change .changed ≡ true
       → record { session = withLodgements m (t .change .standing) (set (m .lodgements) (t .change .at) (t .change .lodgement)) (set (m .energies) (t .change .at) (t .change .energies)) (t .change .last); answer = t .answer } ≡ standingTurn s t
   standing-changed t m q e = rw (q, e)
+
+  pub closing-still : (t : ClosingTurn) → t .change .changed ≡ false → record { session = s; answer = t .answer } ≡ closingTurn s t
+  closing-still t e = rw e
+
+  pub closing-changed : (t : ClosingTurn) → t .change .changed ≡ true → record { session = withVerdicts s true (t .change .verdicts); answer = t .answer } ≡ closingTurn s t
+  closing-changed t e = rw e
+
+  pub clearing-still : (t : ClearingTurn) → t .change .changed ≡ false → record { session = s; answer = t .answer } ≡ clearingTurn s t
+  clearing-still t e = rw e
+
+  pub clearing-changed : (t : ClearingTurn) → t .change .changed ≡ true → record { session = withFigures s true (t .change .figures); answer = t .answer } ≡ clearingTurn s t
+  clearing-changed t e = rw e

@@ -1,7 +1,7 @@
 -- What calls change of a session.
 use Prim.Native.Nat.{ℕ, zero, suc, _≤_, _<_}
 use mathlib.Core.Path.{_≡_}
-use mathlib.Core.Bool.{Bool, false, cond}
+use mathlib.Core.Bool.{Bool, true, false, cond}
 use mathlib.Core.List.{List, [], _∷_}
 use lib.ListN.{set}
 use Rattle.session.specs.declared.Notice.{Notice}
@@ -18,7 +18,9 @@ use Rattle.changes.specs.declared.CapacityChange.{CapacityChange}
 use Rattle.changes.specs.declared.CapacityTurn.{CapacityTurn}
 use Rattle.changes.specs.declared.StandingChange.{StandingChange}
 use Rattle.changes.specs.declared.StandingTurn.{StandingTurn}
+use Rattle.changes.specs.declared.ClosingChange.{ClosingChange}
 use Rattle.changes.specs.declared.ClosingTurn.{ClosingTurn}
+use Rattle.changes.specs.declared.ClearingChange.{ClearingChange}
 use Rattle.changes.specs.declared.ClearingTurn.{ClearingTurn}
 
 -- Sessions with other parts
@@ -163,8 +165,14 @@ pub record Placed (c : StandingChange) : Type 0 where
 
 -- Verdicts and figures
 
+abbrev pub closedWith : Session → ClosingChange → Session
+closedWith s c = cond (c .changed) (withVerdicts s true (c .verdicts)) s
+
 abbrev pub closingTurn : Session → ClosingTurn → Turn
-closingTurn s t = record { session = withVerdicts s (t .closed) (t .verdicts); answer = t .answer }
+closingTurn s t = record { session = closedWith s (t .change); answer = t .answer }
+
+abbrev pub clearedWith : Session → ClearingChange → Session
+clearedWith s c = cond (c .changed) (withFigures s true (c .figures)) s
 
 abbrev pub clearingTurn : Session → ClearingTurn → Turn
-clearingTurn s t = record { session = withFigures s (t .cleared) (t .figures); answer = t .answer }
+clearingTurn s t = record { session = clearedWith s (t .change); answer = t .answer }

@@ -1,10 +1,11 @@
 // What calls change, by itself and in a session by value: a lent session is changed in place and not copied. A refused call
-// changes nothing: `changed` is false and the rest blank; closing and clearing give what was there.
+// changes nothing: `changed` is false and the rest blank.
 ghost use mathlib.Core.Path.{_≡_};
 ghost use Prim.Native.Nat.{_<_, _≤_};
 ghost use Rattle.session.specs.Parts.{refusedWith};
 ghost use Rattle.changes.specs.Changes.{Placed, movedIn, registryTurn, capacityTurn, standingTurn, closingTurn, clearingTurn};
-use session::Answer;
+use answer::Response;
+use answer::refused;
 use session::Cleared;
 use session::Energies;
 use session::Lodgement;
@@ -14,9 +15,11 @@ use session::Turn;
 use session::Unit;
 use session::Verdict;
 use session::no_energies;
+use session::no_figures;
 use session::no_lodgement;
 use session::no_notice;
 use session::no_unit;
+use session::no_verdict;
 
 // Units and their notices: a unit and its notice at a place, the count.
 pub struct RegistryChange {
@@ -29,7 +32,7 @@ pub struct RegistryChange {
 
 pub struct RegistryTurn {
     pub change: RegistryChange,
-    pub answer: Answer,
+    pub answer: Response,
 }
 
 // All capacities. They are a change of their own, since no other call is to carry them.
@@ -40,7 +43,7 @@ pub struct CapacityChange {
 
 pub struct CapacityTurn {
     pub change: CapacityChange,
-    pub answer: Answer,
+    pub answer: Response,
 }
 
 // Standing lodgements: those behind place `from`, up to place `to`, go one place forward; then one is put at a place.
@@ -57,21 +60,29 @@ pub struct StandingChange {
 
 pub struct StandingTurn {
     pub change: StandingChange,
-    pub answer: Answer,
+    pub answer: Response,
 }
 
-// The verdicts, and whether the gate is closed.
-pub struct ClosingTurn {
+// The verdicts; the gate is then closed.
+pub struct ClosingChange {
     pub verdicts: [Verdict; 128],
-    pub closed: bool,
-    pub answer: Answer,
+    pub changed: bool,
 }
 
-// The figures, and whether the day is cleared.
-pub struct ClearingTurn {
+pub struct ClosingTurn {
+    pub change: ClosingChange,
+    pub answer: Response,
+}
+
+// The figures; the day is then cleared.
+pub struct ClearingChange {
     pub figures: [Cleared; 25],
-    pub cleared: bool,
-    pub answer: Answer,
+    pub changed: bool,
+}
+
+pub struct ClearingTurn {
+    pub change: ClearingChange,
+    pub answer: Response,
 }
 
 // A refused call leaves every part as it was.
@@ -88,10 +99,8 @@ pub fn registry_refused(s: Session, number: u32, hour: u32) -> RegistryTurn
         notice: notice,
         changed: false,
     };
-    RegistryTurn {
-        change: change,
-        answer: Answer::Refused(number, hour),
-    }
+    let answer = refused(number, hour);
+    RegistryTurn { change, answer }
 }
 
 pub fn capacity_refused(s: Session, number: u32, hour: u32) -> CapacityTurn
@@ -102,10 +111,8 @@ pub fn capacity_refused(s: Session, number: u32, hour: u32) -> CapacityTurn
         capacities: [notice; 8],
         changed: false,
     };
-    CapacityTurn {
-        change: change,
-        answer: Answer::Refused(number, hour),
-    }
+    let answer = refused(number, hour);
+    CapacityTurn { change, answer }
 }
 
 pub fn standing_refused(s: Session, number: u32, hour: u32) -> StandingTurn
@@ -123,32 +130,32 @@ pub fn standing_refused(s: Session, number: u32, hour: u32) -> StandingTurn
         last: 0,
         changed: false,
     };
-    StandingTurn {
-        change: change,
-        answer: Answer::Refused(number, hour),
-    }
+    let answer = refused(number, hour);
+    StandingTurn { change, answer }
 }
 
 pub fn closing_refused(s: Session, number: u32, hour: u32) -> ClosingTurn
     ensures { λ r. ⌜ closingTurn s r ≡ refusedWith s number hour ⌝ }
 {
-    let verdicts = s.verdicts;
-    ClosingTurn {
-        verdicts: verdicts,
-        closed: s.closed,
-        answer: Answer::Refused(number, hour),
-    }
+    let verdict = no_verdict();
+    let change = ClosingChange {
+        verdicts: [verdict; 128],
+        changed: false,
+    };
+    let answer = refused(number, hour);
+    ClosingTurn { change, answer }
 }
 
 pub fn clearing_refused(s: Session, number: u32, hour: u32) -> ClearingTurn
     ensures { λ r. ⌜ clearingTurn s r ≡ refusedWith s number hour ⌝ }
 {
-    let figures = s.figures;
-    ClearingTurn {
-        figures: figures,
-        cleared: s.cleared,
-        answer: Answer::Refused(number, hour),
-    }
+    let none = no_figures();
+    let change = ClearingChange {
+        figures: [none; 25],
+        changed: false,
+    };
+    let answer = refused(number, hour);
+    ClearingTurn { change, answer }
 }
 
 // The session by value that a call leaves.
@@ -246,11 +253,18 @@ pub fn with_standing(s: Session, t: StandingTurn) -> Turn
 pub fn with_closing(s: Session, t: ClosingTurn) -> Turn
     ensures { λ r. ⌜ r ≡ closingTurn s t ⌝ }
 {
-    let verdicts = t.verdicts;
+    let c = t.change;
     let answer = t.answer;
     let mut next = s;
+    if !c.changed {
+        return Turn {
+            session: next,
+            answer: answer,
+        };
+    }
+    let verdicts = c.verdicts;
     next.verdicts = verdicts;
-    next.closed = t.closed;
+    next.closed = true;
     Turn {
         session: next,
         answer: answer,
@@ -260,11 +274,18 @@ pub fn with_closing(s: Session, t: ClosingTurn) -> Turn
 pub fn with_clearing(s: Session, t: ClearingTurn) -> Turn
     ensures { λ r. ⌜ r ≡ clearingTurn s t ⌝ }
 {
-    let figures = t.figures;
+    let c = t.change;
     let answer = t.answer;
     let mut next = s;
+    if !c.changed {
+        return Turn {
+            session: next,
+            answer: answer,
+        };
+    }
+    let figures = c.figures;
     next.figures = figures;
-    next.cleared = t.cleared;
+    next.cleared = true;
     Turn {
         session: next,
         answer: answer,

@@ -32,10 +32,9 @@ use Rattle.hour.proofs.ReadyLaws.{ready-told}
 use Rattle.session.specs.declared.Session.{Session}
 use Rattle.session.specs.declared.Unit.{Unit}
 use Rattle.session.specs.declared.Cleared.{Cleared}
-use Rattle.session.specs.declared.Answer.the-variants.{Steps}
 use Rattle.session.specs.Laid.{pad}
 use Rattle.session.specs.Image as I
-use Rattle.session.specs.Steps.{said, isRefusal}
+use Rattle.answer.specs.Told as T
 use Rattle.changes.specs.Changes.{withFigures}
 use Rattle.session.specs.Parts.{Entered}
 use Rattle.session.proofs.LaidLaws.{map-last, set-pad}
@@ -191,14 +190,14 @@ day-steps : (b : B.Book) (n : ℕ) → n ≡ sumOf (λ h. R.figuresAt b h .steps
 unfolding D.reply R.daySteps R.figuresAt
 day-steps b n e = ap D.steps e
 
-pub clear-entered : (s : Session) (figures : List Cleared) (steps : ℕ) → HoursAs s (s .hours) figures steps → Entered s D.clear (record { session = withFigures s true figures; answer = Steps steps })
-unfolding said isRefusal
+pub clear-entered : (s : Session) (figures : List Cleared) (steps : ℕ) → HoursAs s (s .hours) figures steps → Entered s D.clear (record { session = withFigures s true figures; answer = T.steps steps })
+unfolding T.told T.isRefusal
 clear-entered s figures steps d = record {
   book = λ b sound o e.
       let g = d b sound (closed-now b o) e in
       let n = hours-as s b e in
       record {
-        answer = day-steps b steps (g .1 ∙ ap (λ k. sumOf (λ h. R.figuresAt b h .steps) (from 1 k)) (sym n));
+        answer = ap T.told (day-steps b steps (g .1 ∙ ap (λ k. sumOf (λ h. R.figuresAt b h .steps) (from 1 k)) (sym n)));
         session = ap (λ (x : Session). withFigures x true figures) e ∙ cleared-image b o figures (g .0 ∙ ap (λ k. pad 25 I.noFigures (map (I.figuresAs b) (from 1 k))) (sym n));
       };
   fine = refl;

@@ -8,10 +8,11 @@ ghost use mathlib.Core.List.{List};
 ghost use Rattle.session.specs.declared.Unit.{Unit};
 ghost use Rattle.gathering.specs.Built.{UnitPlaces, Holders, DayOf, dayIn};
 ghost use Rattle.clearing.specs.Hours.{HourAs, HoursAs};
+use answer::steps;
+use changes::ClearingChange;
 use changes::ClearingTurn;
 use changes::clearing_refused;
 use changes::with_clearing;
-use session::Answer;
 use session::Cleared;
 use session::GATE;
 use session::Judged;
@@ -119,11 +120,12 @@ fn enter_clear(s: Session) -> ClearingTurn
 {
     let d = clear_hours(s);
     let figures = d.figures;
-    ClearingTurn {
+    let change = ClearingChange {
         figures: figures,
-        cleared: true,
-        answer: Answer::Steps(d.steps),
-    }
+        changed: true,
+    };
+    let answer = steps(d.steps);
+    ClearingTurn { change, answer }
 }
 
 // What clearing changes: 2.

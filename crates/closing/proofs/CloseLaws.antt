@@ -11,7 +11,7 @@ use Rattle.rules.specs.DayBook as D
 use Rattle.rules.proofs.BookLaws.{stage-judgements}
 use Rattle.session.specs.Laid.{pad}
 use Rattle.session.specs.Image.{image, verdictAs, noVerdict, verdictsIn, hoursIn}
-use Rattle.session.specs.Steps.{said, isRefusal}
+use Rattle.answer.specs.Told.{told, isRefusal}
 use Rattle.changes.specs.Changes.{withVerdicts}
 use Rattle.session.specs.Parts.{Within, Judges, Entered}
 use Rattle.session.specs.declared.Session.{Session}
@@ -53,7 +53,7 @@ pub close-entered : (s : Session) (none : Verdict) (xs ys zs : List Verdict) (ro
     → ((p h : ℕ) → p < s .enrolled → h < 25 → getD room (p * 25 + h) 0 ≡ ceilingAt (s .units) (s .notices) (s .capacities) p h)
     → PassesTurn s 0 (replicate 128 none) room xs rest → PassesTurn s 1 xs rest ys last → PassesTurn s 2 ys last zs end → length zs ≡ 128
     → Entered s D.close (closedTurn s zs)
-unfolding said isRefusal D.reply D.rowsOf
+unfolding told isRefusal D.reply D.rowsOf
 close-entered s none xs ys zs room rest last end w blank top p q r h = record {
   book = λ b sound o e.
       let n = standing-as s b e in

@@ -4,13 +4,14 @@ ghost use Rattle.session.specs.Steps.{Met};
 ghost use Rattle.session.specs.Parts.{Within, Entered};
 ghost use Rattle.changes.specs.Changes.{closingTurn};
 ghost use Rattle.closing.specs.Closed.{closedTurn};
+use answer::accepted;
 use ceilings::ceilings_of;
+use changes::ClosingChange;
 use changes::ClosingTurn;
 use changes::closing_refused;
 use changes::with_closing;
 use holders::holders_of;
 use loads::loads_of;
-use session::Answer;
 use session::GATE;
 use session::Session;
 use session::Turn;
@@ -53,11 +54,12 @@ pub fn close_change(s: Session) -> ClosingTurn
         return closing_refused(s, GATE, 0);
     }
     let all = verdicts(s);
-    ClosingTurn {
+    let change = ClosingChange {
         verdicts: all,
-        closed: true,
-        answer: Answer::Done,
-    }
+        changed: true,
+    };
+    let answer = accepted();
+    ClosingTurn { change, answer }
 }
 
 // Closes the gate: 2.

@@ -21,35 +21,35 @@ use Rattle.rules.specs.Refusals.{given}
 use Rattle.rules.proofs.DemandLaws.{demanded, closing-found}
 use Rattle.rules.proofs.UnitLaws.{units-balanced, some-cut-units}
 use Rattle.session.specs.Image.{Sound}
-use Rattle.queries.specs.Replies.{replyIn}
-use Rattle.queries.specs.declared.Reply.{Reply}
-use Rattle.daybook.specs.Demand3.{figureIn, isAcceptance, Judged, matchedOf, executedOf, crossingAt, uncutAt, IsCut, Carried, Holds, Demanded}
+use Rattle.answer.specs.Told.{shown}
+use Rattle.answer.specs.declared.Response.{Response}
+use Rattle.daybook.specs.Demand3.{isAcceptance, Judged, matchedOf, executedOf, crossingAt, uncutAt, IsCut, Carried, Holds, Demanded}
 use Rattle.daybook.proofs.RunLaws.{day-book}
 use Rattle.daybook.proofs.ReplyLaws.{number-of, energy-of, acceptance-of, limit-of, hidden-of, of-hidden, told-limit, all-found, all-entries, sum-same, number-good, verdict-given, matched-given, executed-given, market-given, bilateral-given}
 
-module _ (b : Book) (s : R.Sound b) (reply : Q.Query → Reply) (told : (q : Q.Query) → replyIn (reply q) ≡ Q.query b q) where
+module _ (b : Book) (s : R.Sound b) (response : Q.Query → Response) (told : (q : Q.Query) → response q ≡ shown (Q.query b q)) where
   -- Closing
 
-  judged-one : b .closed ≡ true → (l : Lodgement) → Q.isStanding b (l .number) ≡ true → M.Judgement b l → Judged b reply l
+  judged-one : b .closed ≡ true → (l : Lodgement) → Q.isStanding b (l .number) ≡ true → M.Judgement b l → Judged b response l
   unfolding M.verdictOf
   judged-one c l st j =
       let v = M.verdictOf b l in
-      let r = reply (Q.verdict (l .number)) in
-      let e : replyIn r ≡ given (Q.judged v) = told (Q.verdict (l .number)) ∙ verdict-given b (l .number) c st in
+      let r = response (Q.verdict (l .number)) in
+      let e : r ≡ shown (given (Q.judged v)) = told (Q.verdict (l .number)) ∙ ap shown (verdict-given b (l .number) c st) in
       let a : isAcceptance r ≡ C.isAccepted v = acceptance-of r v e in
       record {
-        exactly = λ shown. let k = j .exactly shown in ((λ f. k .0 (sym a ∙ f)), (λ w. a ∙ k .1 w));
-        refused = λ shown f.
-            told-limit r v e (sym a ∙ f) (λ q. absurd (false≢true (sym shown ∙ j .hiding .0 q)));
+        exactly = λ bare. let k = j .exactly bare in ((λ f. k .0 (sym a ∙ f)), (λ w. a ∙ k .1 w));
+        refused = λ bare f.
+            told-limit r v e (sym a ∙ f) (λ q. absurd (false≢true (sym bare ∙ j .hiding .0 q)));
         chosen = λ n h q. j .chosen n h (limit-of r v e n h q);
-        hiding = ((λ q. j .hiding .0 (hidden-of r v e q)), (λ w. of-hidden r (e ∙ ap (λ (x : C.Verdict). given (Q.judged x)) (j .hiding .1 w))));
+        hiding = ((λ q. j .hiding .0 (hidden-of r v e q)), (λ w. of-hidden r v e (j .hiding .1 w)));
       }
 
   standing-all : All (λ l. Q.isStanding b (l .number) ≡ true) (b .standing)
   unfolding Q.isStanding
   standing-all = all-found (λ l. l .number) (b .standing)
 
-  judged-all : b .closed ≡ true → All (Judged b reply) (b .standing)
+  judged-all : b .closed ≡ true → All (Judged b response) (b .standing)
   judged-all c = all-both (λ l st j. judged-one c l st j) standing-all (demanded b s .closing c)
 
   -- Clearing, in an hour
@@ -62,27 +62,27 @@ module _ (b : Book) (s : R.Sound b) (reply : Q.Query → Reply) (told : (q : Q.Q
   fit = all-both (λ r x y. (number-good r x, y)) (s .units .ranges) registered-all
 
   module _ (h : ℕ) (cleared : b .cleared ≡ true) (low : 1 ≤ h) (high : h ≤ hours b) where
-    matched-as : All (λ r. matchedOf b reply h r ≡ Q.matchedAt b (r .unit .number) h) (b .units)
+    matched-as : All (λ r. matchedOf b response h r ≡ Q.matchedAt b (r .unit .number) h) (b .units)
     matched-as =
-        all-map (λ r g. energy-of (reply (Q.matched (r .unit .number) h)) (Q.matchedAt b (r .unit .number) h)
-        (told (Q.matched (r .unit .number) h) ∙ matched-given b h cleared low high (r .unit .number) (g .0) (g .1))) fit
+        all-map (λ r g. energy-of (response (Q.matched (r .unit .number) h)) (Q.matchedAt b (r .unit .number) h)
+        (told (Q.matched (r .unit .number) h) ∙ ap shown (matched-given b h cleared low high (r .unit .number) (g .0) (g .1)))) fit
 
-    executed-as : All (λ r. executedOf b reply h r ≡ Q.executedAt b (r .unit .number) h) (b .units)
+    executed-as : All (λ r. executedOf b response h r ≡ Q.executedAt b (r .unit .number) h) (b .units)
     executed-as =
-        all-map (λ r g. energy-of (reply (Q.executed (r .unit .number) h)) (Q.executedAt b (r .unit .number) h)
-        (told (Q.executed (r .unit .number) h) ∙ executed-given b h cleared low high (r .unit .number) (g .0) (g .1))) fit
+        all-map (λ r g. energy-of (response (Q.executed (r .unit .number) h)) (Q.executedAt b (r .unit .number) h)
+        (told (Q.executed (r .unit .number) h) ∙ ap shown (executed-given b h cleared low high (r .unit .number) (g .0) (g .1)))) fit
 
-    units-sum : (side : Bool) → sumOf (matchedOf b reply h) (keep (λ r. Bool·beq (r .unit .purchase) side) (b .units))
+    units-sum : (side : Bool) → sumOf (matchedOf b response h) (keep (λ r. Bool·beq (r .unit .purchase) side) (b .units))
         ≡ sumOf (λ r. Q.matchedAt b (r .unit .number) h) (keep (λ r. Bool·beq (r .unit .purchase) side) (b .units))
     units-sum side = sum-same (all-keep (λ r. Bool·beq (r .unit .purchase) side) matched-as)
 
     hour : M.Cleared b h
     hour = demanded b s .clearing cleared h low high
 
-    both-as : All (λ r. (matchedOf b reply h r ≡ Q.matchedAt b (r .unit .number) h) × (executedOf b reply h r ≡ Q.executedAt b (r .unit .number) h)) (b .units)
+    both-as : All (λ r. (matchedOf b response h r ≡ Q.matchedAt b (r .unit .number) h) × (executedOf b response h r ≡ Q.executedAt b (r .unit .number) h)) (b .units)
     both-as = all-both (λ r x y. (x, y)) matched-as executed-as
 
-    ceilings-all : All (λ r. matchedOf b reply h r + executedOf b reply h r ≤ ceiling (b .capacities) r h) (b .units)
+    ceilings-all : All (λ r. matchedOf b response h r + executedOf b response h r ≤ ceiling (b .capacities) r h) (b .units)
     ceilings-all =
         all-both (λ r p e. omega (arith, p .0, p .1, ap (λ (x : Registered). ceiling (b .capacities) x h) e, hour .ceilings (r .unit .number)))
         both-as (all-entries (s .units .distinct))
@@ -91,27 +91,27 @@ module _ (b : Book) (s : R.Sound b) (reply : Q.Query → Reply) (told : (q : Q.Q
       abbrev way : Directed
       way = record { border = border; export = export; energy = capacity }
 
-      market-as : figureIn (reply (Q.market border h)) ≡ marketBalance border (figuresAt b h .offers)
-      market-as = number-of (reply (Q.market border h)) _ (told (Q.market border h) ∙ market-given b h cleared low high border first last)
+      market-as : response (Q.market border h) .value ≡ marketBalance border (figuresAt b h .offers)
+      market-as = number-of (response (Q.market border h)) _ (told (Q.market border h) ∙ ap shown (market-given b h cleared low high border first last))
 
-      bilateral-as : figureIn (reply (Q.bilateral border h)) ≡ executionBalance border (figuresAt b h .executions)
-      bilateral-as = number-of (reply (Q.bilateral border h)) _ (told (Q.bilateral border h) ∙ bilateral-given b h cleared low high border first last)
+      bilateral-as : response (Q.bilateral border h) .value ≡ executionBalance border (figuresAt b h .executions)
+      bilateral-as = number-of (response (Q.bilateral border h)) _ (told (Q.bilateral border h) ∙ ap shown (bilateral-given b h cleared low high border first last))
 
-      crossing-as : crossingAt b reply h border export ≡ M.crossing way (figuresAt b h .offers) (figuresAt b h .executions)
+      crossing-as : crossingAt b response h border export ≡ M.crossing way (figuresAt b h .offers) (figuresAt b h .executions)
       unfolding M.crossing
       crossing-as = ap₂ (λ m x. toward export (m +ℤ x)) market-as bilateral-as
 
-      uncut-as : uncutAt b reply h border export ≡ M.crossing way (figuresAt b h .offers) (M.executionsAt b h)
+      uncut-as : uncutAt b response h border export ≡ M.crossing way (figuresAt b h .offers) (M.executionsAt b h)
       unfolding M.crossing
       uncut-as = ap (λ m. toward export (m +ℤ executionBalance border (M.executionsAt b h))) market-as
 
-      cut-units : Some (IsCut b reply h border export) (b .units) → Some (M.UnitCut b way h) (b .units)
+      cut-units : Some (IsCut b response h border export) (b .units) → Some (M.UnitCut b way h) (b .units)
       cut-units cut = some-all (λ r w e. record { border = w .there; purchase = w .way; less = omega (arith, w .less, e) }) cut executed-as
 
-      units-cut : Some (M.UnitCut b way h) (b .units) → Some (IsCut b reply h border export) (b .units)
+      units-cut : Some (M.UnitCut b way h) (b .units) → Some (IsCut b response h border export) (b .units)
       units-cut cut = some-all (λ r w e. record { there = w .border; way = w .purchase; less = omega (arith, w .less, e) }) cut executed-as
 
-      carried : M.Kept way (figuresAt b h .offers) (M.executionsAt b h) (figuresAt b h .executions) → Carried b reply h border export capacity
+      carried : M.Kept way (figuresAt b h .offers) (M.executionsAt b h) (figuresAt b h .executions) → Carried b response h border export capacity
       carried k = record {
         within = rw crossing-as (k .within);
         cut = (
@@ -122,22 +122,22 @@ module _ (b : Book) (s : R.Sound b) (reply : Q.Query → Reply) (told : (q : Q.Q
         share = k;
       }
 
-    holds : Holds b reply h
+    holds : Holds b response h
     holds = record {
       balanced = units-sum false ∙ (units-balanced b s h ∙ sym (units-sum true));
       ceilings = ceilings-all;
       borders = λ border export es first last e. carried border export (hourly es h) first last (hour .borders border export es first last e);
     }
 
-pub demand-3 : Demanded
-demand-3 d o cs t rs reply p ran asked =
+pub session-demand-3 : Demanded
+session-demand-3 d o cs t rs response p ran asked =
     let a = day-book d o p ran in
     let b = D.after (D.opening d .book) cs in
-    let told : (q : Q.Query) → replyIn (reply q) ≡ Q.query b q = λ q. asked q b (a .sound) (a .session) in
+    let told : (q : Q.Query) → response q ≡ shown (Q.query b q) = λ q. asked q b (a .sound) (a .session) in
     record {
       answers = a .answers;
       figures = told;
       found = λ c. closing-found d cs c;
-      closing = λ c. judged-all b (a .sound .ranges) reply told c;
-      clearing = λ c h low high. holds b (a .sound .ranges) reply told h c low high;
+      closing = λ c. judged-all b (a .sound .ranges) response told c;
+      clearing = λ c h low high. holds b (a .sound .ranges) response told h c low high;
     }

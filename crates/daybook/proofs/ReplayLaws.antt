@@ -15,15 +15,17 @@ use Rattle.rules.specs.Book.{Book}
 use Rattle.rules.specs.DayBook as D
 use Rattle.rules.specs.Sound.{WellTyped}
 use Rattle.rules.proofs.BoolLaws.{by-bool, both}
+use Rattle.answer.specs.Told.{told}
+use Rattle.answer.specs.declared.Response.{Response}
 use Rattle.session.specs.Image.{image, Sound}
-use Rattle.session.specs.Steps.{Met, As, said, Opens}
+use Rattle.session.specs.Steps.{Met, As, Opens}
 use Rattle.session.specs.declared.Session.{Session}
 use Rattle.session.specs.declared.Turn.{Turn}
 use Rattle.session.specs.declared.Opened.{Opened}
 use Rattle.session.proofs.SoundLaws.{turn-sound}
 use Rattle.session.proofs.LaidLaws.{map-last}
 use Rattle.log.specs.Calls.{callOf, directionsOf, isCall, starts, sizeOf, firstCall, onward, callsIn, bytesIn, answerWord}
-use Rattle.daybook.specs.Replays.{RunsRecord, Replays, Running}
+use Rattle.daybook.specs.Replays.{RunsRecord, Replays, Running, wordOf}
 use Rattle.daybook.proofs.RunLaws.{other, notice-typed}
 use Rattle.daybook.proofs.CallLaws.{met-as}
 
@@ -142,17 +144,22 @@ module _ (log : List ℕ) (N n at : ℕ) (less : n < N) (whole : starts (drop at
   unfolding bytesIn
   bytes-next = rw (left, whole, rest)
 
+-- an answer is written down as the book's
+word-told : (word : ℕ) (a : Response) (t : D.Answer) → word ≡ answerWord a → a ≡ told t → word ≡ wordOf t
+unfolding wordOf
+word-told word a t e q = e ∙ ap answerWord q
+
 running-one : (b : Book) (log : List ℕ) (N : ℕ) (old : List ℕ) (s : Session) (at n : ℕ) (words : List ℕ) (word : ℕ) (r : Turn)
     → Running b log N old s at n words → n < length old → N ≡ length old → starts (drop at log) ≡ true → at + (3 + sizeOf (drop at log)) ≤ length log
-    → Met s (firstCall (drop at log)) r → word ≡ answerWord (said (r .answer))
+    → Met s (firstCall (drop at log)) r → word ≡ answerWord (r .answer)
     → Running b log N old (r .session) (at + (3 + sizeOf (drop at log))) (n + 1) (set words n word)
 unfolding firstCall
 running-one b log N old s at n words word r w less same whole fits met ew =
     let c = firstCall (drop at log) in
     let book = D.after b (w .done) in
     let m : As (D.turn book c) (r .answer) (r .session) = met .book book (w .sound) (w .session) in
-    let front = map answerWord (D.answers b (w .done)) in
-    let long : length front ≡ n = length-map (D.answers b (w .done)) answerWord ∙ (answers-many b (w .done) ∙ w .many) in
+    let front = map wordOf (D.answers b (w .done)) in
+    let long : length front ≡ n = length-map (D.answers b (w .done)) wordOf ∙ (answers-many b (w .done) ∙ w .many) in
     record {
       done = w .done ++ (c ∷ []);
       many = length-append (w .done) (c ∷ []) ∙ omega (arith, w .many);
@@ -163,14 +170,14 @@ running-one b log N old s at n words word r w less same whole fits met ew =
       sound = rw (after-last b (w .done) c) (turn-sound book c (logged-typed _ _) (w .sound));
       session = rw (after-last b (w .done) c) (m .session);
       answers =
-          rw (w .answers, answers-last b (w .done) c, map-last answerWord (D.answers b (w .done)) (D.turn book c .answer), ← (m .answer), ← ew)
+          rw (w .answers, answers-last b (w .done) c, map-last wordOf (D.answers b (w .done)) (D.turn book c .answer), ← (word-told word (r .answer) (D.turn book c .answer) ew (m .answer)))
           (set-behind front old n word long less);
     }
 
 pub running-next : (b : Book) (log : List ℕ) (N : ℕ) (old : List ℕ) (s : Session) (at n : ℕ) (words : List ℕ) (k size word : ℕ) (p : List ℕ) (r : Turn)
     → Running b log N old s at n words → n < length old → N ≡ length old → starts (drop at log) ≡ true
     → k ≡ getD (drop at log) 0 0 → size ≡ sizeOf (drop at log) → p ≡ take size (drop 3 (drop at log)) → at + (3 + size) ≤ length log
-    → Met s (callOf k p) r → word ≡ answerWord (said (r .answer))
+    → Met s (callOf k p) r → word ≡ answerWord (r .answer)
     → Running b log N old (r .session) (at + (3 + size)) (n + 1) (set words n word)
 unfolding firstCall
 running-next b log N old s at n words k size word p r w less same whole ek es ep fits met ew =
@@ -193,7 +200,7 @@ pub running-on : (b : Book) (log : List ℕ) (old : List ℕ) (s : Session) (at 
     → Running b log (length old) old s at n words → n < length old → whole ≡ true → whole ≡ starts (drop at log)
     → (k ≡ getD (drop at log) 0 0) × (size ≡ sizeOf (drop at log)) × (at + (3 + size) ≤ length log)
     → to ≡ at + 3 + size → p ≡ take (to - (at + 3)) (drop (at + 3) log)
-    → RunsRecord s k p r → word ≡ answerWord (said (r .answer))
+    → RunsRecord s k p r → word ≡ answerWord (r .answer)
     → Running b log (length old) old (r .session) to (n + 1) (set words n word)
 running-on b log old s at n words whole k size to word p r w less is same head et ep runs ew =
     let e : at + 3 + size ≡ at + (3 + size) = omega arith in

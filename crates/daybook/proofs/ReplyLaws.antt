@@ -1,14 +1,14 @@
--- What the queries reply, on a session that stands for a book.
+-- What the queries respond, on a session that stands for a book.
 use Prim.Native.Nat.{ℕ, _≤_}
 use mathlib.Core.Path.{_≡_, refl, sym, ap, _∙_}
-use mathlib.Core.Bool.{true, false, _||_, false≢true}
+use mathlib.Core.Bool.{true, false, cond, _||_, false≢true}
 use mathlib.Core.List.{List, [], _∷_}
 use native.Mathlib.Omega.{arith}
 use lib.Dec.{eqb, ltb}
 use lib.IntN.{ℤ, pos}
 use borrow.Author.Tests.{eq-eqb, ne-eqb, le-ltb}
 use Rattle.rules.specs.Lists.{All, none, more, Pairwise, empty, ahead, any, first, sum, sumOf}
-use Rattle.rules.specs.Refusals.{Outcome, refused, given, row, firstRow, unless, outcome}
+use Rattle.rules.specs.Refusals.{given, row, firstRow, unless, outcome}
 use Rattle.rules.specs.Hours.{notAnHour}
 use Rattle.rules.specs.Units.{Registered, hasNumber, unitOf, isRegistered, badNumber, badUnit}
 use Rattle.rules.specs.Book.{Book, hours}
@@ -19,103 +19,60 @@ use Rattle.rules.specs.Queries as Q
 use Rattle.rules.proofs.BoolLaws.{by-bool, neither, of-neither}
 use Rattle.rules.proofs.ListLaws.{all-map}
 use Rattle.rules.proofs.ElementLaws.{all-both}
-use Rattle.queries.specs.Replies.{replyIn}
-use Rattle.queries.specs.declared.Reply.{Reply}
-use Rattle.queries.specs.declared.Reply.the-variants.{Refused, Accepted, Hidden, Limit, Number, Absent}
-use Rattle.daybook.specs.Demand3.{figureIn, energyIn, isAcceptance}
+use Rattle.answer.specs.Told.{shown, valueTold, verdictTold, hidden, limit}
+use Rattle.answer.specs.declared.Response.{Response}
+use Rattle.daybook.specs.Demand3.{energyIn, isAcceptance}
 
--- A reply is read off its outcome
+-- What a response shows
 
-abbrev figureOf : Outcome Q.Shown → ℤ
-figureOf (refused n h) = pos 0
-figureOf (given (Q.judged v)) = pos 0
-figureOf (given (Q.number z)) = z
-figureOf (given Q.absent) = pos 0
+module _ (r : Response) where
+  pub number-of : (z : ℤ) → r ≡ shown (given (Q.number z)) → r .value ≡ z
+  unfolding shown valueTold
+  number-of z e = ap (λ (x : Response). x .value) e
 
-figure-as : (r : Reply) → figureIn r ≡ figureOf (replyIn r)
-unfolding figureIn replyIn
-figure-as (Refused n h) = refl
-figure-as Accepted = refl
-figure-as Hidden = refl
-figure-as (Limit n h) = refl
-figure-as (Number z) = refl
-figure-as Absent = refl
+  pub energy-of : (n : ℕ) → r ≡ shown (given (Q.number (pos n))) → energyIn r ≡ n
+  unfolding energyIn positive
+  energy-of n e = rw (number-of (pos n) e)
 
-pub number-of : (r : Reply) (z : ℤ) → replyIn r ≡ given (Q.number z) → figureIn r ≡ z
-number-of r z e = figure-as r ∙ ap figureOf e
+acceptance-as : (v : C.Verdict) → isAcceptance (verdictTold v) ≡ C.isAccepted v
+unfolding isAcceptance verdictTold C.isAccepted
+acceptance-as C.accepted = refl
+acceptance-as C.hidden = refl
+acceptance-as (C.limit n h) = refl
 
-pub energy-of : (r : Reply) (n : ℕ) → replyIn r ≡ given (Q.number (pos n)) → energyIn r ≡ n
-unfolding energyIn positive
-energy-of r n e = rw (number-of r (pos n) e)
+-- a verdict is found again
+abbrev verdictOf : Response → C.Verdict
+verdictOf r = cond (eqb (r .kind) 0) C.accepted (cond (eqb (r .kind) 5) (C.limit (r .row) (r .hour)) C.hidden)
 
-abbrev verdictOf : Outcome Q.Shown → C.Verdict
-verdictOf (refused n h) = C.hidden
-verdictOf (given (Q.judged v)) = v
-verdictOf (given (Q.number z)) = C.hidden
-verdictOf (given Q.absent) = C.hidden
+verdict-back : (v : C.Verdict) → verdictOf (verdictTold v) ≡ v
+unfolding verdictTold
+verdict-back C.accepted = refl
+verdict-back C.hidden = refl
+verdict-back (C.limit n h) = refl
 
-acceptance-as : (r : Reply) → isAcceptance r ≡ C.isAccepted (verdictOf (replyIn r))
-unfolding isAcceptance replyIn C.isAccepted
-acceptance-as (Refused n h) = refl
-acceptance-as Accepted = refl
-acceptance-as Hidden = refl
-acceptance-as (Limit n h) = refl
-acceptance-as (Number z) = refl
-acceptance-as Absent = refl
+module _ (r : Response) (v : C.Verdict) (e : r ≡ shown (given (Q.judged v))) where
+  as-told : r ≡ verdictTold v
+  unfolding shown valueTold
+  as-told = e
 
-module _ (r : Reply) (v : C.Verdict) (e : replyIn r ≡ given (Q.judged v)) where
   pub acceptance-of : isAcceptance r ≡ C.isAccepted v
-  acceptance-of = acceptance-as r ∙ ap (λ (o : Outcome Q.Shown). C.isAccepted (verdictOf o)) e
+  acceptance-of = ap isAcceptance as-told ∙ acceptance-as v
 
-  pub limit-of : (n h : ℕ) → r ≡ Limit n h → v ≡ C.limit n h
-  unfolding replyIn
-  limit-of n h q = sym (ap verdictOf e) ∙ ap (λ (x : Reply). verdictOf (replyIn x)) q
+  pub limit-of : (n h : ℕ) → r ≡ limit n h → v ≡ C.limit n h
+  limit-of n h q = sym (verdict-back v) ∙ ap verdictOf (sym as-told ∙ q)
 
-  pub hidden-of : r ≡ Hidden → v ≡ C.hidden
-  unfolding replyIn
-  hidden-of q = sym (ap verdictOf e) ∙ ap (λ (x : Reply). verdictOf (replyIn x)) q
+  pub hidden-of : r ≡ hidden → v ≡ C.hidden
+  hidden-of q = sym (verdict-back v) ∙ ap verdictOf (sym as-told ∙ q)
 
--- only a hidden one is told as hidden
-abbrev isHiding : Outcome Q.Shown → ℕ
-isHiding (given (Q.judged C.hidden)) = 1
-isHiding (given (Q.judged C.accepted)) = 0
-isHiding (given (Q.judged (C.limit n h))) = 0
-isHiding (given (Q.number z)) = 0
-isHiding (given Q.absent) = 0
-isHiding (refused n h) = 0
+  pub of-hidden : v ≡ C.hidden → r ≡ hidden
+  unfolding verdictTold
+  of-hidden q = as-told ∙ ap verdictTold q
 
-pub of-hidden : (r : Reply) → replyIn r ≡ given (Q.judged C.hidden) → r ≡ Hidden
-unfolding replyIn
-of-hidden Hidden e = refl
-of-hidden (Refused n h) e = let z : _≡_ {A = ℕ} 0 1 = ap isHiding e in absurd (omega arith)
-of-hidden Accepted e = let z : _≡_ {A = ℕ} 0 1 = ap isHiding e in absurd (omega arith)
-of-hidden (Limit n h) e = let z : _≡_ {A = ℕ} 0 1 = ap isHiding e in absurd (omega arith)
-of-hidden (Number y) e = let z : _≡_ {A = ℕ} 0 1 = ap isHiding e in absurd (omega arith)
-of-hidden Absent e = let z : _≡_ {A = ℕ} 0 1 = ap isHiding e in absurd (omega arith)
-
--- and only a limit as that limit
-abbrev isLimiting : Outcome Q.Shown → ℕ
-isLimiting (given (Q.judged (C.limit n h))) = 1
-isLimiting (given (Q.judged C.hidden)) = 0
-isLimiting (given (Q.judged C.accepted)) = 0
-isLimiting (given (Q.number z)) = 0
-isLimiting (given Q.absent) = 0
-isLimiting (refused n h) = 0
-
-of-limit : (r : Reply) (n h : ℕ) → replyIn r ≡ given (Q.judged (C.limit n h)) → r ≡ Limit n h
-unfolding replyIn
-of-limit (Limit m k) n h e = cc
-of-limit (Refused m k) n h e = let z : _≡_ {A = ℕ} 0 1 = ap isLimiting e in absurd (omega arith)
-of-limit Accepted n h e = let z : _≡_ {A = ℕ} 0 1 = ap isLimiting e in absurd (omega arith)
-of-limit Hidden n h e = let z : _≡_ {A = ℕ} 0 1 = ap isLimiting e in absurd (omega arith)
-of-limit (Number y) n h e = let z : _≡_ {A = ℕ} 0 1 = ap isLimiting e in absurd (omega arith)
-of-limit Absent n h e = let z : _≡_ {A = ℕ} 0 1 = ap isLimiting e in absurd (omega arith)
-
-pub told-limit : (r : Reply) (v : C.Verdict) → replyIn r ≡ given (Q.judged v) → C.isAccepted v ≡ false → (v ≡ C.hidden → ⊥) → (n : ℕ) × (h : ℕ) × (r ≡ Limit n h)
-unfolding C.isAccepted
+pub told-limit : (r : Response) (v : C.Verdict) → r ≡ shown (given (Q.judged v)) → C.isAccepted v ≡ false → (v ≡ C.hidden → ⊥) → (n : ℕ) × (h : ℕ) × (r ≡ limit n h)
+unfolding C.isAccepted shown valueTold verdictTold
 told-limit r C.accepted e a h = absurd (false≢true (sym a))
 told-limit r C.hidden e a h = absurd (h refl)
-told-limit r (C.limit n k) e a h = (n, k, of-limit r n k e)
+told-limit r (C.limit n k) e a h = (n, k, e)
 
 -- Elements of a list by their number
 

@@ -9,6 +9,7 @@ use Rattle.rules.specs.Units.{Capacities}
 use Rattle.rules.specs.Book as B
 use Rattle.rules.specs.DayBook as D
 use Rattle.rules.specs.Sound.{WellTyped}
+use Rattle.answer.specs.declared.Response.{Response}
 use Rattle.session.specs.Image.{image, Sound, publishedIn}
 use Rattle.session.specs.Steps.{Met, As, Opens}
 use Rattle.session.specs.declared.Session.{Session}
@@ -46,8 +47,8 @@ notice-typed cs h = record { directions = λ ds e. ap (λ (c : D.Call). length (
 -- what the calls' types give
 called-typed : {s : Session} {c : D.Call} {r : Turn} → Called s c r → WellTyped c
 called-typed (registers u m) = other _ refl
-called-typed (notifies ps h m) = notice-typed _ (length-map ps publishedIn ∙ h)
-called-typed (avails n k es m) = other _ refl
+called-typed (notifies n h m) = notice-typed _ (length-map (n .directions) publishedIn ∙ h)
+called-typed (avails n m) = other _ refl
 called-typed (lodges bytes m) = other _ refl
 called-typed (annuls k m) = other _ refl
 called-typed (closes m) = other _ refl
@@ -55,22 +56,22 @@ called-typed (clears m) = other _ refl
 
 called-met : {s : Session} {c : D.Call} {r : Turn} → Called s c r → Met s c r
 called-met (registers u m) = m
-called-met (notifies ps h m) = m
-called-met (avails n k es m) = m
+called-met (notifies n h m) = m
+called-met (avails n m) = m
 called-met (lodges bytes m) = m
 called-met (annuls k m) = m
 called-met (closes m) = m
 called-met (clears m) = m
 
 -- from a session that stands for a sound book
-pub agree : {s t : Session} {cs : List D.Call} {rs : List D.Answer} (b : B.Book) → Sound b → s ≡ image b → Ran s cs t rs → Agrees b cs t rs
+pub agree : {s t : Session} {cs : List D.Call} {rs : List Response} (b : B.Book) → Sound b → s ≡ image b → Ran s cs t rs → Agrees b cs t rs
 unfolding D.after D.answers
 agree b g e ended = record { sound = g; session = e; answers = refl }
 agree b g e (then {c = c} {r = r} k ran) =
     let m : As (D.turn b c) (r .answer) (r .session) = called-met k .book b g e in
     let rest = agree (D.turn b c .book) (turn-sound b c (called-typed k) g) (m .session) ran in
-    record { sound = rest .sound; session = rest .session; answers = ap₂ (λ (a : D.Answer) (l : List D.Answer). a ∷ l) (m .answer) (rest .answers) }
+    record { sound = rest .sound; session = rest .session; answers = ap₂ (λ (a : Response) (l : List Response). a ∷ l) (m .answer) (rest .answers) }
 
 -- from opening
-pub day-book : (d : Date) (o : Opened) {t : Session} {cs : List D.Call} {rs : List D.Answer} → Opens d o → Ran (o .session) cs t rs → Agrees (D.opening d .book) cs t rs
+pub day-book : (d : Date) (o : Opened) {t : Session} {cs : List D.Call} {rs : List Response} → Opens d o → Ran (o .session) cs t rs → Agrees (D.opening d .book) cs t rs
 day-book d o p ran = agree (D.opening d .book) (opening-sound d) (p .session) ran

@@ -4,8 +4,9 @@ use Prim.Native.Nat.{ℕ, _+_, _≤_, _<_}
 use mathlib.Core.Path.{_≡_}
 use mathlib.Core.Logic.{_↔_}
 use mathlib.Core.Bool.{Bool, true, false, Bool·beq}
-use mathlib.Core.List.{List}
+use mathlib.Core.List.{List, map}
 use mathlib.Core.Option.{some}
+use lib.Dec.{eqb}
 use lib.IntN.{ℤ, pos, _+ℤ_}
 use lib.Signed.{_≤ℤ_, _<ℤ_}
 use Rattle.rules.specs.Lists.{All, Some, keep, sumOf, hourly}
@@ -18,68 +19,55 @@ use Rattle.rules.specs.Queries as Q
 use Rattle.rules.specs.DayBook as D
 use Rattle.rules.specs.Demands.{ClosedIn, Passes, ChosenAt, Kept, executionsAt, acceptedExecuted}
 use Rattle.rules.specs.Clearing.{figuresAt}
+use Rattle.answer.specs.Told.{told, shown, hidden, limit}
+use Rattle.answer.specs.declared.Response.{Response}
 use Rattle.session.specs.Steps.{Opens}
 use Rattle.session.specs.declared.Session.{Session}
 use Rattle.session.specs.declared.Opened.{Opened}
 use Rattle.daybook.specs.Runs.{Ran}
-use Rattle.queries.specs.Replies.{replyIn, Answered}
-use Rattle.queries.specs.declared.Reply.{Reply}
-use Rattle.queries.specs.declared.Reply.the-variants.{Refused, Accepted, Hidden, Limit, Number, Absent}
+use Rattle.queries.specs.Replies.{Answered}
 
 -- What the session's queries reply: a reply for each query, of which that query's own contract holds. (A number that no
 -- function's argument can hold is a query here too; the claim is then wider, and such a reply can be had from the book.)
-abbrev pub Asked : Session → (Q.Query → Reply) → Type 0
-Asked t reply = (q : Q.Query) → Answered t q (reply q)
+abbrev pub Asked : Session → (Q.Query → Response) → Type 0
+Asked t response = (q : Q.Query) → Answered t q (response q)
 
--- the figure of a reply, and one that is an energy
-unfoldable pub figureIn : Reply → ℤ
-figureIn (Number z) = z
-figureIn (Refused n h) = pos 0
-figureIn Accepted = pos 0
-figureIn Hidden = pos 0
-figureIn (Limit n h) = pos 0
-figureIn Absent = pos 0
+-- a figure that is an energy
+unfoldable pub energyIn : Response → ℕ
+energyIn r = positive (r .value)
 
-unfoldable pub energyIn : Reply → ℕ
-energyIn r = positive (figureIn r)
+unfoldable pub isAcceptance : Response → Bool
+isAcceptance r = eqb (r .kind) 0
 
-unfoldable pub isAcceptance : Reply → Bool
-isAcceptance Accepted = true
-isAcceptance (Refused n h) = false
-isAcceptance Hidden = false
-isAcceptance (Limit n h) = false
-isAcceptance (Number z) = false
-isAcceptance Absent = false
-
-module _ (b : Book) (reply : Q.Query → Reply) where
+module _ (b : Book) (response : Q.Query → Response) where
   -- Closing: the reply to the query of a standing lodgement's verdict
   pub record Judged (l : Lodgement) : Type 0 where
     -- "an unhidden lodgement standing at closing was refused there exactly when, in an hour it names, its energy with that
     -- accepted before it on its unit passes the ceiling"
-    pub exactly : isHidden (b .standing) l ≡ false → (isAcceptance (reply (Q.verdict (l .number))) ≡ false) ↔ ((h : ℕ) × Passes b l h)
+    pub exactly : isHidden (b .standing) l ≡ false → (isAcceptance (response (Q.verdict (l .number))) ≡ false) ↔ ((h : ℕ) × Passes b l h)
     -- one that was refused is told so by a limit and an hour,
-    pub refused : isHidden (b .standing) l ≡ false → isAcceptance (reply (Q.verdict (l .number))) ≡ false → (n : ℕ) × (h : ℕ) × (reply (Q.verdict (l .number)) ≡ Limit n h)
+    pub refused : isHidden (b .standing) l ≡ false → isAcceptance (response (Q.verdict (l .number))) ≡ false → (n : ℕ) × (h : ℕ) × (response (Q.verdict (l .number)) ≡ limit n h)
     -- the first limit passed and the lowest hour in which it is
-    pub chosen : (n h : ℕ) → reply (Q.verdict (l .number)) ≡ Limit n h → ChosenAt b l n h
+    pub chosen : (n h : ℕ) → response (Q.verdict (l .number)) ≡ limit n h → ChosenAt b l n h
     -- a hidden one is told so, and no other
-    pub hiding : (reply (Q.verdict (l .number)) ≡ Hidden) ↔ (isHidden (b .standing) l ≡ true)
+    pub hiding : (response (Q.verdict (l .number)) ≡ hidden) ↔ (isHidden (b .standing) l ≡ true)
 
   -- Clearing, in an hour
   module _ (h : ℕ) where
     -- what the queries reply of a unit
     abbrev pub matchedOf : Registered → ℕ
-    matchedOf r = energyIn (reply (Q.matched (r .unit .number) h))
+    matchedOf r = energyIn (response (Q.matched (r .unit .number) h))
 
     abbrev pub executedOf : Registered → ℕ
-    executedOf r = energyIn (reply (Q.executed (r .unit .number) h))
+    executedOf r = energyIn (response (Q.executed (r .unit .number) h))
 
     -- "Market plus bilateral balance" at a border, seen in a direction
     abbrev pub crossingAt : ℕ → Bool → ℤ
-    crossingAt border export = toward export (figureIn (reply (Q.market border h)) +ℤ figureIn (reply (Q.bilateral border h)))
+    crossingAt border export = toward export (response (Q.market border h) .value +ℤ response (Q.bilateral border h) .value)
 
     -- "The sum with none cut is the final market balance plus that of all accepted executions, negated for import."
     abbrev pub uncutAt : ℕ → Bool → ℤ
-    uncutAt border export = toward export (figureIn (reply (Q.market border h)) +ℤ executionBalance border (executionsAt b h))
+    uncutAt border export = toward export (response (Q.market border h) .value +ℤ executionBalance border (executionsAt b h))
 
     -- "Some execution there in a direction is cut": a unit there and in that direction executes less than was accepted
     pub record IsCut (border : ℕ) (export : Bool) (r : Registered) : Type 0 where
@@ -108,21 +96,21 @@ module _ (b : Book) (reply : Q.Query → Reply) where
           → Carried border export (hourly es h)
 
 -- What holds after some calls from a book; `D.after start cs` is the book after them.
-pub record Demand3 (start : Book) (cs : List D.Call) (rs : List D.Answer) (reply : Q.Query → Reply) : Type 0 where
+pub record Demand3 (start : Book) (cs : List D.Call) (rs : List Response) (response : Q.Query → Response) : Type 0 where
   -- "every answer [..] is that of document 01's day book"
-  pub answers : rs ≡ D.answers start cs
+  pub answers : rs ≡ map told (D.answers start cs)
   -- "and each verdict and figure at the list's end"
-  pub figures : (q : Q.Query) → replyIn (reply q) ≡ Q.query (D.after start cs) q
+  pub figures : (q : Q.Query) → response q ≡ shown (Q.query (D.after start cs) q)
   -- "Demand 3's ceilings and published capacities [..] are by the book's notices at closing; the lodgements it has then are
   -- those standing at closing": the book at the list's end still holds what the call that closed it found
   pub found : D.after start cs .closed ≡ true → ClosedIn start cs
   -- "If closing was accepted"
-  pub closing : D.after start cs .closed ≡ true → All (Judged (D.after start cs) reply) (D.after start cs .standing)
+  pub closing : D.after start cs .closed ≡ true → All (Judged (D.after start cs) response) (D.after start cs .standing)
   -- "If clearing was accepted too, all that follows holds in each hour."
-  pub clearing : D.after start cs .cleared ≡ true → (h : ℕ) → 1 ≤ h → h ≤ hours (D.after start cs) → Holds (D.after start cs) reply h
+  pub clearing : D.after start cs .cleared ≡ true → (h : ℕ) → 1 ≤ h → h ≤ hours (D.after start cs) → Holds (D.after start cs) response h
 
 -- Demand 3: for every date and list of calls, from the session that opening gave, each call on the session the last one left,
--- and whatever the queries of the session at the list's end reply
+-- and whatever the queries of the session at the list's end response
 abbrev pub Demanded : Type 0
-Demanded = (d : Date) (o : Opened) (cs : List D.Call) (t : Session) (rs : List D.Answer) (reply : Q.Query → Reply)
-    → Opens d o → Ran (o .session) cs t rs → Asked t reply → Demand3 (D.opening d .book) cs rs reply
+Demanded = (d : Date) (o : Opened) (cs : List D.Call) (t : Session) (rs : List Response) (response : Q.Query → Response)
+    → Opens d o → Ran (o .session) cs t rs → Asked t response → Demand3 (D.opening d .book) cs rs response

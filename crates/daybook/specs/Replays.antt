@@ -9,12 +9,17 @@ use Rattle.rules.specs.Hours.{Date}
 use Rattle.rules.specs.Book.{Book}
 use Rattle.rules.specs.DayBook as D
 use Rattle.session.specs.Image.{image, Sound}
-use Rattle.session.specs.Steps.{Met, said}
+use Rattle.answer.specs.Told.{told}
+use Rattle.session.specs.Steps.{Met}
 use Rattle.session.specs.Parts.{refusedWith}
 use Rattle.session.specs.declared.Turn.{Turn}
 use Rattle.session.specs.declared.Session.{Session}
 use Rattle.log.specs.Calls.{isCall, callOf, callsIn, bytesIn, answerWord}
 use Rattle.daybook.specs.declared.Replayed.{Replayed}
+
+-- an answer of the book as it is written down
+unfoldable pub wordOf : D.Answer → ℕ
+wordOf a = answerWord (told a)
 
 -- of one record: the call's own promise, or a refusal
 pub record RunsRecord (s : Session) (kind : ℕ) (p : List ℕ) (r : Turn) : Type 0 where
@@ -24,13 +29,13 @@ pub record RunsRecord (s : Session) (kind : ℕ) (p : List ℕ) (r : Turn) : Typ
 -- of a date, a log, room for N answers, what stood there and what stands there now
 pub record Replays (d : Date) (log : List ℕ) (N : ℕ) (old words : List ℕ) (r : Replayed) : Type 0 where
   -- the date's answer
-  pub opened : said (r .opened) ≡ D.opening d .answer
+  pub opened : r .opened ≡ told (D.opening d .answer)
   -- how many calls were run, as many as there is room for, and the bytes of their records
   pub calls : r .calls ≡ length (callsIn N log)
   pub read : r .read ≡ bytesIn N log
   -- the session stands for the day book, and every answer is the book's
   pub session : r .session ≡ image (D.after (D.opening d .book) (callsIn N log))
-  pub answers : words ≡ map answerWord (D.answers (D.opening d .book) (callsIn N log)) ++ drop (r .calls) old
+  pub answers : words ≡ map wordOf (D.answers (D.opening d .book) (callsIn N log)) ++ drop (r .calls) old
 
 -- some of the calls were run, from a session that stands for a book: n of them, their records ending at `at`
 pub record Running (b : Book) (log : List ℕ) (N : ℕ) (old : List ℕ) (s : Session) (at n : ℕ) (words : List ℕ) : Type 0 where
@@ -42,4 +47,4 @@ pub record Running (b : Book) (log : List ℕ) (N : ℕ) (old : List ℕ) (s : S
   pub bytes : bytesIn N log ≡ at + bytesIn (N - n) (drop at log)
   pub sound : Sound (D.after b done)
   pub session : s ≡ image (D.after b done)
-  pub answers : words ≡ map answerWord (D.answers b done) ++ drop n old
+  pub answers : words ≡ map wordOf (D.answers b done) ++ drop n old

@@ -1,39 +1,42 @@
 -- Lists of calls on a session, each on the session that the last one left.
 use mathlib.Core.Path.{_≡_}
-use mathlib.Core.List.{List, [], _∷_}
+use mathlib.Core.List.{List, [], _∷_, map}
 use Prim.Native.Nat.{ℕ}
 use lib.ListN.{length}
 use Rattle.rules.specs.Book as B
 use Rattle.rules.specs.DayBook as D
-use Rattle.session.specs.Laid.{counted}
-use Rattle.session.specs.Image.{image, Sound, unitIn, keyIn, capacitiesIn}
-use Rattle.session.specs.Steps.{Met, said}
+use Rattle.answer.specs.Told.{told}
+use Rattle.answer.specs.declared.Response.{Response}
+use Rattle.session.specs.Image.{image, Sound, unitIn, keyIn}
+use Rattle.session.specs.Steps.{Met}
 use Rattle.session.specs.declared.Session.{Session}
 use Rattle.session.specs.declared.Turn.{Turn}
 use Rattle.session.specs.declared.Unit.{Unit}
 use Rattle.session.specs.declared.Key.{Key}
-use Rattle.session.specs.declared.Published.{Published}
+use Rattle.notices.specs.Notices.{availableIn}
+use Rattle.notices.specs.declared.Availability.{Availability}
+use Rattle.capacities.specs.Capacities.{capacityIn}
+use Rattle.capacities.specs.declared.Capacities.{Capacities}
 
--- A call was made, with its arguments and what it gave: each premise is the function's own contract (a capacity notice comes in
--- an array of eight), and the call is what the book is fed.
+-- A call was made, with its arguments and what it gave, by value or on a lent session: each premise is the function's own contract (a
+-- capacity notice comes in an array of eight), and the call is what the book is fed.
 pub data Called (s : Session) : D.Call → Turn → Type 0 where
   registers : (u : Unit) {r : Turn} → Met s (D.register (unitIn u)) r → Called s (D.register (unitIn u)) r
-  notifies : (ps : List Published) {r : Turn} → length ps ≡ 8 → Met s (D.capacity (capacitiesIn ps)) r → Called s (D.capacity (capacitiesIn ps)) r
-  avails : (number count : ℕ) (energies : List ℕ) {r : Turn} → Met s (D.available number (counted count energies)) r
-      → Called s (D.available number (counted count energies)) r
+  notifies : (n : Capacities) {r : Turn} → length (n .directions) ≡ 8 → Met s (capacityIn n) r → Called s (capacityIn n) r
+  avails : (n : Availability) {r : Turn} → Met s (availableIn n) r → Called s (availableIn n) r
   lodges : (message : List ℕ) {r : Turn} → Met s (D.lodge message) r → Called s (D.lodge message) r
   annuls : (key : Key) {r : Turn} → Met s (D.annul (keyIn key)) r → Called s (D.annul (keyIn key)) r
   closes : {r : Turn} → Met s D.close r → Called s D.close r
   clears : {r : Turn} → Met s D.clear r → Called s D.clear r
 
 -- "each call on the session the last one left": the calls, the session at the list's end, and every answer
-pub data Ran : Session → List D.Call → Session → List D.Answer → Type 0 where
+pub data Ran : Session → List D.Call → Session → List Response → Type 0 where
   ended : {s : Session} → Ran s [] s []
-  then : {s t : Session} {c : D.Call} {r : Turn} {cs : List D.Call} {rs : List D.Answer}
-      → Called s c r → Ran (r .session) cs t rs → Ran s (c ∷ cs) t (said (r .answer) ∷ rs)
+  then : {s t : Session} {c : D.Call} {r : Turn} {cs : List D.Call} {rs : List Response}
+      → Called s c r → Ran (r .session) cs t rs → Ran s (c ∷ cs) t (r .answer ∷ rs)
 
 -- "every answer [..] is that of document 01's day book", and the session at the list's end stands for the book
-pub record Agrees (b : B.Book) (cs : List D.Call) (t : Session) (rs : List D.Answer) : Type 0 where
+pub record Agrees (b : B.Book) (cs : List D.Call) (t : Session) (rs : List Response) : Type 0 where
   pub sound : Sound (D.after b cs)
   pub session : t ≡ image (D.after b cs)
-  pub answers : rs ≡ D.answers b cs
+  pub answers : rs ≡ map told (D.answers b cs)

@@ -8,16 +8,18 @@ ghost use Rattle.calendar.specs.View.{dateIn};
 ghost use Rattle.session.specs.Steps.{Met};
 ghost use Rattle.log.specs.Calls.{callOf, starts, sizeOf};
 ghost use Rattle.daybook.specs.Replays.{RunsRecord, Replays};
+use answer::Response;
 use bits::byte_at;
 use calendar::Date;
-use session::Answer;
+use capacities::Capacities;
+use notices::Availability;
 use session::Session;
 use session::Turn;
 
 // A log run: the date's answer, the session at its end, how many calls were run and the bytes of their records. Fewer bytes
 // than the log has: there was room for no more answers, or what follows is no call.
 pub struct Replayed {
-    pub opened: Answer,
+    pub opened: Response,
     pub session: Session,
     pub calls: usize,
     pub read: usize,
@@ -43,16 +45,22 @@ fn run_capacity(s: Session, p: &[u8]) -> Turn
     ensures { λ r. ⌜ Met s (callOf 2 (now (p .entry))) r ⌝ }
 {
     let directions = log::directions_of(p);
-    capacities::capacity(s, directions)
+    let notice = Capacities { directions };
+    capacities::capacity(s, notice)
 }
 
 fn run_available(s: Session, p: &[u8]) -> Turn
     ensures { λ r. ⌜ Met s (callOf 3 (now (p .entry))) r ⌝ }
 {
-    let number = log::number_at(p, 0);
+    let unit = log::number_at(p, 0);
     let count = log::number_at(p, 4) as usize;
     let energies = log::numbers_at(p, 8);
-    notices::available(s, number, count, energies)
+    let notice = Availability {
+        unit,
+        count,
+        energies,
+    };
+    notices::available(s, notice)
 }
 
 fn run_annul(s: Session, p: &[u8]) -> Turn

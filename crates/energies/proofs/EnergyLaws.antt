@@ -7,11 +7,10 @@ use native.Mathlib.Omega.{arith}
 use lib.IntN.{pos}
 use lib.ListN.{getD, length-map}
 use borrow.Author.Tests.{eqb-true, lt-ltb}
-use Rattle.rules.specs.Refusals.{given}
 use Rattle.rules.specs.Units as U
 use Rattle.rules.specs.Book.{Book}
 use Rattle.rules.specs.Queries as Q
-use Rattle.rules.specs.Queries.{number, shown, matchedAt, executedAt}
+use Rattle.rules.specs.Queries.{shown, matchedAt, executedAt}
 use Rattle.rules.proofs.ListLaws.{first-passes}
 use Rattle.session.specs.Image.{image, Sound, byUnit, figuresAs}
 use Rattle.session.specs.Parts.{placeOf}
@@ -19,9 +18,8 @@ use Rattle.session.specs.declared.Session.{Session}
 use Rattle.session.specs.declared.Cleared.{Cleared}
 use Rattle.session.proofs.PlaceLaws.{placed, place-first, getD-map}
 use Rattle.session.proofs.ImageLaws.{registered-at, place-as}
-use Rattle.queries.specs.Replies.{replyIn}
+use Rattle.answer.specs.Told.{valueTold, figure}
 use Rattle.queries.specs.Parts.{HourFits, figuresIn}
-use Rattle.queries.specs.declared.Reply.the-variants.{Number}
 use Rattle.queries.proofs.FigureLaws.{pad-at, figures-as}
 use Rattle.energies.specs.Parts.{UnitFits}
 
@@ -54,14 +52,14 @@ module _ (s : Session) (hour : ℕ) (x : Cleared) (is : x ≡ figuresIn s hour) 
   the-figures f = is ∙ figures-as s b e f
 
   module _ (unit at : ℕ) (f : UnitFits s unit at hour) where
-    pub matched-shown : replyIn (Number (pos (getD (x .matched) at 0))) ≡ given (shown b (Q.matched unit hour))
-    unfolding replyIn shown figuresAs
+    pub matched-shown : figure (pos (getD (x .matched) at 0)) ≡ valueTold (shown b (Q.matched unit hour))
+    unfolding valueTold shown figuresAs
     matched-shown =
-        ap (λ m. given (number (pos m)))
+        ap (λ m. figure (pos m))
         (ap (λ y. getD (y .matched) at 0) (the-figures (f .hours)) ∙ unit-figure s b e (λ u. matchedAt b u hour) f)
 
-    pub executed-shown : replyIn (Number (pos (getD (x .executed) at 0))) ≡ given (shown b (Q.executed unit hour))
-    unfolding replyIn shown figuresAs
+    pub executed-shown : figure (pos (getD (x .executed) at 0)) ≡ valueTold (shown b (Q.executed unit hour))
+    unfolding valueTold shown figuresAs
     executed-shown =
-        ap (λ m. given (number (pos m)))
+        ap (λ m. figure (pos m))
         (ap (λ y. getD (y .executed) at 0) (the-figures (f .hours)) ∙ unit-figure s b e (λ u. executedAt b u hour) f)

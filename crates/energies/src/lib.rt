@@ -4,10 +4,11 @@ ghost use Rattle.rules.specs.Queries as Q;
 ghost use Rattle.queries.specs.Replies.{Answered};
 ghost use Rattle.queries.specs.Parts.{Judges, figuresIn};
 ghost use Rattle.energies.specs.Parts.{UnitFits, UnitFound};
-use queries::Reply;
+use answer::Response;
+use answer::number;
+use answer::refused;
 use queries::figures_at;
 use queries::judge_hour;
-use queries::number;
 use session::Cleared;
 use session::Judged;
 use session::NO_UNIT;
@@ -46,13 +47,13 @@ fn judge_unit(s: Session, at: usize, unit: u32, hour: u32) -> Judged
 }
 
 // "a unit's matched [..] energy in an hour", from the hour's figures and the unit's place: 2, 4, 5, 6.
-pub fn matched_from(s: Session, x: Cleared, at: usize, unit: u32, hour: u32) -> Reply
+pub fn matched_from(s: Session, x: Cleared, at: usize, unit: u32, hour: u32) -> Response
     requires { ⌜ (x ≡ figuresIn s hour) × UnitFound s unit at ⌝ }
     ensures { λ r. ⌜ Answered s (Q.matched unit hour) r ⌝ }
 {
     let j = judge_unit(s, at, unit, hour);
     if let Judged::No(row, of) = j {
-        return Reply::Refused(row, of);
+        return refused(row, of);
     }
     let energies = x.matched;
     let matched = energies[at];
@@ -60,7 +61,7 @@ pub fn matched_from(s: Session, x: Cleared, at: usize, unit: u32, hour: u32) -> 
 }
 
 // "a unit's matched [..] energy in an hour": 2, 4, 5, 6.
-pub fn matched(s: Session, unit: u32, hour: u32) -> Reply
+pub fn matched(s: Session, unit: u32, hour: u32) -> Response
     ensures { λ r. ⌜ Answered s (Q.matched unit hour) r ⌝ }
 {
     let x = figures_at(s, hour);
@@ -69,13 +70,13 @@ pub fn matched(s: Session, unit: u32, hour: u32) -> Reply
 }
 
 // "and executed energy", from the hour's figures and the unit's place: 2, 4, 5, 6.
-pub fn executed_from(s: Session, x: Cleared, at: usize, unit: u32, hour: u32) -> Reply
+pub fn executed_from(s: Session, x: Cleared, at: usize, unit: u32, hour: u32) -> Response
     requires { ⌜ (x ≡ figuresIn s hour) × UnitFound s unit at ⌝ }
     ensures { λ r. ⌜ Answered s (Q.executed unit hour) r ⌝ }
 {
     let j = judge_unit(s, at, unit, hour);
     if let Judged::No(row, of) = j {
-        return Reply::Refused(row, of);
+        return refused(row, of);
     }
     let energies = x.executed;
     let executed = energies[at];
@@ -83,7 +84,7 @@ pub fn executed_from(s: Session, x: Cleared, at: usize, unit: u32, hour: u32) ->
 }
 
 // "and executed energy": 2, 4, 5, 6.
-pub fn executed(s: Session, unit: u32, hour: u32) -> Reply
+pub fn executed(s: Session, unit: u32, hour: u32) -> Response
     ensures { λ r. ⌜ Answered s (Q.executed unit hour) r ⌝ }
 {
     let x = figures_at(s, hour);

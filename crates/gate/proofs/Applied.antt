@@ -35,12 +35,12 @@ use denote.Triple.Spec.{Meets, tripleOf}
 use denote.Triple.Walked.{says, Stays, gave-ref, walkOf, AllGo, goes-gave-ref, Walks, ends-at, walked, walk-meets}
 use denote.Exit.{yes}
 use Rattle.session.specs.declared.Session.{Session}
-use Rattle.response.specs.Effects.{Stepped}
-use Rattle.told.specs.declared.Response.{Response}
+use Rattle.session.specs.declared.Turn.{Turn}
+use Rattle.answer.specs.declared.Response.{Response}
 use Rattle.session.proofs.Session as T
 use Rattle.session.proofs.Session.Laws as T′
-use Rattle.told.proofs.Response as N
-use Rattle.told.proofs.Response.Laws as N′
+use Rattle.answer.proofs.Response as N
+use Rattle.answer.proofs.Response.Laws as N′
 use Rattle.gate.proofs.Passing.{Passed, row, Laws}
 
 -- what a step returns: a type with its laws, the session that storing it leaves, and its response
@@ -48,11 +48,11 @@ pub record Change : Type 2 where
   pub type : Passed
   pub laws : Laws type
   pub left : Session → type .denot → Session
-  pub response : type .denot → Response
+  pub answer : type .denot → Response
 
 -- the session left, and the response
-abbrev pub stepped : (g : Change) → Session → g .type .denot → Stepped
-stepped g s r = record { session = g .left s r; response = g .response r }
+abbrev pub stepped : (g : Change) → Session → g .type .denot → Turn
+stepped g s r = record { session = g .left s r; answer = g .answer r }
 
 -- the signatures of such a function and of what it calls
 abbrev pub entry-ended : Ended
@@ -84,24 +84,24 @@ function g step settle = record {
 }
 
 -- its clauses, and those of what it calls, by what is promised
-abbrev pub entry-clauses : (Session → Stepped → Type 0) → {M : Type 1} (𝓤 : URA M) → Clauses 𝓤 entry-ended
-entry-clauses Good 𝓤 κs a = record { ghost = Unit {0}; requires = λ g. emp 𝓤; ensures = λ g r e. fact 𝓤 (Good (now (a .0)) (record { session = now (e .0); response = r })) }
+abbrev pub entry-clauses : (Session → Turn → Type 0) → {M : Type 1} (𝓤 : URA M) → Clauses 𝓤 entry-ended
+entry-clauses Good 𝓤 κs a = record { ghost = Unit {0}; requires = λ g. emp 𝓤; ensures = λ g r e. fact 𝓤 (Good (now (a .0)) (record { session = now (e .0); answer = r })) }
 
-abbrev pub step-clauses : (g : Change) → (Session → Stepped → Type 0) → {M : Type 1} (𝓤 : URA M) → Clauses 𝓤 (step-ended g)
+abbrev pub step-clauses : (g : Change) → (Session → Turn → Type 0) → {M : Type 1} (𝓤 : URA M) → Clauses 𝓤 (step-ended g)
 step-clauses g Good 𝓤 κs a = record { ghost = Unit {0}; requires = λ _. emp 𝓤; ensures = λ _ r e. fact 𝓤 (Good (a .0) (stepped g (a .0) r)) }
 
 abbrev pub settle-clauses : (g : Change) → {M : Type 1} (𝓤 : URA M) → Clauses 𝓤 (settle-ended g)
 settle-clauses g 𝓤 κs a = record {
   ghost = Unit {0};
   requires = λ _. emp 𝓤;
-  ensures = λ _ r e. fact 𝓤 ((now (e .0) ≡ g .left (now (a .0)) (a .1 .0)) × (r ≡ g .response (a .1 .0)));
+  ensures = λ _ r e. fact 𝓤 ((now (e .0) ≡ g .left (now (a .0)) (a .1 .0)) × (r ≡ g .answer (a .1 .0)));
 }
 
 abbrev stayed : Stays (entry-ended .signature .params) (entry-ended .kept)
 stayed = (gave-ref (0 ∷ []) tt (plain (λ _. T.the-row)), tt)
 
 -- the contracts that the proof cites
-abbrev pub Step : (g : Change) → (Session → Stepped → Type 0) → {M : Type 1} (𝓤 : URA M) (H : Heap 𝓤) (A : Atoms 𝓤) → Contract 𝓤
+abbrev pub Step : (g : Change) → (Session → Turn → Type 0) → {M : Type 1} (𝓤 : URA M) (H : Heap 𝓤) (A : Atoms 𝓤) → Contract 𝓤
 Step g Good 𝓤 H A = tripleOf 𝓤 H A (step-ended g .signature) (closing 𝓤 H A (step-ended g) (step-clauses g Good 𝓤))
 
 abbrev pub Settle : Change → {M : Type 1} (𝓤 : URA M) (H : Heap 𝓤) (A : Atoms 𝓤) → Contract 𝓤
@@ -123,16 +123,16 @@ module _ (g : Change) {M : Type 1} (𝓤 : URA M) (H : Heap 𝓤) (A : Atoms �
       move ! (1 ∷ 0 ∷ []) $ join ! $ frame ! $ done !
 
   -- what it says: the session's last value, and the response
-  settled : (w : Response) → ent 𝓤 (ensured 𝓤 H A (settle-ended g) (settle-clauses g 𝓤) (κ, tt) passed tt w) (guard 𝓤 (w ≡ g .response r) (A .res γ (T.the-row .coded .code (g .left h r))))
+  settled : (w : Response) → ent 𝓤 (ensured 𝓤 H A (settle-ended g) (settle-clauses g 𝓤) (κ, tt) passed tt w) (guard 𝓤 (w ≡ g .answer r) (A .res γ (T.the-row .coded .code (g .left h r))))
   settled w = exE 𝓤 _ (λ ws.
       let L : SProp 𝓤 = sem 𝓤 H A (lasts (settle-ended g) (κ, tt) passed ws) in
-      let E : SProp 𝓤 = fact 𝓤 ((ws .0 ≡ g .left h r) × (w ≡ g .response r)) in
-      fact-use 𝓤 ((ws .0 ≡ g .left h r) × (w ≡ g .response r)) (snd∗ 𝓤 L E) (λ e.
+      let E : SProp 𝓤 = fact 𝓤 ((ws .0 ≡ g .left h r) × (w ≡ g .answer r)) in
+      fact-use 𝓤 ((ws .0 ≡ g .left h r) × (w ≡ g .answer r)) (snd∗ 𝓤 L E) (λ e.
       via 𝓤 (A .res γ (T.the-row .coded .code (g .left h r)))
       (subst (λ (s : Session). ent 𝓤 (sep 𝓤 L E) (A .res γ (T.the-row .coded .code s))) (e .0) (via 𝓤 L (fst∗ 𝓤 L E) (fst∗ 𝓤 (A .res γ (T.the-row .coded .code (ws .0))) (sep 𝓤 (emp 𝓤) (emp 𝓤)))))
-      (guardI 𝓤 (w ≡ g .response r) (A .res γ (T.the-row .coded .code (g .left h r))) (e .1))))
+      (guardI 𝓤 (w ≡ g .answer r) (A .res γ (T.the-row .coded .code (g .left h r))) (e .1))))
 
-module _ (g : Change) (step settle : Name) (Good : Session → Stepped → Type 0) {M : Type 1} (𝓤 : URA M) (H : Heap 𝓤) (A : Atoms 𝓤) (W : Given 𝓤 H A) (κ : Lft) (q : Share) (b o : ℕ) (γ : GName) (h : Session) where
+module _ (g : Change) (step settle : Name) (Good : Session → Turn → Type 0) {M : Type 1} (𝓤 : URA M) (H : Heap 𝓤) (A : Atoms 𝓤) (W : Given 𝓤 H A) (κ : Lft) (q : Share) (b o : ℕ) (γ : GName) (h : Session) where
   abbrev x : RefT Session × Unit {0}
   x = (record { ptr = (b, o); name = γ; now = h }, tt)
 
@@ -160,12 +160,12 @@ module _ (g : Change) (step settle : Name) (Good : Session → Stepped → Type 
   goes-step : ent 𝓤 (sem 𝓤 H A (T.the-row .own h (sv h ∷ []))) (Step g Good 𝓤 H A .pre to-step)
   goes-step = qed W (‵ (T.the-row .own h (sv h ∷ [])) ∷ []) ∵ nothing ! $ move ! (1 ∷ 0 ∷ []) $ fjoin ! $ nothing ! $ join ! $ frame ! $ done !
 
-  exits : (r : g .type .denot) (w : Response) (v : Val) → Promised r → w ≡ g .response r
+  exits : (r : g .type .denot) (w : Response) (v : Val) → Promised r → w ≡ g .answer r
       → ent 𝓤 (sep 𝓤 (A .lft κ q) (sep 𝓤 (A .res γ (T.the-row .coded .code (g .left h r))) (sem 𝓤 H A (N.the-row .own w (v ∷ []))))) (Post v)
   exits r w v e same =
       qed W (‵ (flft κ q) ∷ ‵ (fres γ (T.the-row .coded .code (g .left h r))) ∷ ‵ (N.the-row .own w (v ∷ [])) ∷ []) ∵
       suffices ! _ (ends-at 𝓤 H A entry-ended stayed (entry-clauses Good 𝓤) W (((κ, tt), (q, tt), tt, x, at), tt) v w (g .left h r, tt) (tt, tt)) $
-      says ! (subst (λ (y : Response). Good h (record { session = g .left h r; response = y })) (sym same) e) $ nothing ! $ move ! (1 ∷ 0 ∷ []) $ join ! $ frame ! $
+      says ! (subst (λ (y : Response). Good h (record { session = g .left h r; answer = y })) (sym same) e) $ nothing ! $ move ! (1 ∷ 0 ∷ []) $ join ! $ frame ! $
       nothing ! $ move ! (1 ∷ 0 ∷ []) $ fjoin ! $ done !
 
   module _ (C : Calls 𝓤 H) (Λ : Loops 𝓤 H) (fm : FmC 𝓤 H (W .laws) C) (known : Triple 𝓤 (C step) (Step g Good 𝓤 H A)) (stores : Triple 𝓤 (C settle) (Settle g 𝓤 H A)) where
@@ -194,7 +194,7 @@ module _ (g : Change) (step settle : Name) (Good : Session → Stepped → Type 
         -- [what is asked; _4; …; _3; …; _2; …; _1; …; room for _0; …; …]
         calls-at ! fm (Settle g 𝓤 H A) stores (to-settle g 𝓤 H A W κ q b o γ h r) (and-then ! (load ! (from ! (stop !)) (look ! 1 refl)) (and-then ! (load ! (from ! (stop !)) (look ! 5 refl)) (no-more !))) (λ v₂.
         use1 W (later (some (λ (w : Response). ((‵ (flft κ q) ⊛ ‵ ftrue) ⊛ ‵ (N.the-row .own w (v₂ ∷ []))) ⊛ raw (ensured 𝓤 H A (settle-ended g) (settle-clauses g 𝓤) (κ, tt) (passed g 𝓤 H A W κ q b o γ h r) tt w)))) (id⊢ 𝓤 _) $ await ! tt $ pick ! (λ w.
-        split ! $ move ! (1 ∷ []) $ use1 W (given (w ≡ g .response r) (‵ (fres γ (T.the-row .coded .code (g .left h r))))) (settled g 𝓤 H A W κ q b o γ h r w) $ learn ! (λ same.
+        split ! $ move ! (1 ∷ []) $ use1 W (given (w ≡ g .answer r) (‵ (fres γ (T.the-row .coded .code (g .left h r))))) (settled g 𝓤 H A W κ q b o γ h r w) $ learn ! (λ same.
         move ! (1 ∷ []) $ split ! $ split ! $ move ! (1 ∷ []) $ drop ! $ move ! (1 ∷ []) $
         peeks ! N.the-row (Is N.the-row) (shows 𝓤 H A N.the-row) w (v₂ ∷ []) (λ told.
         -- [the response; the token; the last value; _4; …; _3; …; _2; …; _1; …; room for _0; …; …]
@@ -203,7 +203,7 @@ module _ (g : Change) (step settle : Name) (Good : Session → Stepped → Type 
         move ! (11 ∷ 12 ∷ []) $ free1 ! $ move ! (9 ∷ 10 ∷ []) $ free1 ! $ move ! (7 ∷ 8 ∷ []) $ free1 ! $ move ! (5 ∷ 6 ∷ []) $ free1 ! $ move ! (3 ∷ 4 ∷ []) $ free1 ! $ free0 ! $
         keep ! (1 ∷ 2 ∷ 0 ∷ []) $ by ! (exits r w v₂ e same))))))))))))))))
 
-module _ (g : Change) (step settle : Name) (Good : Session → Stepped → Type 0) {M : Type 1} (𝓤 : URA M) (H : Heap 𝓤) (A : Atoms 𝓤) (W : Given 𝓤 H A) where
+module _ (g : Change) (step settle : Name) (Good : Session → Turn → Type 0) {M : Type 1} (𝓤 : URA M) (H : Heap 𝓤) (A : Atoms 𝓤) (W : Given 𝓤 H A) where
   walks : (C : Calls 𝓤 H) (Λ : Loops 𝓤 H) → FmC 𝓤 H (W .laws) C → Triple 𝓤 (C step) (Step g Good 𝓤 H A) → Triple 𝓤 (C settle) (Settle g 𝓤 H A) → Walks 𝓤 H A entry-ended stayed (WpFn 𝓤 H C Λ (function g step settle)) (entry-clauses Good 𝓤)
   walks C Λ fm known stores = walked 𝓤 H A entry-ended stayed (entry-clauses Good 𝓤) (WpFn 𝓤 H C Λ (function g step settle)) (λ κs. (ptr-vals, tt)) (λ κs. (mut-tells (named 0) (κs .0) T.the-row, tt))
       (λ κs qs bounds a _ are. via 𝓤 _ (fst∗ 𝓤 _ (emp 𝓤)) (walk g step settle Good 𝓤 H A W (κs .0) (qs .0) (a .0 .ptr .0) (a .0 .ptr .1) (a .0 .name) (a .0 .now) C Λ fm known stores))
@@ -211,6 +211,6 @@ module _ (g : Change) (step settle : Name) (Good : Session → Stepped → Type 
   goes : AllGo 𝓤 H A W 1 (entry-ended .signature .params) (entry-ended .kept) stayed
   goes = (goes-gave-ref 𝓤 H A W 1 0 tt (plain (λ _. T.the-row)), tt)
 
-pub meets : (g : Change) (step settle : Name) (Good : Session → Stepped → Type 0) {M : Type 1} (𝓤 : URA M) (H : Heap 𝓤) (A : Atoms 𝓤) → Given 𝓤 H A → (𝓣 : Tables 𝓤 H) → Triple 𝓤 (𝓣 .C step) (Step g Good 𝓤 H A) → Triple 𝓤 (𝓣 .C settle) (Settle g 𝓤 H A)
+pub meets : (g : Change) (step settle : Name) (Good : Session → Turn → Type 0) {M : Type 1} (𝓤 : URA M) (H : Heap 𝓤) (A : Atoms 𝓤) → Given 𝓤 H A → (𝓣 : Tables 𝓤 H) → Triple 𝓤 (𝓣 .C step) (Step g Good 𝓤 H A) → Triple 𝓤 (𝓣 .C settle) (Settle g 𝓤 H A)
     → Meets 𝓤 H A (entry-ended .signature) (WpFn 𝓤 H (𝓣 .C) (𝓣 .Λ) (function g step settle)) (closing 𝓤 H A entry-ended (entry-clauses Good 𝓤))
 meets g step settle Good 𝓤 H A W 𝓣 known stores = walk-meets 𝓤 H A entry-ended stayed W (goes g step settle Good 𝓤 H A W) (entry-clauses Good 𝓤) (WpFn 𝓤 H (𝓣 .C) (𝓣 .Λ) (function g step settle)) (WpFn-mono 𝓤 H (W .laws) 𝓣 (function g step settle)) (walks g step settle Good 𝓤 H A W (𝓣 .C) (𝓣 .Λ) (fmOf 𝓤 H (W .laws) 𝓣) known stores)

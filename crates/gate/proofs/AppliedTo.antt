@@ -35,12 +35,12 @@ use denote.Triple.Spec.{Meets, tripleOf}
 use denote.Triple.Walked.{says, Stays, gave-ref, stay-none, walkOf, AllGo, goes-gave-ref, goes-none, Walks, ends-at, walked, walk-meets}
 use denote.Exit.{yes}
 use Rattle.session.specs.declared.Session.{Session}
-use Rattle.response.specs.Effects.{Stepped}
-use Rattle.told.specs.declared.Response.{Response}
+use Rattle.session.specs.declared.Turn.{Turn}
+use Rattle.answer.specs.declared.Response.{Response}
 use Rattle.session.proofs.Session as T
 use Rattle.session.proofs.Session.Laws as T′
-use Rattle.told.proofs.Response as N
-use Rattle.told.proofs.Response.Laws as N′
+use Rattle.answer.proofs.Response as N
+use Rattle.answer.proofs.Response.Laws as N′
 use Rattle.gate.proofs.Passing.{Passed, row, Laws}
 
 -- what storing a change asks, and the step then promises beside: nothing, or that its places are places
@@ -74,11 +74,11 @@ pub record Change : Type 2 where
   pub laws : Laws type
   pub asks : Asks (type .denot)
   pub left : Session → type .denot → Session
-  pub response : type .denot → Response
+  pub answer : type .denot → Response
 
 -- the session left, and the response
-abbrev pub stepped : (g : Change) → Session → g .type .denot → Stepped
-stepped g s r = record { session = g .left s r; response = g .response r }
+abbrev pub stepped : (g : Change) → Session → g .type .denot → Turn
+stepped g s r = record { session = g .left s r; answer = g .answer r }
 
 -- the signatures of such a function and of what it calls
 abbrev pub entry-ended : Passed → Ended
@@ -104,24 +104,24 @@ function p g step settle = record {
 }
 
 -- its clauses, and those of what it calls, by what is promised
-abbrev pub entry-clauses : (p : Passed) → (Session → p .denot → Stepped → Type 0) → {M : Type 1} (𝓤 : URA M) → Clauses 𝓤 (entry-ended p)
-entry-clauses p Good 𝓤 κs a = record { ghost = Unit {0}; requires = λ g. emp 𝓤; ensures = λ g r e. fact 𝓤 (Good (now (a .0)) (a .1 .0) (record { session = now (e .0); response = r })) }
+abbrev pub entry-clauses : (p : Passed) → (Session → p .denot → Turn → Type 0) → {M : Type 1} (𝓤 : URA M) → Clauses 𝓤 (entry-ended p)
+entry-clauses p Good 𝓤 κs a = record { ghost = Unit {0}; requires = λ g. emp 𝓤; ensures = λ g r e. fact 𝓤 (Good (now (a .0)) (a .1 .0) (record { session = now (e .0); answer = r })) }
 
-abbrev pub step-clauses : (p : Passed) (g : Change) → (Session → p .denot → Stepped → Type 0) → {M : Type 1} (𝓤 : URA M) → Clauses 𝓤 (step-ended p g)
+abbrev pub step-clauses : (p : Passed) (g : Change) → (Session → p .denot → Turn → Type 0) → {M : Type 1} (𝓤 : URA M) → Clauses 𝓤 (step-ended p g)
 step-clauses p g Good 𝓤 κs a = record { ghost = Unit {0}; requires = λ _. emp 𝓤; ensures = λ _ r e. fact 𝓤 (promised (g .asks) (Good (a .0) (a .1 .0) (stepped g (a .0) r)) r) }
 
 abbrev pub settle-clauses : (g : Change) → {M : Type 1} (𝓤 : URA M) → Clauses 𝓤 (entry-ended (g .type))
 settle-clauses g 𝓤 κs a = record {
   ghost = Unit {0};
   requires = λ _. asked (g .asks) (a .1 .0) 𝓤;
-  ensures = λ _ r e. fact 𝓤 ((now (e .0) ≡ g .left (now (a .0)) (a .1 .0)) × (r ≡ g .response (a .1 .0)));
+  ensures = λ _ r e. fact 𝓤 ((now (e .0) ≡ g .left (now (a .0)) (a .1 .0)) × (r ≡ g .answer (a .1 .0)));
 }
 
 abbrev stayed : (p : Passed) → Stays (entry-ended p .signature .params) (entry-ended p .kept)
 stayed p = (gave-ref (0 ∷ []) tt (plain (λ _. T.the-row)), (stay-none (λ _. row p) yes, tt))
 
 -- the contracts that the proof cites
-abbrev pub Step : (p : Passed) (g : Change) → (Session → p .denot → Stepped → Type 0) → {M : Type 1} (𝓤 : URA M) (H : Heap 𝓤) (A : Atoms 𝓤) → Contract 𝓤
+abbrev pub Step : (p : Passed) (g : Change) → (Session → p .denot → Turn → Type 0) → {M : Type 1} (𝓤 : URA M) (H : Heap 𝓤) (A : Atoms 𝓤) → Contract 𝓤
 Step p g Good 𝓤 H A = tripleOf 𝓤 H A (step-ended p g .signature) (closing 𝓤 H A (step-ended p g) (step-clauses p g Good 𝓤))
 
 abbrev pub Settle : Change → {M : Type 1} (𝓤 : URA M) (H : Heap 𝓤) (A : Atoms 𝓤) → Contract 𝓤
@@ -142,16 +142,16 @@ module _ (g : Change) {M : Type 1} (𝓤 : URA M) (H : Heap 𝓤) (A : Atoms �
       feqI ! (List Val) (vptr b o ∷ []) (vptr b o ∷ []) refl $ fjoin3 ! $ nothing ! $ owned ! (row (g .type)) (Is (row (g .type))) (g .laws .makes 𝓤 H A W) r _ is $ fjoin ! $ move ! (1 ∷ 0 ∷ []) $ fjoin ! $ done !
 
   -- what it says: the session's last value, and the response
-  pub settled : (w : Response) → ent 𝓤 (ensured 𝓤 H A (entry-ended (g .type)) (settle-clauses g 𝓤) (κ, tt) passed tt w) (guard 𝓤 (w ≡ g .response r) (A .res γ (T.the-row .coded .code (g .left h r))))
+  pub settled : (w : Response) → ent 𝓤 (ensured 𝓤 H A (entry-ended (g .type)) (settle-clauses g 𝓤) (κ, tt) passed tt w) (guard 𝓤 (w ≡ g .answer r) (A .res γ (T.the-row .coded .code (g .left h r))))
   settled w = exE 𝓤 _ (λ ws.
       let L : SProp 𝓤 = sem 𝓤 H A (lasts (entry-ended (g .type)) (κ, tt) passed ws) in
-      let E : SProp 𝓤 = fact 𝓤 ((ws .0 ≡ g .left h r) × (w ≡ g .response r)) in
-      fact-use 𝓤 ((ws .0 ≡ g .left h r) × (w ≡ g .response r)) (snd∗ 𝓤 L E) (λ e.
+      let E : SProp 𝓤 = fact 𝓤 ((ws .0 ≡ g .left h r) × (w ≡ g .answer r)) in
+      fact-use 𝓤 ((ws .0 ≡ g .left h r) × (w ≡ g .answer r)) (snd∗ 𝓤 L E) (λ e.
       via 𝓤 (A .res γ (T.the-row .coded .code (g .left h r)))
       (subst (λ (s : Session). ent 𝓤 (sep 𝓤 L E) (A .res γ (T.the-row .coded .code s))) (e .0) (via 𝓤 L (fst∗ 𝓤 L E) (fst∗ 𝓤 (A .res γ (T.the-row .coded .code (ws .0))) (sep 𝓤 (emp 𝓤) (emp 𝓤)))))
-      (guardI 𝓤 (w ≡ g .response r) (A .res γ (T.the-row .coded .code (g .left h r))) (e .1))))
+      (guardI 𝓤 (w ≡ g .answer r) (A .res γ (T.the-row .coded .code (g .left h r))) (e .1))))
 
-module _ (p : Passed) (l : Laws p) (g : Change) (step settle : Name) (Good : Session → p .denot → Stepped → Type 0) {M : Type 1} (𝓤 : URA M) (H : Heap 𝓤) (A : Atoms 𝓤) (W : Given 𝓤 H A) (κ : Lft) (q : Share) (b o : ℕ) (γ : GName) (h : Session) (u : p .denot) where
+module _ (p : Passed) (l : Laws p) (g : Change) (step settle : Name) (Good : Session → p .denot → Turn → Type 0) {M : Type 1} (𝓤 : URA M) (H : Heap 𝓤) (A : Atoms 𝓤) (W : Given 𝓤 H A) (κ : Lft) (q : Share) (b o : ℕ) (γ : GName) (h : Session) (u : p .denot) where
   abbrev x : RefT Session × (p .denot × Unit {0})
   x = (record { ptr = (b, o); name = γ; now = h }, (u, tt))
 
@@ -182,12 +182,12 @@ module _ (p : Passed) (l : Laws p) (g : Change) (step settle : Name) (Good : Ses
   goes-step : Is (row p) u (v₁ ∷ []) → ent 𝓤 (sem 𝓤 H A (T.the-row .own h (sv h ∷ []))) (Step p g Good 𝓤 H A .pre to-step)
   goes-step gu = qed W (‵ (T.the-row .own h (sv h ∷ [])) ∷ []) ∵ nothing ! $ owned ! (row p) (Is (row p)) (l .makes 𝓤 H A W) u _ gu $ fjoin ! $ move ! (1 ∷ 0 ∷ []) $ fjoin ! $ nothing ! $ join ! $ frame ! $ done !
 
-  exits : (r : g .type .denot) (w : Response) (v : Val) → Good h u (stepped g h r) → w ≡ g .response r → Is (row p) u (v₁ ∷ [])
+  exits : (r : g .type .denot) (w : Response) (v : Val) → Good h u (stepped g h r) → w ≡ g .answer r → Is (row p) u (v₁ ∷ [])
       → ent 𝓤 (sep 𝓤 (A .lft κ q) (sep 𝓤 (A .res γ (T.the-row .coded .code (g .left h r))) (sem 𝓤 H A (N.the-row .own w (v ∷ []))))) (Post v)
   exits r w v e same gu =
       qed W (‵ (flft κ q) ∷ ‵ (fres γ (T.the-row .coded .code (g .left h r))) ∷ ‵ (N.the-row .own w (v ∷ [])) ∷ []) ∵
       suffices ! _ (ends-at 𝓤 H A (entry-ended p) (stayed p) (entry-clauses p Good 𝓤) W (((κ, tt), (q, tt), tt, x, at), tt) v w (g .left h r, (tt, tt)) (tt, (tt, tt))) $
-      says ! (subst (λ (y : Response). Good h u (record { session = g .left h r; response = y })) (sym same) e) $ nothing ! $ move ! (1 ∷ 0 ∷ []) $ join ! $ frame ! $
+      says ! (subst (λ (y : Response). Good h u (record { session = g .left h r; answer = y })) (sym same) e) $ nothing ! $ move ! (1 ∷ 0 ∷ []) $ join ! $ frame ! $
       nothing ! $ owned ! (row p) (Is (row p)) (l .makes 𝓤 H A W) u _ gu $ fjoin ! $ move ! (1 ∷ 0 ∷ []) $ fjoin ! $ done !
 
   module _ (C : Calls 𝓤 H) (Λ : Loops 𝓤 H) (fm : FmC 𝓤 H (W .laws) C) (known : Triple 𝓤 (C step) (Step p g Good 𝓤 H A)) (stores : Triple 𝓤 (C settle) (Settle g 𝓤 H A)) where
@@ -216,7 +216,7 @@ module _ (p : Passed) (l : Laws p) (g : Change) (step settle : Name) (Good : Ses
         -- [what is asked; _5; …; _4; …; _3; …; _2; …; _1; …; room for _0; …; …]
         calls-at ! fm (Settle g 𝓤 H A) stores (to-settle g 𝓤 H A W κ q b o γ h r) (and-then ! (load ! (from ! (stop !)) (look ! 1 refl)) (and-then ! (load ! (from ! (stop !)) (look ! 5 refl)) (no-more !))) (λ v₂.
         use1 W (later (some (λ (w : Response). ((‵ (flft κ q) ⊛ ‵ ftrue) ⊛ ‵ (N.the-row .own w (v₂ ∷ []))) ⊛ raw (ensured 𝓤 H A (entry-ended (g .type)) (settle-clauses g 𝓤) (κ, tt) (passed g 𝓤 H A W κ q b o γ h r) tt w)))) (id⊢ 𝓤 _) $ await ! tt $ pick ! (λ w.
-        split ! $ move ! (1 ∷ []) $ use1 W (given (w ≡ g .response r) (‵ (fres γ (T.the-row .coded .code (g .left h r))))) (settled g 𝓤 H A W κ q b o γ h r w) $ learn ! (λ same.
+        split ! $ move ! (1 ∷ []) $ use1 W (given (w ≡ g .answer r) (‵ (fres γ (T.the-row .coded .code (g .left h r))))) (settled g 𝓤 H A W κ q b o γ h r w) $ learn ! (λ same.
         move ! (1 ∷ []) $ split ! $ split ! $ move ! (1 ∷ []) $ drop ! $ move ! (1 ∷ []) $
         peeks ! N.the-row (Is N.the-row) (shows 𝓤 H A N.the-row) w (v₂ ∷ []) (λ told.
         -- [the response; the token; the last value; _5; …; _4; …; _3; …; _2; …; _1; …; room for _0; …; …]
@@ -225,7 +225,7 @@ module _ (p : Passed) (l : Laws p) (g : Change) (step settle : Name) (Good : Ses
         move ! (13 ∷ 14 ∷ []) $ free1 ! $ move ! (11 ∷ 12 ∷ []) $ free1 ! $ move ! (9 ∷ 10 ∷ []) $ free1 ! $ move ! (7 ∷ 8 ∷ []) $ free1 ! $ move ! (5 ∷ 6 ∷ []) $ free1 ! $ move ! (3 ∷ 4 ∷ []) $ free1 ! $ free0 ! $
         keep ! (1 ∷ 2 ∷ 0 ∷ []) $ by ! (exits r w v₂ (promise (g .asks) (Good h u (stepped g h r)) r e) same gu)))))))))))))))))
 
-module _ (p : Passed) (l : Laws p) (g : Change) (step settle : Name) (Good : Session → p .denot → Stepped → Type 0) {M : Type 1} (𝓤 : URA M) (H : Heap 𝓤) (A : Atoms 𝓤) (W : Given 𝓤 H A) where
+module _ (p : Passed) (l : Laws p) (g : Change) (step settle : Name) (Good : Session → p .denot → Turn → Type 0) {M : Type 1} (𝓤 : URA M) (H : Heap 𝓤) (A : Atoms 𝓤) (W : Given 𝓤 H A) where
   walks : (C : Calls 𝓤 H) (Λ : Loops 𝓤 H) → FmC 𝓤 H (W .laws) C → Triple 𝓤 (C step) (Step p g Good 𝓤 H A) → Triple 𝓤 (C settle) (Settle g 𝓤 H A) → Walks 𝓤 H A (entry-ended p) (stayed p) (WpFn 𝓤 H C Λ (function p g step settle)) (entry-clauses p Good 𝓤)
   walks C Λ fm known stores = walked 𝓤 H A (entry-ended p) (stayed p) (entry-clauses p Good 𝓤) (WpFn 𝓤 H C Λ (function p g step settle)) (λ κs. (ptr-vals, ((λ y. l .val y ∷ []), tt))) (λ κs. (mut-tells (named 0) (κs .0) T.the-row, (l .tells, tt)))
       (λ κs qs bounds a _ are. via 𝓤 _ (fst∗ 𝓤 _ (emp 𝓤)) (walk p l g step settle Good 𝓤 H A W (κs .0) (qs .0) (a .0 .ptr .0) (a .0 .ptr .1) (a .0 .name) (a .0 .now) (a .1 .0) C Λ fm known stores (are .1 .0)))
@@ -233,6 +233,6 @@ module _ (p : Passed) (l : Laws p) (g : Change) (step settle : Name) (Good : Ses
   goes : AllGo 𝓤 H A W 1 ((entry-ended p .signature) .params) (entry-ended p .kept) (stayed p)
   goes = (goes-gave-ref 𝓤 H A W 1 0 tt (plain (λ _. T.the-row)), (goes-none 𝓤 H A W 1 (λ _. row p) yes (λ κs x f. refl), tt))
 
-pub meets : (p : Passed) (l : Laws p) (g : Change) (step settle : Name) (Good : Session → p .denot → Stepped → Type 0) {M : Type 1} (𝓤 : URA M) (H : Heap 𝓤) (A : Atoms 𝓤) → Given 𝓤 H A → (𝓣 : Tables 𝓤 H) → Triple 𝓤 (𝓣 .C step) (Step p g Good 𝓤 H A) → Triple 𝓤 (𝓣 .C settle) (Settle g 𝓤 H A)
+pub meets : (p : Passed) (l : Laws p) (g : Change) (step settle : Name) (Good : Session → p .denot → Turn → Type 0) {M : Type 1} (𝓤 : URA M) (H : Heap 𝓤) (A : Atoms 𝓤) → Given 𝓤 H A → (𝓣 : Tables 𝓤 H) → Triple 𝓤 (𝓣 .C step) (Step p g Good 𝓤 H A) → Triple 𝓤 (𝓣 .C settle) (Settle g 𝓤 H A)
     → Meets 𝓤 H A (entry-ended p .signature) (WpFn 𝓤 H (𝓣 .C) (𝓣 .Λ) (function p g step settle)) (closing 𝓤 H A (entry-ended p) (entry-clauses p Good 𝓤))
 meets p l g step settle Good 𝓤 H A W 𝓣 known stores = walk-meets 𝓤 H A (entry-ended p) (stayed p) W (goes p l g step settle Good 𝓤 H A W) (entry-clauses p Good 𝓤) (WpFn 𝓤 H (𝓣 .C) (𝓣 .Λ) (function p g step settle)) (WpFn-mono 𝓤 H (W .laws) 𝓣 (function p g step settle)) (walks p l g step settle Good 𝓤 H A W (𝓣 .C) (𝓣 .Λ) (fmOf 𝓤 H (W .laws) 𝓣) known stores)

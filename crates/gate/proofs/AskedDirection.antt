@@ -42,7 +42,7 @@ use denote.Triple.Walked.{says, Stays, stay-none-ref, stay-none, walkOf, AllGo, 
 use denote.Exit.{yes}
 use Rattle.session.specs.Bare.{bareNotice, bareFigures}
 use Rattle.session.specs.declared.Session.{Session}
-use Rattle.told.specs.declared.Response.{Response}
+use Rattle.answer.specs.declared.Response.{Response}
 use Rattle.session.specs.declared.Cleared.{Cleared}
 use Rattle.session.specs.declared.Notice.{Notice}
 use Rattle.queries.specs.Parts.{figuresIn}
@@ -53,8 +53,8 @@ use Rattle.session.proofs.Cleared as F
 use Rattle.session.proofs.Cleared.Laws as F′
 use Rattle.session.proofs.Notice as X
 use Rattle.session.proofs.Notice.Laws as X′
-use Rattle.told.proofs.Response as N
-use Rattle.told.proofs.Response.Laws as N′
+use Rattle.answer.proofs.Response as N
+use Rattle.answer.proofs.Response.Laws as N′
 use Rattle.lent.proofs.ArrayLaws.{element}
 use Rattle.lent.proofs.Cell.{sv}
 use Rattle.lent.proofs.SessionCell.{Good as Holds, all-figures, at-figures, read-figures, all-capacities, at-capacities, read-capacity}
@@ -62,7 +62,7 @@ use Rattle.gate.proofs.Places.{NoticePlaced, notice-clauses, Direction,
 use Rattle.maxima.proofs.notice_place as notice-shape
 use Rattle.queries.proofs.place_of as hour-shape
 use Rattle.gate.proofs.gate_market_maximum as shape
-use Rattle.replies.proofs.market_maximum as step-shape
+use Rattle.maxima.proofs.market_maximum_from as step-shape
 
 abbrev refTy : Ty
 refTy = tyRef (named 0) imm (pointee (T.the-row .written))

@@ -42,15 +42,15 @@ use denote.Triple.Walked.{says, Stays, stay-none-ref, stay-none, walkOf, AllGo, 
 use denote.Exit.{yes}
 use Rattle.session.specs.Bare.{bareVerdict}
 use Rattle.session.specs.declared.Session.{Session}
-use Rattle.told.specs.declared.Response.{Response}
+use Rattle.answer.specs.declared.Response.{Response}
 use Rattle.session.specs.declared.Verdict.{Verdict}
 use Rattle.verdicts.specs.Parts.{LodgedFound, verdictAt}
 use Rattle.session.proofs.Session as T
 use Rattle.session.proofs.Session.Laws as T′
 use Rattle.session.proofs.Verdict as J
 use Rattle.session.proofs.Verdict.Laws as J′
-use Rattle.told.proofs.Response as N
-use Rattle.told.proofs.Response.Laws as N′
+use Rattle.answer.proofs.Response as N
+use Rattle.answer.proofs.Response.Laws as N′
 use Rattle.lent.proofs.ArrayLaws.{element}
 use Rattle.lent.proofs.Cell.{sv}
 use Rattle.lent.proofs.SessionCell.{Good as Holds, all-verdicts, at-verdicts, read-verdict}
@@ -58,7 +58,7 @@ use Rattle.gate.proofs.Places.{Search, search-clauses, lent, to-search,
 use Rattle.lent.proofs.unit_at as search-shape
 use Rattle.verdicts.proofs.verdict_place as verdict-shape
 use Rattle.gate.proofs.gate_verdict as shape
-use Rattle.replies.proofs.verdict as step-shape
+use Rattle.verdicts.proofs.verdict_from as step-shape
 
 abbrev refTy : Ty
 refTy = tyRef (named 0) imm (pointee (T.the-row .written))

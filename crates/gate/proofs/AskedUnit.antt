@@ -42,7 +42,7 @@ use denote.Triple.Walked.{says, Stays, stay-none-ref, stay-none, walkOf, AllGo, 
 use denote.Exit.{yes}
 use Rattle.session.specs.Bare.{bareFigures}
 use Rattle.session.specs.declared.Session.{Session}
-use Rattle.told.specs.declared.Response.{Response}
+use Rattle.answer.specs.declared.Response.{Response}
 use Rattle.session.specs.declared.Cleared.{Cleared}
 use Rattle.queries.specs.Parts.{figuresIn}
 use Rattle.energies.specs.Parts.{UnitFound}
@@ -50,8 +50,8 @@ use Rattle.session.proofs.Session as T
 use Rattle.session.proofs.Session.Laws as T′
 use Rattle.session.proofs.Cleared as F
 use Rattle.session.proofs.Cleared.Laws as F′
-use Rattle.told.proofs.Response as N
-use Rattle.told.proofs.Response.Laws as N′
+use Rattle.answer.proofs.Response as N
+use Rattle.answer.proofs.Response.Laws as N′
 use Rattle.lent.proofs.ArrayLaws.{element}
 use Rattle.lent.proofs.Cell.{sv}
 use Rattle.lent.proofs.SessionCell.{Good as Holds, all-figures, at-figures, read-figures}
@@ -59,7 +59,7 @@ use Rattle.gate.proofs.Places.{Search, search-clauses, lent, to-search,
 use Rattle.lent.proofs.unit_at as search-shape
 use Rattle.queries.proofs.place_of as hour-shape
 use Rattle.gate.proofs.gate_matched as shape
-use Rattle.replies.proofs.matched as step-shape
+use Rattle.energies.proofs.matched_from as step-shape
 
 abbrev refTy : Ty
 refTy = tyRef (named 0) imm (pointee (T.the-row .written))

@@ -8,4 +8,4 @@ pub mod Passing
 pub mod Applied
 pub mod AppliedTo
 pub mod Changes
-pub mod LentLaws
+pub mod DemandLaws

@@ -1,6 +1,6 @@
 // The C interface (include/gate.h). "The session is lent to each call and changed in place": thin entries that apply the
-// by-value steps of `response` (lodging first that of `pending`), storing what these change (`lent`), and of `replies`. The numbers at each are the rows of the
-// refusal table that it can answer with.
+// by-value steps of the calls (lodging first that of `pending`), storing what these change (`lent`), and of the queries. The numbers at
+// each are the rows of the refusal table that it can answer with.
 ghost use mathlib.Core.Path.{_≡_};
 ghost use lib.ListN.{length};
 ghost use Rattle.rules.specs.Hours.{hoursAt, clockAt, hourAt};
@@ -9,12 +9,17 @@ ghost use Rattle.rules.specs.DayBook.{register, lodge, annul, close, clear};
 ghost use Rattle.rules.specs.Queries as Q;
 ghost use Rattle.calendar.specs.View.{dateIn, clockIn, countedAs, namedAs};
 ghost use Rattle.message.specs.View.{fieldsIn, readingAs, writtenAs};
+ghost use Rattle.answer.specs.Told.{ofCounted, ofNamed};
 ghost use Rattle.session.specs.Image.{unitIn, keyIn};
-ghost use Rattle.told.specs.Told.{ofCounted, ofNamed};
-ghost use Rattle.response.specs.Told.{availableIn, capacityIn, OpensAs, MetAs};
-ghost use Rattle.replies.specs.Told.{AnsweredAs};
+ghost use Rattle.session.specs.Steps.{Opens, Met};
+ghost use Rattle.notices.specs.Notices.{availableIn};
+ghost use Rattle.capacities.specs.Capacities.{capacityIn};
+ghost use Rattle.queries.specs.Replies.{Answered};
+use answer::ClockName;
+use answer::Response;
 use calendar::Clock;
 use calendar::Date;
+use capacities::Capacities;
 use lent::settle_capacities;
 use lent::settle_clearing;
 use lent::settle_closing;
@@ -23,23 +28,20 @@ use lent::settle_standing;
 use message::Fields;
 use message::Reading;
 use message::Written;
-use response::Availability;
-use response::Capacities;
-use response::Opening;
+use notices::Availability;
 use session::Key;
+use session::Opened;
 use session::Session;
 use session::Unit;
-use told::ClockName;
-use told::Response;
 
 // Dates
 
 // Opens the session of a date: 1.
 #[no_mangle]
-pub extern "C" fn gate_open(date: Date) -> Opening
-    ensures { λ r. ⌜ OpensAs (dateIn date) r ⌝ }
+pub extern "C" fn gate_open(date: Date) -> Opened
+    ensures { λ r. ⌜ Opens (dateIn date) r ⌝ }
 {
-    response::open(date)
+    session::open(date)
 }
 
 // The number of hours of a date: 1.
@@ -47,7 +49,8 @@ pub extern "C" fn gate_open(date: Date) -> Opening
 pub extern "C" fn gate_hours(date: Date) -> Response
     ensures { λ r. ⌜ r ≡ ofCounted (countedAs (hoursAt (dateIn date))) ⌝ }
 {
-    response::hours(date)
+    let c = calendar::hours_at(date);
+    answer::of_counted(c)
 }
 
 // The clock name and mark of an hour of a date: 1, 4.
@@ -55,7 +58,8 @@ pub extern "C" fn gate_hours(date: Date) -> Response
 pub extern "C" fn gate_clock(date: Date, hour: u32) -> ClockName
     ensures { λ r. ⌜ r ≡ ofNamed (namedAs (clockAt (dateIn date) hour)) ⌝ }
 {
-    response::clock(date, hour)
+    let n = calendar::clock_at(date, hour);
+    answer::of_named(n)
 }
 
 // The hour of a clock name and mark of a date: 1, 4.
@@ -63,7 +67,8 @@ pub extern "C" fn gate_clock(date: Date, hour: u32) -> ClockName
 pub extern "C" fn gate_hour(date: Date, clock: Clock) -> Response
     ensures { λ r. ⌜ r ≡ ofCounted (countedAs (hourAt (dateIn date) (clockIn clock))) ⌝ }
 {
-    response::hour(date, clock)
+    let c = calendar::hour_at(date, clock);
+    answer::of_counted(c)
 }
 
 // Messages
@@ -90,27 +95,27 @@ pub extern "C" fn gate_write(fields: Fields, buffer: &mut [u8]) -> Written
 // Registers a unit: 2, 5, 7, 8, 9.
 #[no_mangle]
 pub extern "C" fn gate_register(s: &mut Session, unit: Unit) -> Response
-    ensures { λ r. ⌜ MetAs (now (s .entry)) (register (unitIn unit)) (record { session = now (s .exit); response = r }) ⌝ }
+    ensures { λ r. ⌜ Met (now (s .entry)) (register (unitIn unit)) (record { session = now (s .exit); answer = r }) ⌝ }
 {
-    let t = response::register(*s, unit);
+    let t = registry::register_change(*s, unit);
     settle_registry(s, t)
 }
 
 // Takes an unavailability notice of a unit: 2, 4, 5, 6.
 #[no_mangle]
 pub extern "C" fn gate_available(s: &mut Session, notice: Availability) -> Response
-    ensures { λ r. ⌜ MetAs (now (s .entry)) (availableIn notice) (record { session = now (s .exit); response = r }) ⌝ }
+    ensures { λ r. ⌜ Met (now (s .entry)) (availableIn notice) (record { session = now (s .exit); answer = r }) ⌝ }
 {
-    let t = response::available(*s, notice);
+    let t = notices::available_change(*s, notice);
     settle_registry(s, t)
 }
 
 // Takes a capacity notice, export and import of border 1, of 2, of 3, of 4: 2, 4, 5.
 #[no_mangle]
 pub extern "C" fn gate_capacity(s: &mut Session, notice: Capacities) -> Response
-    ensures { λ r. ⌜ MetAs (now (s .entry)) (capacityIn notice) (record { session = now (s .exit); response = r }) ⌝ }
+    ensures { λ r. ⌜ Met (now (s .entry)) (capacityIn notice) (record { session = now (s .exit); answer = r }) ⌝ }
 {
-    let t = response::capacity(*s, notice);
+    let t = capacities::capacity_change(*s, notice);
     settle_capacities(s, t)
 }
 
@@ -118,7 +123,7 @@ pub extern "C" fn gate_capacity(s: &mut Session, notice: Capacities) -> Response
 // reference: a step by value would copy them.
 #[no_mangle]
 pub extern "C" fn gate_lodge(s: &mut Session, message: &[u8]) -> Response
-    ensures { λ r. ⌜ MetAs (now (s .entry)) (lodge (now (message .entry))) (record { session = now (s .exit); response = r }) ⌝ }
+    ensures { λ r. ⌜ Met (now (s .entry)) (lodge (now (message .entry))) (record { session = now (s .exit); answer = r }) ⌝ }
 {
     let p = pending::pend(*s, message);
     let notice = p.notice;
@@ -126,7 +131,7 @@ pub extern "C" fn gate_lodge(s: &mut Session, message: &[u8]) -> Response
     let second = p.second;
     let third = p.third;
     let fourth = p.fourth;
-    let t = response::lodge(
+    let t = lodging::lodge::lodge_change(
         *s,
         p,
         s.notices[notice],
@@ -141,27 +146,27 @@ pub extern "C" fn gate_lodge(s: &mut Session, message: &[u8]) -> Response
 // Annuls the lodgement of a key: 2, 5, 6, 13.
 #[no_mangle]
 pub extern "C" fn gate_annul(s: &mut Session, key: Key) -> Response
-    ensures { λ r. ⌜ MetAs (now (s .entry)) (annul (keyIn key)) (record { session = now (s .exit); response = r }) ⌝ }
+    ensures { λ r. ⌜ Met (now (s .entry)) (annul (keyIn key)) (record { session = now (s .exit); answer = r }) ⌝ }
 {
-    let t = response::annul(*s, key);
+    let t = annulling::annul_change(*s, key);
     settle_standing(s, t)
 }
 
 // Closes the gate: 2.
 #[no_mangle]
 pub extern "C" fn gate_close(s: &mut Session) -> Response
-    ensures { λ r. ⌜ MetAs (now (s .entry)) close (record { session = now (s .exit); response = r }) ⌝ }
+    ensures { λ r. ⌜ Met (now (s .entry)) close (record { session = now (s .exit); answer = r }) ⌝ }
 {
-    let t = response::close(*s);
+    let t = closing::close_change(*s);
     settle_closing(s, t)
 }
 
 // Clears the day: 2.
 #[no_mangle]
 pub extern "C" fn gate_clear(s: &mut Session) -> Response
-    ensures { λ r. ⌜ MetAs (now (s .entry)) clear (record { session = now (s .exit); response = r }) ⌝ }
+    ensures { λ r. ⌜ Met (now (s .entry)) clear (record { session = now (s .exit); answer = r }) ⌝ }
 {
-    let t = response::clear(*s);
+    let t = clearing::clear_change(*s);
     settle_clearing(s, t)
 }
 
@@ -170,59 +175,59 @@ pub extern "C" fn gate_clear(s: &mut Session) -> Response
 // "a lodging number's verdict", after closing: 2, 13.
 #[no_mangle]
 pub extern "C" fn gate_verdict(s: &Session, number: u32) -> Response
-    ensures { λ r. ⌜ AnsweredAs (now (s .entry)) (Q.verdict number) r ⌝ }
+    ensures { λ r. ⌜ Answered (now (s .entry)) (Q.verdict number) r ⌝ }
 {
     let at = lent::lodged_at(s, number);
     let of = verdicts::verdict_place(at);
-    replies::verdict(*s, at, s.verdicts[of], number)
+    verdicts::verdict_from(*s, at, s.verdicts[of], number)
 }
 
 // A unit's matched energy in an hour: 2, 4, 5, 6.
 #[no_mangle]
 pub extern "C" fn gate_matched(s: &Session, unit: u32, hour: u32) -> Response
-    ensures { λ r. ⌜ AnsweredAs (now (s .entry)) (Q.matched unit hour) r ⌝ }
+    ensures { λ r. ⌜ Answered (now (s .entry)) (Q.matched unit hour) r ⌝ }
 {
     let of = lent::unit_at(s, unit);
     let at = queries::place_of(hour);
-    replies::matched(*s, s.figures[at], of, unit, hour)
+    energies::matched_from(*s, s.figures[at], of, unit, hour)
 }
 
 // A unit's executed energy in an hour: 2, 4, 5, 6.
 #[no_mangle]
 pub extern "C" fn gate_executed(s: &Session, unit: u32, hour: u32) -> Response
-    ensures { λ r. ⌜ AnsweredAs (now (s .entry)) (Q.executed unit hour) r ⌝ }
+    ensures { λ r. ⌜ Answered (now (s .entry)) (Q.executed unit hour) r ⌝ }
 {
     let of = lent::unit_at(s, unit);
     let at = queries::place_of(hour);
-    replies::executed(*s, s.figures[at], of, unit, hour)
+    energies::executed_from(*s, s.figures[at], of, unit, hour)
 }
 
 // The final market balance of a border: 2, 4, 5.
 #[no_mangle]
 pub extern "C" fn gate_market(s: &Session, border: u32, hour: u32) -> Response
-    ensures { λ r. ⌜ AnsweredAs (now (s .entry)) (Q.market border hour) r ⌝ }
+    ensures { λ r. ⌜ Answered (now (s .entry)) (Q.market border hour) r ⌝ }
 {
     let at = queries::place_of(hour);
-    replies::market(*s, s.figures[at], border, hour)
+    balances::market_from(*s, s.figures[at], border, hour)
 }
 
 // The final balance of its executions: 2, 4, 5.
 #[no_mangle]
 pub extern "C" fn gate_bilateral(s: &Session, border: u32, hour: u32) -> Response
-    ensures { λ r. ⌜ AnsweredAs (now (s .entry)) (Q.bilateral border hour) r ⌝ }
+    ensures { λ r. ⌜ Answered (now (s .entry)) (Q.bilateral border hour) r ⌝ }
 {
     let at = queries::place_of(hour);
-    replies::bilateral(*s, s.figures[at], border, hour)
+    balances::bilateral_from(*s, s.figures[at], border, hour)
 }
 
 // The market maximum of a border's direction, "absent without capacity": 2, 4, 5.
 #[no_mangle]
 pub extern "C" fn gate_market_maximum(s: &Session, border: u32, export: bool, hour: u32) -> Response
-    ensures { λ r. ⌜ AnsweredAs (now (s .entry)) (Q.marketMax border export hour) r ⌝ }
+    ensures { λ r. ⌜ Answered (now (s .entry)) (Q.marketMax border export hour) r ⌝ }
 {
     let of = maxima::notice_place(border, export);
     let at = queries::place_of(hour);
-    replies::market_maximum(*s, s.figures[at], s.capacities[of], border, export, hour)
+    maxima::market_maximum_from(*s, s.figures[at], s.capacities[of], border, export, hour)
 }
 
 // Its bilateral maximum, which may be below zero: 2, 4, 5.
@@ -233,18 +238,18 @@ pub extern "C" fn gate_bilateral_maximum(
     export: bool,
     hour: u32,
 ) -> Response
-    ensures { λ r. ⌜ AnsweredAs (now (s .entry)) (Q.bilateralMax border export hour) r ⌝ }
+    ensures { λ r. ⌜ Answered (now (s .entry)) (Q.bilateralMax border export hour) r ⌝ }
 {
     let of = maxima::notice_place(border, export);
     let at = queries::place_of(hour);
-    replies::bilateral_maximum(*s, s.figures[at], s.capacities[of], border, export, hour)
+    maxima::bilateral_maximum_from(*s, s.figures[at], s.capacities[of], border, export, hour)
 }
 
 // The hour's price: 2, 4.
 #[no_mangle]
 pub extern "C" fn gate_price(s: &Session, hour: u32) -> Response
-    ensures { λ r. ⌜ AnsweredAs (now (s .entry)) (Q.price hour) r ⌝ }
+    ensures { λ r. ⌜ Answered (now (s .entry)) (Q.price hour) r ⌝ }
 {
     let at = queries::place_of(hour);
-    replies::price(*s, s.figures[at], hour)
+    queries::price_from(*s, s.figures[at], hour)
 }

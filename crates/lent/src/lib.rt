@@ -2,21 +2,21 @@
 // for, found there, so that no array is copied.
 ghost use mathlib.Core.Path.{_≡_};
 ghost use Prim.Native.Nat.{_<_};
-ghost use Rattle.changes.specs.Changes.{Placed, withVerdicts, withFigures, registryWith, capacitiesWith, standingWith};
+ghost use Rattle.changes.specs.Changes.{Placed, registryWith, capacitiesWith, standingWith, closedWith, clearedWith};
 ghost use Rattle.verdicts.specs.Parts.{LodgedFound};
 ghost use Rattle.energies.specs.Parts.{UnitFound};
-use response::CapacitiesNoted;
-use response::Closed;
-use response::DayCleared;
-use response::Lodged;
-use response::Registered;
+use answer::Response;
+use changes::CapacityTurn;
+use changes::ClearingTurn;
+use changes::ClosingTurn;
+use changes::RegistryTurn;
+use changes::StandingTurn;
 use session::Session;
-use told::Response;
 
 // Units and their notices: the count, one unit and its notice.
-pub fn settle_registry(s: &mut Session, t: Registered) -> Response
+pub fn settle_registry(s: &mut Session, t: RegistryTurn) -> Response
     requires { ⌜ t .change .at < 64 ⌝ }
-    ensures { λ r. ⌜ (now (s .exit) ≡ registryWith (now (s .entry)) (t .change)) × (r ≡ t .response) ⌝ }
+    ensures { λ r. ⌜ (now (s .exit) ≡ registryWith (now (s .entry)) (t .change)) × (r ≡ t .answer) ⌝ }
 {
     if t.change.changed {
         s.enrolled = t.change.enrolled;
@@ -24,23 +24,23 @@ pub fn settle_registry(s: &mut Session, t: Registered) -> Response
         s.units[at] = t.change.unit;
         s.notices[at] = t.change.notice;
     }
-    t.response
+    t.answer
 }
 
 // All capacities.
-pub fn settle_capacities(s: &mut Session, t: CapacitiesNoted) -> Response
-    ensures { λ r. ⌜ (now (s .exit) ≡ capacitiesWith (now (s .entry)) (t .change)) × (r ≡ t .response) ⌝ }
+pub fn settle_capacities(s: &mut Session, t: CapacityTurn) -> Response
+    ensures { λ r. ⌜ (now (s .exit) ≡ capacitiesWith (now (s .entry)) (t .change)) × (r ≡ t .answer) ⌝ }
 {
     if t.change.changed {
         s.capacities = t.change.capacities;
     }
-    t.response
+    t.answer
 }
 
 // Standing lodgements: some go one place forward, one is put at a place.
-pub fn settle_standing(s: &mut Session, t: Lodged) -> Response
+pub fn settle_standing(s: &mut Session, t: StandingTurn) -> Response
     requires { ⌜ Placed (t .change) ⌝ }
-    ensures { λ r. ⌜ (now (s .exit) ≡ standingWith (now (s .entry)) (t .change)) × (r ≡ t .response) ⌝ }
+    ensures { λ r. ⌜ (now (s .exit) ≡ standingWith (now (s .entry)) (t .change)) × (r ≡ t .answer) ⌝ }
 {
     let mut i = t.change.from;
     while i < t.change.to {
@@ -56,25 +56,29 @@ pub fn settle_standing(s: &mut Session, t: Lodged) -> Response
         s.standing = t.change.standing;
         s.last = t.change.last;
     }
-    t.response
+    t.answer
 }
 
-// The verdicts, and whether the gate is closed.
-pub fn settle_closing(s: &mut Session, t: Closed) -> Response
-    ensures { λ r. ⌜ (now (s .exit) ≡ withVerdicts (now (s .entry)) (t .closed) (t .verdicts)) × (r ≡ t .response) ⌝ }
+// The verdicts; the gate is then closed.
+pub fn settle_closing(s: &mut Session, t: ClosingTurn) -> Response
+    ensures { λ r. ⌜ (now (s .exit) ≡ closedWith (now (s .entry)) (t .change)) × (r ≡ t .answer) ⌝ }
 {
-    s.verdicts = t.verdicts;
-    s.closed = t.closed;
-    t.response
+    if t.change.changed {
+        s.verdicts = t.change.verdicts;
+        s.closed = true;
+    }
+    t.answer
 }
 
-// The figures, and whether the day is cleared.
-pub fn settle_clearing(s: &mut Session, t: DayCleared) -> Response
-    ensures { λ r. ⌜ (now (s .exit) ≡ withFigures (now (s .entry)) (t .cleared) (t .figures)) × (r ≡ t .response) ⌝ }
+// The figures; the day is then cleared.
+pub fn settle_clearing(s: &mut Session, t: ClearingTurn) -> Response
+    ensures { λ r. ⌜ (now (s .exit) ≡ clearedWith (now (s .entry)) (t .change)) × (r ≡ t .answer) ⌝ }
 {
-    s.figures = t.figures;
-    s.cleared = t.cleared;
-    t.response
+    if t.change.changed {
+        s.figures = t.change.figures;
+        s.cleared = true;
+    }
+    t.answer
 }
 
 // The place of a unit among the registered ones, or their number. Of a session that the guard refuses, any place will do.

@@ -13,7 +13,7 @@ use Rattle.rules.specs.Lodging.{passedAt, judgedBy, limitRows}
 use Rattle.rules.proofs.ListLaws.{getD-pad}
 use Rattle.session.specs.Laid.{pad}
 use Rattle.session.specs.Image.{unitAs, noticeAs}
-use Rattle.session.specs.Parts.{told}
+use Rattle.session.specs.Parts.{judgement}
 use Rattle.session.specs.declared.Unit.{Unit}
 use Rattle.session.specs.declared.Notice.{Notice}
 use Rattle.limits.specs.Limits.{noticeIn, registeredIn, judgedIn}
@@ -83,11 +83,11 @@ module _ (r : Registered) (cs : Capacities) where
         (row-same (record { number = 12; at = λ h. borderSum around (r .unit .border) h }) (record { number = 12; at = λ h. borderSum cs (r .unit .border) h }) refl (λ h. border-as (r .unit .border) h))
 
     pub judged-as : (u : Unit) (n : Notice) (ns : List Notice) (only : Bool) → u ≡ unitAs (r .unit) → n ≡ noticeAs (r .available) → ns ≡ map noticeAs cs
-        → judgedIn u n ns only H own load ≡ told (firstRow (limitRows H own load (judgedBy cs r only)))
+        → judgedIn u n ns only H own load ≡ judgement (firstRow (limitRows H own load (judgedBy cs r only)))
     unfolding judgedIn
-    judged-as u n ns only e f g = rw (e, f, g) (ap (λ rows. told (firstRow rows)) (rows-as only))
+    judged-as u n ns only e f g = rw (e, f, g) (ap (λ rows. judgement (firstRow rows)) (rows-as only))
 
     -- and by a load that is the same in every hour
     pub judged-by : (u : Unit) (n : Notice) (ns : List Notice) (only : Bool) (f : ℕ → ℕ) → u ≡ unitAs (r .unit) → n ≡ noticeAs (r .available) → ns ≡ map noticeAs cs
-        → ((h : ℕ) → 1 ≤ h → h ≤ H → load h ≡ f h) → judgedIn u n ns only H own load ≡ told (firstRow (limitRows H own f (judgedBy cs r only)))
-    judged-by u n ns only f e k g same = judged-as u n ns only e k g ∙ ap (λ rows. told (firstRow rows)) (rows-load H own load f same (judgedBy cs r only))
+        → ((h : ℕ) → 1 ≤ h → h ≤ H → load h ≡ f h) → judgedIn u n ns only H own load ≡ judgement (firstRow (limitRows H own f (judgedBy cs r only)))
+    judged-by u n ns only f e k g same = judged-as u n ns only e k g ∙ ap (λ rows. judgement (firstRow rows)) (rows-load H own load f same (judgedBy cs r only))

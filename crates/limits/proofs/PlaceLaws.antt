@@ -11,7 +11,7 @@ use Rattle.rules.specs.Refusals.{firstRow}
 use Rattle.rules.specs.Lodging.{judgedBy}
 use Rattle.arrays.specs.declared.Places.{Places}
 use Rattle.session.specs.Bare.{bareEnergies}
-use Rattle.session.specs.Parts.{told}
+use Rattle.session.specs.Parts.{judgement}
 use Rattle.session.specs.declared.Energies.{Energies}
 use Rattle.session.specs.declared.Unit.{Unit}
 use Rattle.session.specs.declared.Notice.{Notice}
@@ -90,7 +90,7 @@ pub judged-same : (u : Unit) (notice : Notice) (cs : List Notice) (only : Bool) 
 unfolding judgedIn
 judged-same u notice cs only H own like f g e k =
     let ls = judgedBy (map noticeIn cs) (registeredIn u notice) only in
-    ap (λ rows. told (firstRow rows)) (rows-own H own like f e ls ∙ rows-load H like f g k ls)
+    ap (λ rows. judgement (firstRow rows)) (rows-own H own like f e ls ∙ rows-load H like f g k ls)
 
 -- the judgement by places is that by marks
 module _ (u : Unit) (notice : Notice) (cs : List Notice) (only : Bool) (H : ℕ) (own loads ps : List ℕ) (bs : List Bool) (n : ℕ) (es : List Energies) where
@@ -98,7 +98,7 @@ module _ (u : Unit) (notice : Notice) (cs : List Notice) (only : Bool) (H : ℕ)
       → judgedIn u notice cs only H own (loadBy own loads ps) ≡ judgedIn u notice cs only H own (loadIn own bs (take n es))
   unfolding judgedIn
   judged-places most b f e =
-      ap (λ rows. told (firstRow rows))
+      ap (λ rows. judgement (firstRow rows))
       (rows-load H own (loadBy own loads ps) (loadIn own bs (take n es))
       (λ h i k. ap (λ (qs : List ℕ). loadBy own loads qs h) (e ∙ ap (λ m. marked bs (from 0 m)) (sym-length b)) ∙ load-places loads h own bs (take n es) i (omega arith) f)
       (judgedBy (map noticeIn cs) (registeredIn u notice) only))

@@ -10,7 +10,7 @@ use Rattle.rules.specs.Refusals.{Row, firstRow}
 use Rattle.rules.specs.Units.{Registered}
 use Rattle.rules.specs.Lodging.{judgedBy, limitRows}
 use Rattle.session.specs.Image.{unitIn}
-use Rattle.session.specs.Parts.{told}
+use Rattle.session.specs.Parts.{judgement}
 use Rattle.session.specs.declared.Unit.{Unit}
 use Rattle.session.specs.declared.Notice.{Notice}
 use Rattle.session.specs.declared.Judged.{Judged}
@@ -25,7 +25,7 @@ registeredIn u n = record { unit = unitIn u; available = noticeIn n }
 
 -- The judgement: the first of the limits that is passed, with the lowest hour in which it is.
 unfoldable pub judgedIn : Unit → Notice → List Notice → Bool → ℕ → List ℕ → (ℕ → ℕ) → Judged
-judgedIn u n cs only H own load = told (firstRow (limitRows H own load (judgedBy (map noticeIn cs) (registeredIn u n) only)))
+judgedIn u n cs only H own load = judgement (firstRow (limitRows H own load (judgedBy (map noticeIn cs) (registeredIn u n) only)))
 
 -- the row of a limit by its hour, 0 where it is passed in none
 abbrev pub rowAt : ℕ → ℕ → Row
@@ -33,7 +33,7 @@ rowAt n h = record { number = n; hour = h; applies = not (eqb h 0) }
 
 -- the row that is given, by the lowest hours in which 10, 11 and 12 are passed
 unfoldable pub lowestRow : ℕ → ℕ → ℕ → Judged
-lowestRow ten eleven twelve = told (firstRow (rowAt 10 ten ∷ rowAt 11 eleven ∷ rowAt 12 twelve ∷ []))
+lowestRow ten eleven twelve = judgement (firstRow (rowAt 10 ten ∷ rowAt 11 eleven ∷ rowAt 12 twelve ∷ []))
 
 -- limit 12 in an hour, none where it does not apply
 unfoldable pub borderAt : BorderLimit → ℕ → Option ℕ

@@ -1,9 +1,8 @@
 // A line of a rehearsal run on a session.
+use answer::Response;
 use asking::reply_to;
 use calendar::Date;
 use message::Fields;
-use queries::Reply;
-use session::Answer;
 use session::Session;
 use session::Turn;
 use telling::Said;
@@ -37,20 +36,17 @@ fn unknown(s: Session) -> Told {
     }
 }
 
-fn called(t: Turn) -> Told {
-    let session = t.session;
-    let answer = t.answer;
+fn answered(s: Session, answer: Response) -> Told {
     Told {
-        session,
-        said: Said::Call(answer),
+        session: s,
+        said: Said::Answer(answer),
     }
 }
 
-fn replied(s: Session, reply: Reply) -> Told {
-    Told {
-        session: s,
-        said: Said::Query(reply),
-    }
+fn called(t: Turn) -> Told {
+    let session = t.session;
+    let answer = t.answer;
+    answered(session, answer)
 }
 
 // Calls by their record
@@ -94,10 +90,7 @@ fn open_date(date: Date) -> Told {
     let opened = session::open(date);
     let session = opened.session;
     let answer = opened.answer;
-    Told {
-        session,
-        said: Said::Call(answer),
-    }
+    answered(session, answer)
 }
 
 // open 2006-10-29
@@ -133,11 +126,8 @@ fn write_and_lodge(m: Fields, s: Session) -> Told {
     let mut message = [0u8; 108];
     let w = writer::write(m, &mut message);
     if w.refusal != 0 {
-        let answer = Answer::Refused(w.refusal, 0);
-        return Told {
-            session: s,
-            said: Said::Call(answer),
-        };
+        let answer = answer::refused(w.refusal, 0);
+        return answered(s, answer);
     }
     run_first(s, LODGE, &message, w.count)
 }
@@ -159,7 +149,7 @@ fn run_query(line: &[u8], p: Scan, kind: u8, s: Session) -> Told {
         return unknown(s);
     }
     let r = reply_to(s, kind, q.of, q.import == 0, q.hour);
-    replied(s, r)
+    answered(s, r)
 }
 
 // report

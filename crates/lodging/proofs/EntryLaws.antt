@@ -8,11 +8,10 @@ use Rattle.rules.specs.DayBook as D
 use Rattle.message.specs.View.{fieldsIn}
 use Rattle.message.specs.declared.Fields.{Fields}
 use Rattle.changes.specs.Changes.{Placed, standingTurn}
-use Rattle.session.specs.Steps.{said, isRefusal}
+use Rattle.answer.specs.Told.{told, isRefusal, numbered}
 use Rattle.session.specs.declared.Key.{Key}
 use Rattle.session.specs.declared.Session.{Session}
 use Rattle.changes.specs.declared.StandingTurn.{StandingTurn}
-use Rattle.session.specs.declared.Answer.the-variants.{Numbered}
 use Rattle.session.proofs.ImageLaws.{last-as}
 use Rattle.keys.specs.Keys.{keyFor, keyPlace, leftOf}
 use Rattle.keys.proofs.TakenLaws.{left-behind, entered-image}
@@ -32,7 +31,7 @@ entering k f p m number = record {
     last = number;
     changed = true;
   };
-  answer = Numbered number;
+  answer = numbered number;
 }
 
 module _ (s : Session) (f : Fields) (k : Key) (p m : ℕ) (same : k ≡ keyFor f) (at : p ≡ keyPlace s (keyFor f)) (left : m ≡ leftOf (s .standing) p) (r : Room s (keyFor f)) where
@@ -46,7 +45,7 @@ module _ (s : Session) (f : Fields) (k : Key) (p m : ℕ) (same : k ≡ keyFor f
       record { forward = omega arith; to = room-left; at = room-left; still = λ e. absurd (false≢true (sym e)) }
 
   pub entered : EnteredFields s f (standingTurn s (entering k f p m (s .last + 1)))
-  unfolding said isRefusal D.entry L.keyOf
+  unfolding told isRefusal D.entry L.keyOf
   entered = record {
     book = λ b sound h e.
         let n : s .last + 1 ≡ suc (b .last) = omega (arith, last-as s b e) in

@@ -8,7 +8,7 @@ use Rattle.rules.specs.Message.{energyWidth, decode, badForm}
 use Rattle.rules.specs.DayBook as D
 use Rattle.message.specs.View.{fieldsIn}
 use Rattle.message.specs.declared.Fields.{Fields}
-use Rattle.session.specs.Parts.{told, Judges, Entered}
+use Rattle.session.specs.Parts.{judgement, Judges, Entered}
 use Rattle.session.specs.declared.Session.{Session}
 use Rattle.session.specs.declared.Turn.{Turn}
 use Rattle.session.specs.declared.Judged.{Judged}
@@ -29,8 +29,8 @@ module _ (s : Session) (bytes : List ℕ) where
     unfolding D.rowsOf D.lodgeRows D.changeRow fieldRows lastRows
     lodge-judged h f j l b e =
         l b e
-        ∙ (ap (λ n. told (firstRow (fieldRows b n))) said
-        ∙ sym (ap told (past (b .closed) (badForm energyWidth bytes) (fieldRows b (decode energyWidth bytes)) (closed-as s b e ∙ h) f)))
+        ∙ (ap (λ n. judgement (firstRow (fieldRows b n))) said
+        ∙ sym (ap judgement (past (b .closed) (badForm energyWidth bytes) (fieldRows b (decode energyWidth bytes)) (closed-as s b e ∙ h) f)))
 
     pub lodge-entered : (r : Turn) → EnteredFields s m r → Entered s (D.lodge bytes) r
     unfolding D.rowsOf D.lodgeRows D.applied D.reply

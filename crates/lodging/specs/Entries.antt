@@ -9,7 +9,8 @@ use Rattle.rules.specs.DayBook as D
 use Rattle.message.specs.View.{fieldsIn}
 use Rattle.message.specs.declared.Fields.{Fields}
 use Rattle.session.specs.Image.{image, Sound}
-use Rattle.session.specs.Steps.{As, isRefusal}
+use Rattle.answer.specs.Told.{isRefusal}
+use Rattle.session.specs.Steps.{As}
 use Rattle.session.specs.declared.Session.{Session}
 use Rattle.session.specs.declared.Turn.{Turn}
 

@@ -5,12 +5,12 @@ ghost use Rattle.changes.specs.Changes.{Placed, standingTurn};
 ghost use Rattle.keys.specs.Keys.{keyFor, keyPlace};
 ghost use Rattle.admission.specs.Judging.{Room};
 ghost use Rattle.lodging.specs.Entries.{EnteredFields};
+use answer::numbered;
 use changes::StandingChange;
 use changes::StandingTurn;
 use keys::key_of;
 use keys::left_of;
 use message::Fields;
-use session::Answer;
 use session::Energies;
 use session::Lodgement;
 use session::Session;
@@ -45,8 +45,6 @@ pub fn enter(s: Session, m: Fields, from: usize) -> StandingTurn
         last: number,
         changed: true,
     };
-    StandingTurn {
-        change: change,
-        answer: Answer::Numbered(number),
-    }
+    let answer = numbered(number);
+    StandingTurn { change, answer }
 }

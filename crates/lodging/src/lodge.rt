@@ -15,7 +15,9 @@ use pending::Excerpt;
 use pending::Pending;
 use pending::excerpt_of;
 use pending::pend;
+use session::Energies;
 use session::Judged;
+use session::Notice;
 use session::Session;
 use session::Turn;
 
@@ -33,6 +35,29 @@ pub fn lodge_pending(s: Session, p: Pending, x: Excerpt) -> StandingTurn
         Judged::No(row, hour) => standing_refused(s, row, hour),
         Judged::Clear => enter(s, m, p.replaces),
     }
+}
+
+// The same, with what its judgement reads of the session element by element, as whoever lends the session reads it there.
+pub fn lodge_change(
+    s: Session,
+    p: Pending,
+    notice: Notice,
+    first: Energies,
+    second: Energies,
+    third: Energies,
+    fourth: Energies,
+) -> StandingTurn
+    requires { ⌜ Prepared s p × (record { notice = notice; first = first; second = second; third = third; fourth = fourth } ≡ excerptAt s p) ⌝ }
+    ensures { λ r. ⌜ ((bytes : List ℕ) → Pends s bytes p → Met s (lodge bytes) (standingTurn s r)) × Placed (r .change) ⌝ }
+{
+    let x = Excerpt {
+        notice: notice,
+        first: first,
+        second: second,
+        third: third,
+        fourth: fourth,
+    };
+    lodge_pending(s, p, x)
 }
 
 // Lodges a message: 2, 3, 4, 5, 6, 9, 10, 11, 12.

@@ -8,8 +8,10 @@ use lib.ListN.{getD, take, drop, length}
 use Rattle.rules.specs.Lists.{from}
 use Rattle.rules.specs.Units.{TradingUnit, Published, Capacities}
 use Rattle.rules.specs.Lodging.{Key}
-use Rattle.rules.specs.DayBook.{Call, register, capacity, available, lodge, annul, close, clear, Answer, done, refusal, numbered, steps}
+use Rattle.rules.specs.Borders.{positive}
+use Rattle.rules.specs.DayBook.{Call, register, capacity, available, lodge, annul, close, clear}
 use Rattle.bits.specs.Bits.{wordAt}
+use Rattle.answer.specs.declared.Response.{Response}
 use Rattle.session.specs.Laid.{counted}
 
 -- What a record's bytes say
@@ -100,9 +102,11 @@ unfoldable pub bytesIn : ℕ → List ℕ → ℕ
 bytesIn zero log = 0
 bytesIn (suc n) log = cond (starts log) (3 + sizeOf log + bytesIn n (onward log)) 0
 
--- an answer as one number: its kind, and what it says below (a day's steps are at most 25 times 128 times 99,999)
-unfoldable pub answerWord : Answer → ℕ
-answerWord done = 0
-answerWord (refusal n h) = 1152921504606846976 + (n * 256 + h)
-answerWord (numbered n) = 2 * 1152921504606846976 + n
-answerWord (steps n) = 3 * 1152921504606846976 + min n 1152921504606846975
+-- a call's answer as one number: its kind, and what it says below: nothing, row and hour, a lodging number, or steps (a day's are at
+-- most 25 times 128 times 99,999)
+unfoldable pub answerWord : Response → ℕ
+answerWord r =
+    cond (eqb (r .kind) 1) (1152921504606846976 + (r .row * 256 + r .hour))
+    (cond (eqb (r .kind) 2) (2 * 1152921504606846976 + min (positive (r .value)) 1152921504606846975)
+    (cond (eqb (r .kind) 3) (3 * 1152921504606846976 + min (r .count) 1152921504606846975)
+    0))

@@ -2,13 +2,16 @@
 // document 01's; docs/LOG.md says it byte by byte).
 ghost use mathlib.Core.Path.{_≡_};
 ghost use Prim.Native.Nat.{_≤_, min};
-ghost use Rattle.session.specs.Steps.{said};
+ghost use Rattle.rules.specs.Borders.{positive};
 ghost use Rattle.bits.specs.Bits.{wordAt};
 ghost use Rattle.session.specs.Image.{unitIn, keyIn, publishedIn, capacitiesIn};
 ghost use Rattle.log.specs.Calls.{markAt, numbersAt, unitOf, keyOf, directionAt, directionsOf, isCall, answerWord};
+use answer::NUMBERED;
+use answer::REFUSED;
+use answer::Response;
+use answer::STEPS;
 use bits::byte_at;
 use bits::word_at;
-use session::Answer;
 use session::Key;
 use session::Published;
 use session::Unit;
@@ -44,16 +47,31 @@ pub fn is_call(kind: u8, size: usize) -> bool
     false
 }
 
-// An answer as one number.
-pub fn answer_word(a: Answer) -> u64
-    ensures { λ r. ⌜ r ≡ answerWord (said a) ⌝ }
+// A call's answer as one number.
+pub fn answer_word(a: Response) -> u64
+    ensures { λ r. ⌜ r ≡ answerWord a ⌝ }
 {
-    match a {
-        Answer::Refused(n, h) => KIND + (n as u64 * 256 + h as u64),
-        Answer::Done => 0,
-        Answer::Numbered(n) => 2 * KIND + n as u64,
-        Answer::Steps(n) => 3 * KIND + at_most(n, KIND - 1),
+    if a.kind == REFUSED {
+        return KIND + (a.row as u64 * 256 + a.hour as u64);
     }
+    if a.kind == NUMBERED {
+        let n = above(a.value);
+        return 2 * KIND + at_most(n, KIND - 1);
+    }
+    if a.kind == STEPS {
+        return 3 * KIND + at_most(a.count, KIND - 1);
+    }
+    0
+}
+
+// How far a number is above zero.
+fn above(n: i64) -> u64
+    ensures { λ r. ⌜ r ≡ positive n ⌝ }
+{
+    if n < 0 {
+        return 0;
+    }
+    n as u64
 }
 
 fn at_most(n: u64, top: u64) -> u64

@@ -8,14 +8,13 @@ use native.Mathlib.Omega.{arith}
 use lib.IntN.{ℤ, pos, subℕ}
 use lib.ListN.{getD}
 use borrow.Author.Tests.{le-ltb, lt-ltb}
-use Rattle.rules.specs.Refusals.{given}
 use Rattle.rules.specs.Units as U
 use Rattle.rules.specs.Units.{Published, capacityOf}
 use Rattle.rules.specs.Book.{Book}
 use Rattle.rules.specs.Executions.{bilateralMaximum}
 use Rattle.rules.specs.Clearing.{figuresAt}
 use Rattle.rules.specs.Queries as Q
-use Rattle.rules.specs.Queries.{number, shown}
+use Rattle.rules.specs.Queries.{shown}
 use Rattle.rules.proofs.BalanceLaws.{marketFlow}
 use Rattle.borders.specs.Ways.{wayOf}
 use Rattle.session.specs.Bare.{bareNotice}
@@ -25,9 +24,9 @@ use Rattle.session.specs.declared.Notice.{Notice}
 use Rattle.session.specs.declared.Cleared.{Cleared}
 use Rattle.session.proofs.PlaceLaws.{getD-map}
 use Rattle.session.proofs.ImageLaws.{capacities-as}
-use Rattle.queries.specs.Replies.{replyIn}
+use Rattle.answer.specs.Told as T
+use Rattle.answer.specs.Told.{valueTold, figure}
 use Rattle.queries.specs.Parts.{figuresIn}
-use Rattle.queries.specs.declared.Reply.the-variants.{Number, Absent}
 use Rattle.queries.proofs.FigureLaws.{figures-as}
 use Rattle.queries.proofs.ReplyLaws.{SameRows}
 use Rattle.balances.specs.Parts.{BorderFits}
@@ -109,24 +108,24 @@ module _ (s : Session) (hour : ℕ) (x : Cleared) (at : x ≡ figuresIn s hour) 
       is-given : noticeAs (capacityOf (b .capacities) border export) .given ≡ true
       is-given = ap (λ (y : Notice). y .given) (sym the-notice) ∙ is
 
-      pub marketMax-shown : (n : ℕ) → n ≡ getD (x .maxima) (wayOf border export) 0 → replyIn (Number (pos n)) ≡ given (shown b (Q.marketMax border export hour))
-      unfolding replyIn shown
+      pub marketMax-shown : (n : ℕ) → n ≡ getD (x .maxima) (wayOf border export) 0 → figure (pos n) ≡ valueTold (shown b (Q.marketMax border export hour))
+      unfolding valueTold shown
       marketMax-shown n q =
           by-published (capacityOf (b .capacities) border export) is-given
-          (λ es k. ap (λ m. given (number (pos m))) (q ∙ maximum-at export) ∙ ap given (sym (the-maximum b border export (f .low) (f .high) hour es k)))
+          (λ es k. ap (λ m. figure (pos m)) (q ∙ maximum-at export) ∙ ap valueTold (sym (the-maximum b border export (f .low) (f .high) hour es k)))
 
       pub bilateralMax-shown : (z : ℤ)
           → z ≡ subℕ (getD (c .energies) (hour - 1) 0 + getD (x .market) (wayOf border (not export)) 0) (getD (x .market) (wayOf border export) 0)
-          → replyIn (Number z) ≡ given (shown b (Q.bilateralMax border export hour))
-      unfolding replyIn shown
+          → figure z ≡ valueTold (shown b (Q.bilateralMax border export hour))
+      unfolding valueTold shown
       bilateralMax-shown z q =
           by-published (capacityOf (b .capacities) border export) is-given
           (λ es k.
           let d = bilateralMaximum (figuresAt b hour .offers) in
           let capacity = ap (λ (y : Notice). getD (y .energies) (hour - 1) 0) (the-notice ∙ ap noticeAs k) ∙ notice-hourly es hour in
-          ap (λ y. given (number y))
+          ap figure
           (q ∙ ap₂ subℕ (ap₂ (λ m n. m + n) capacity (flow-at (not export))) (flow-at export) ∙ sym (bilateral-by-flows (figuresAt b hour .offers) _))
-          ∙ ap given (sym (the-capacity b border export (f .low) (f .high) hour d es k)))
+          ∙ ap valueTold (sym (the-capacity b border export (f .low) (f .high) hour d es k)))
 
 -- maxima without
 
@@ -136,10 +135,10 @@ module _ (s : Session) (hour border : ℕ) (export : Bool) (f : BorderFits s bor
       not-given (capacityOf (b .capacities) border export)
       (ap (λ (y : Notice). y .given) (sym (capacity-as s b e sound border export (f .high)) ∙ sym cq) ∙ is)
 
-  pub marketMax-absent : replyIn Absent ≡ given (shown b (Q.marketMax border export hour))
-  unfolding replyIn shown
-  marketMax-absent = ap given (sym (no-maximum b border export (f .low) (f .high) hour (λ m. pos (m .energy)) is-none))
+  pub marketMax-absent : T.absent ≡ valueTold (shown b (Q.marketMax border export hour))
+  unfolding valueTold shown
+  marketMax-absent = ap valueTold (sym (no-maximum b border export (f .low) (f .high) hour (λ m. pos (m .energy)) is-none))
 
-  pub bilateralMax-absent : replyIn Absent ≡ given (shown b (Q.bilateralMax border export hour))
-  unfolding replyIn shown
-  bilateralMax-absent = ap given (sym (no-capacity b border export (f .low) (f .high) hour (bilateralMaximum (figuresAt b hour .offers)) is-none))
+  pub bilateralMax-absent : T.absent ≡ valueTold (shown b (Q.bilateralMax border export hour))
+  unfolding valueTold shown
+  bilateralMax-absent = ap valueTold (sym (no-capacity b border export (f .low) (f .high) hour (bilateralMaximum (figuresAt b hour .offers)) is-none))

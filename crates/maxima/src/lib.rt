@@ -6,12 +6,14 @@ ghost use Rattle.rules.specs.Queries as Q;
 ghost use Rattle.queries.specs.Replies.{Answered};
 ghost use Rattle.queries.specs.Parts.{figuresIn};
 ghost use Rattle.maxima.specs.Parts.{noticePlace, capacityIn};
+use answer::Response;
+use answer::absent;
+use answer::number;
+use answer::refused;
 use balances::difference;
 use balances::judge_border;
 use balances::of_way;
-use queries::Reply;
 use queries::figures_at;
-use queries::number;
 use session::Cleared;
 use session::Judged;
 use session::Notice;
@@ -58,16 +60,16 @@ pub fn market_maximum_from(
     border: u32,
     export: bool,
     hour: u32,
-) -> Reply
+) -> Response
     requires { ⌜ (x ≡ figuresIn s hour) × (capacity ≡ capacityIn s border export) ⌝ }
     ensures { λ r. ⌜ Answered s (Q.marketMax border export hour) r ⌝ }
 {
     let j = judge_border(s, border, hour);
     if let Judged::No(row, at) = j {
-        return Reply::Refused(row, at);
+        return refused(row, at);
     }
     if !capacity.given {
-        return Reply::Absent;
+        return absent();
     }
     let maxima = x.maxima;
     let maximum = of_way(maxima, border, export);
@@ -75,7 +77,7 @@ pub fn market_maximum_from(
 }
 
 // The market maximum of a border's direction, "absent without capacity": 2, 4, 5.
-pub fn market_maximum(s: Session, border: u32, export: bool, hour: u32) -> Reply
+pub fn market_maximum(s: Session, border: u32, export: bool, hour: u32) -> Response
     ensures { λ r. ⌜ Answered s (Q.marketMax border export hour) r ⌝ }
 {
     let x = figures_at(s, hour);
@@ -92,16 +94,16 @@ pub fn bilateral_maximum_from(
     border: u32,
     export: bool,
     hour: u32,
-) -> Reply
+) -> Response
     requires { ⌜ (x ≡ figuresIn s hour) × (notice ≡ capacityIn s border export) ⌝ }
     ensures { λ r. ⌜ Answered s (Q.bilateralMax border export hour) r ⌝ }
 {
     let j = judge_border(s, border, hour);
     if let Judged::No(row, at) = j {
-        return Reply::Refused(row, at);
+        return refused(row, at);
     }
     if !notice.given {
-        return Reply::Absent;
+        return absent();
     }
     let energies = notice.energies;
     let capacity = of_hour(energies, hour);
@@ -112,7 +114,7 @@ pub fn bilateral_maximum_from(
 }
 
 // Its bilateral maximum: 2, 4, 5.
-pub fn bilateral_maximum(s: Session, border: u32, export: bool, hour: u32) -> Reply
+pub fn bilateral_maximum(s: Session, border: u32, export: bool, hour: u32) -> Response
     ensures { λ r. ⌜ Answered s (Q.bilateralMax border export hour) r ⌝ }
 {
     let x = figures_at(s, hour);

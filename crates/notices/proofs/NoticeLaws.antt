@@ -22,7 +22,7 @@ use Rattle.rules.proofs.HoursLaws.{hours-most}
 use Rattle.session.specs.Laid.{pad, counted}
 use Rattle.session.specs.Image.{image, Sound, verdictsIn, hoursIn, unitOf, noticeOf, noticeAs, noNotice, noUnit}
 use Rattle.changes.specs.Changes.{withRegistry, registryTurn}
-use Rattle.session.specs.Steps.{said, isRefusal}
+use Rattle.answer.specs.Told.{told, isRefusal}
 use Rattle.session.specs.Parts.{numberIs, placeOf, Holds, Judges, Entered}
 use Rattle.notices.specs.Notices.{keptAs, notedAt}
 use Rattle.session.specs.declared.Session.{Session}
@@ -129,7 +129,7 @@ count-of-hours b n count es o =
 -- a notice at a unit's place
 available-entered : (s : Session) (n count : ℕ) (es : List ℕ) (d : Unit) (p : ℕ) → p ≡ placeOf (numberIs n) (take (s .enrolled) (s .units)) → p < s .enrolled
     → Entered s (D.available n (counted count es)) (registryTurn s (notedAt s p (getD (s .units) p d) count es))
-unfolding said isRefusal D.reply D.rowsOf
+unfolding told isRefusal D.reply D.rowsOf
 available-entered s n count es d p at h = record {
   book = λ b sound o e.
       let k = kept-as count es (count-of-hours b n count es o) in

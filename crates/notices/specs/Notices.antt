@@ -3,12 +3,18 @@ use Prim.Native.Nat.{ℕ}
 use mathlib.Core.Bool.{true}
 use mathlib.Core.List.{List}
 use lib.ListN.{take}
-use Rattle.session.specs.Laid.{pad}
+use Rattle.rules.specs.DayBook as D
+use Rattle.answer.specs.Told.{accepted}
+use Rattle.session.specs.Laid.{pad, counted}
 use Rattle.session.specs.declared.Unit.{Unit}
 use Rattle.session.specs.declared.Notice.{Notice}
 use Rattle.session.specs.declared.Session.{Session}
-use Rattle.session.specs.declared.Answer.the-variants.{Done}
 use Rattle.changes.specs.declared.RegistryTurn.{RegistryTurn}
+use Rattle.notices.specs.declared.Availability.{Availability}
+
+-- the call that a notice stands for
+abbrev pub availableIn : Availability → D.Call
+availableIn n = D.available (n .unit) (counted (n .count) (n .energies))
 
 -- energies that are kept: those of the count, 0 behind
 unfoldable pub keptAs : ℕ → List ℕ → Notice
@@ -18,5 +24,5 @@ keptAs count es = record { given = true; energies = pad 25 0 (take count es) }
 abbrev pub notedAt : Session → ℕ → Unit → ℕ → List ℕ → RegistryTurn
 notedAt s at u count es = record {
   change = record { enrolled = s .enrolled; at = at; unit = u; notice = keptAs count es; changed = true };
-  answer = Done;
+  answer = accepted;
 }

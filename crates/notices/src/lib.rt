@@ -8,12 +8,12 @@ ghost use Rattle.session.specs.Laid.{pad, counted};
 ghost use Rattle.changes.specs.Changes.{registryTurn};
 ghost use Rattle.session.specs.Steps.{Met};
 ghost use Rattle.session.specs.Parts.{Judges, unitPlace};
-ghost use Rattle.notices.specs.Notices.{keptAs, notedAt};
+ghost use Rattle.notices.specs.Notices.{keptAs, notedAt, availableIn};
+use answer::accepted;
 use changes::RegistryChange;
 use changes::RegistryTurn;
 use changes::registry_refused;
 use changes::with_registry;
-use session::Answer;
 use session::GATE;
 use session::HOUR;
 use session::Judged;
@@ -25,6 +25,14 @@ use session::Turn;
 use session::Unit;
 use session::units::bad_number;
 use session::units::holder_of;
+
+// An unavailability notice: `count` available energies of a unit.
+#[repr(C)]
+pub struct Availability {
+    pub unit: u32,
+    pub count: usize,
+    pub energies: [u32; 25],
+}
 
 // Row 5: one of `count` energies is above the limit.
 pub fn bad_energies(count: usize, energies: [u32; 25]) -> bool
@@ -107,34 +115,33 @@ fn note_available(
         notice: notice,
         changed: true,
     };
-    RegistryTurn {
-        change: change,
-        answer: Answer::Done,
-    }
+    let answer = accepted();
+    RegistryTurn { change, answer }
 }
 
 // What an unavailability notice changes: that of one place.
-pub fn available_change(s: Session, number: u32, count: usize, energies: [u32; 25]) -> RegistryTurn
-    ensures { λ r. ⌜ Met s (available number (counted count energies)) (registryTurn s r) × (r .change .at < 64) ⌝ }
+pub fn available_change(s: Session, notice: Availability) -> RegistryTurn
+    ensures { λ r. ⌜ Met s (availableIn notice) (registryTurn s r) × (r .change .at < 64) ⌝ }
 {
+    let energies = notice.energies;
     if !s.sound() {
         return registry_refused(s, GATE, 0);
     }
     let units = s.units;
-    let holder = holder_of(units, s.enrolled, number);
+    let holder = holder_of(units, s.enrolled, notice.unit);
     let at = holder.at;
     let unit = holder.unit;
-    let j = judge_available(s, at, number, count, energies);
+    let j = judge_available(s, at, notice.unit, notice.count, energies);
     match j {
         Judged::No(row, hour) => registry_refused(s, row, hour),
-        Judged::Clear => note_available(s, at, unit, count, energies),
+        Judged::Clear => note_available(s, at, unit, notice.count, energies),
     }
 }
 
-// Takes an unavailability notice of `count` available energies for a unit: 2, 4, 5, 6.
-pub fn available(s: Session, number: u32, count: usize, energies: [u32; 25]) -> Turn
-    ensures { λ r. ⌜ Met s (available number (counted count energies)) r ⌝ }
+// Takes an unavailability notice: 2, 4, 5, 6.
+pub fn available(s: Session, notice: Availability) -> Turn
+    ensures { λ r. ⌜ Met s (availableIn notice) r ⌝ }
 {
-    let t = available_change(s, number, count, energies);
+    let t = available_change(s, notice);
     with_registry(s, t)
 }

@@ -8,7 +8,6 @@ use lib.IntN.{pos}
 use lib.ListN.{length, getD, length-map, List·getD-append}
 use borrow.Author.Tests.{le-ltb, lt-ltb}
 use Rattle.rules.specs.Lists.{from}
-use Rattle.rules.specs.Refusals.{given}
 use Rattle.rules.specs.Book.{Book, hours}
 use Rattle.rules.specs.Queries as Q
 use Rattle.session.specs.Bare.{bareFigures}
@@ -18,9 +17,8 @@ use Rattle.session.specs.declared.Session.{Session}
 use Rattle.session.specs.declared.Cleared.{Cleared}
 use Rattle.session.proofs.PlaceLaws.{getD-map}
 use Rattle.session.proofs.ImageLaws.{hours-as, cleared-as}
-use Rattle.queries.specs.Replies.{replyIn}
+use Rattle.answer.specs.Told.{valueTold, figure}
 use Rattle.queries.specs.Parts.{placeIn, figuresIn, HourFits}
-use Rattle.queries.specs.declared.Reply.the-variants.{Number}
 
 -- Places of lists
 
@@ -72,6 +70,6 @@ module _ (s : Session) (b : Book) (e : s ≡ image b) where
 
 -- what the price's query reads is what it is to show
 pub price-shown : (s : Session) (hour : ℕ) (x : Cleared) → x ≡ figuresIn s hour → HourFits s hour
-    → (b : Book) → Sound b → s ≡ image b → replyIn (Number (pos (x .price))) ≡ given (Q.shown b (Q.price hour))
-unfolding replyIn Q.shown figuresAs
-price-shown s hour x at f b sound e = ap (λ (y : Cleared). given (Q.number (pos (y .price)))) (at ∙ figures-as s b e f)
+    → (b : Book) → Sound b → s ≡ image b → figure (pos (x .price)) ≡ valueTold (Q.shown b (Q.price hour))
+unfolding valueTold Q.shown figuresAs
+price-shown s hour x at f b sound e = ap (λ (y : Cleared). figure (pos (y .price))) (at ∙ figures-as s b e f)

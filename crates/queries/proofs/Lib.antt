@@ -1,4 +1,3 @@
-pub mod SignedLaws
 pub mod FigureLaws
 pub mod RowLaws
 pub mod ReplyLaws

@@ -11,7 +11,7 @@ use Rattle.rules.specs.Book.{Book, hours}
 use Rattle.rules.specs.Queries as Q
 use Rattle.rules.proofs.BoolLaws.{by-bool}
 use Rattle.session.specs.Image.{image, Sound}
-use Rattle.session.specs.Parts.{within, told}
+use Rattle.session.specs.Parts.{within, judgement}
 use Rattle.session.specs.declared.Session.{Session}
 use Rattle.session.specs.declared.Judged.the-variants.{No, Clear}
 use Rattle.session.proofs.ImageLaws.{image-within, hours-as, cleared-as}
@@ -57,7 +57,7 @@ module _ (s : Session) (h : ℕ) where
 
 module _ (b : Book) (h : ℕ) (rows : List Row) where
   -- a row of the hour is given in front of them
-  pub front : {n k : ℕ} → No n k ≡ told (firstRow (Q.figureRows b h [])) → No n k ≡ told (firstRow (Q.figureRows b h rows))
+  pub front : {n k : ℕ} → No n k ≡ judgement (firstRow (Q.figureRows b h [])) → No n k ≡ judgement (firstRow (Q.figureRows b h rows))
   unfolding Q.figureRows row firstRow
   front {n} {k} q =
       by-bool (b .cleared)
@@ -65,7 +65,7 @@ module _ (b : Book) (h : ℕ) (rows : List Row) where
       (λ c. rw c (rw c at q))
 
   -- where none of the hour is, they are
-  pub behind : Clear ≡ told (firstRow (Q.figureRows b h [])) → firstRow (Q.figureRows b h rows) ≡ firstRow rows
+  pub behind : Clear ≡ judgement (firstRow (Q.figureRows b h [])) → firstRow (Q.figureRows b h rows) ≡ firstRow rows
   unfolding Q.figureRows row firstRow
   behind q =
       by-bool (b .cleared)

@@ -9,14 +9,14 @@ use Rattle.rules.specs.Book.{Book}
 use Rattle.rules.specs.Queries.{Query, queryRows}
 use Rattle.session.specs.Bare.{bareFigures}
 use Rattle.session.specs.Image.{image, Sound}
-use Rattle.session.specs.Parts.{Within, told}
+use Rattle.session.specs.Parts.{Within, judgement}
 use Rattle.session.specs.declared.Session.{Session}
 use Rattle.session.specs.declared.Cleared.{Cleared}
 use Rattle.session.specs.declared.Judged.{Judged}
 
 -- a judgement is the first of the query's rows that applies
 abbrev pub Judges : Session → Query → Judged → Type 0
-Judges s q j = (b : Book) → Sound b → s ≡ image b → j ≡ told (firstRow (queryRows b q))
+Judges s q j = (b : Book) → Sound b → s ≡ image b → j ≡ judgement (firstRow (queryRows b q))
 
 -- what no row refuses: an hour of a cleared day
 pub record HourFits (s : Session) (hour : ℕ) : Type 0 where

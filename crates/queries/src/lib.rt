@@ -2,26 +2,17 @@
 // a border's balances in `balances` and its maxima in `maxima`.
 ghost use mathlib.Core.Path.{_≡_};
 ghost use Prim.Native.Nat.{_<_};
-ghost use lib.IntN.{pos};
 ghost use Rattle.rules.specs.Queries as Q;
 ghost use Rattle.queries.specs.Replies.{Answered};
 ghost use Rattle.queries.specs.Parts.{Judges, HourFits, placeIn, figuresIn};
+use answer::Response;
+use answer::number;
+use answer::refused;
 use session::Cleared;
 use session::GATE;
 use session::HOUR;
 use session::Judged;
 use session::Session;
-
-// What a query is answered with: a refusal has the table's number and an hour, 0 where the table gives none; a verdict is
-// accepted, hidden, or a limit's number and hour; a figure is a number, or absent for a maximum without capacity.
-pub enum Reply {
-    Refused(u32, u32),
-    Accepted,
-    Hidden,
-    Limit(u32, u32),
-    Number(i64),
-    Absent,
-}
 
 // A figure of an hour: 2, 4. A session that the guard rejects is answered 2; no call leaves one.
 pub fn judge_hour(s: Session, hour: u32) -> Judged
@@ -40,13 +31,6 @@ pub fn judge_hour(s: Session, hour: u32) -> Judged
         return Judged::No(HOUR, 0);
     }
     Judged::Clear
-}
-
-pub fn number(a: u32) -> Reply
-    ensures { λ r. ⌜ r ≡ Reply.Number (pos a) ⌝ }
-{
-    let n = a as i64;
-    Reply::Number(n)
 }
 
 // The place of an hour's figures: an index for any number, as what is no hour is refused whatever is read.
@@ -72,19 +56,19 @@ pub fn figures_at(s: Session, hour: u32) -> Cleared
 }
 
 // The hour's price, from its figures: 2, 4.
-pub fn price_from(s: Session, x: Cleared, hour: u32) -> Reply
+pub fn price_from(s: Session, x: Cleared, hour: u32) -> Response
     requires { ⌜ x ≡ figuresIn s hour ⌝ }
     ensures { λ r. ⌜ Answered s (Q.price hour) r ⌝ }
 {
     let j = judge_hour(s, hour);
     if let Judged::No(row, at) = j {
-        return Reply::Refused(row, at);
+        return refused(row, at);
     }
     number(x.price)
 }
 
 // The hour's price: 2, 4.
-pub fn price(s: Session, hour: u32) -> Reply
+pub fn price(s: Session, hour: u32) -> Response
     ensures { λ r. ⌜ Answered s (Q.price hour) r ⌝ }
 {
     let x = figures_at(s, hour);

@@ -14,13 +14,12 @@ use Rattle.rules.specs.Book as B
 use Rattle.rules.specs.DayBook as D
 use Rattle.session.specs.Image.{image, verdictsIn, hoursIn, unitIn, unitOf, noticeOf, noticeAs, noUnit, noNotice}
 use Rattle.changes.specs.Changes.{withRegistry}
-use Rattle.session.specs.Steps.{said, isRefusal}
+use Rattle.answer.specs.Told.{told, isRefusal, accepted}
 use Rattle.session.specs.Parts.{numberIs, Judges, Entered}
 use Rattle.registry.specs.Registry.{besideUnit}
 use Rattle.session.specs.declared.Session.{Session}
 use Rattle.session.specs.declared.Unit.{Unit}
 use Rattle.session.specs.declared.Judged.the-variants.{No, Clear}
-use Rattle.session.specs.declared.Answer.the-variants.{Done}
 use Rattle.session.proofs.LaidLaws.{anyFrom, any-start, any-step, any-end, any-map, map-last, length-last, set-pad}
 use Rattle.session.proofs.StepLaws.{open-row}
 use Rattle.session.proofs.SoundLaws.{open-stage}
@@ -105,8 +104,8 @@ enrolled-image b u h k c =
       c,
     )
 
-pub unit-entered : (s : Session) (u : Unit) → s .enrolled < 64 → Entered s (D.register (unitIn u)) (record { session = withUnit s u; answer = Done })
-unfolding said isRefusal D.reply D.rowsOf
+pub unit-entered : (s : Session) (u : Unit) → s .enrolled < 64 → Entered s (D.register (unitIn u)) (record { session = withUnit s u; answer = accepted })
+unfolding told isRefusal D.reply D.rowsOf
 unit-entered s u h = record {
   book = λ b sound o e.
       let n = enrolled-as s b e in

@@ -11,11 +11,11 @@ ghost use Rattle.changes.specs.Changes.{registryTurn};
 ghost use Rattle.session.specs.Steps.{Met};
 ghost use Rattle.session.specs.Parts.{Within, Judges, Entered, numberIs};
 ghost use Rattle.registry.specs.Registry.{besideUnit};
+use answer::accepted;
 use changes::RegistryChange;
 use changes::RegistryTurn;
 use changes::registry_refused;
 use changes::with_registry;
-use session::Answer;
 use session::FULL;
 use session::GATE;
 use session::Judged;
@@ -131,18 +131,17 @@ fn enrol(s: Session, u: Unit) -> RegistryTurn
     ensures { λ r. ⌜ Entered s (register (unitIn u)) (registryTurn s r) × (r .change .at < 64) ⌝ }
 {
     let at = s.enrolled;
+    let enrolled = at + 1;
     let notice = no_notice();
     let change = RegistryChange {
-        enrolled: at + 1,
+        enrolled: enrolled,
         at: at,
         unit: u,
         notice: notice,
         changed: true,
     };
-    RegistryTurn {
-        change: change,
-        answer: Answer::Done,
-    }
+    let answer = accepted();
+    RegistryTurn { change, answer }
 }
 
 // What registering a unit changes.

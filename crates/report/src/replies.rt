@@ -1,8 +1,16 @@
 // What the gate says, in words.
 use crate::text::put;
+use crate::text::put_count;
 use crate::text::put_number;
 use crate::text::put_signed;
-use queries::Reply;
+use answer::ABSENT;
+use answer::ACCEPTED;
+use answer::FIGURE;
+use answer::HIDDEN;
+use answer::LIMIT;
+use answer::NUMBERED;
+use answer::REFUSED;
+use answer::Response;
 
 // The word of a row of the refusal table.
 fn put_row(row: u32) {
@@ -36,7 +44,7 @@ fn put_hour(hour: u32) {
 }
 
 // "refused 10 maximum hour 3": the limits, 10 to 12, have an hour.
-pub fn put_refusal(row: u32, hour: u32) {
+fn put_refusal(row: u32, hour: u32) {
     put(b"refused ");
     put_number(row);
     put(b" ");
@@ -55,13 +63,27 @@ fn put_limit(row: u32, hour: u32) {
     put_hour(hour);
 }
 
-pub fn put_reply(r: Reply) {
-    match r {
-        Reply::Refused(row, hour) => put_refusal(row, hour),
-        Reply::Accepted => put(b"accepted"),
-        Reply::Hidden => put(b"hidden"),
-        Reply::Limit(row, hour) => put_limit(row, hour),
-        Reply::Number(n) => put_signed(n),
-        Reply::Absent => put(b"none"),
+fn put_lodged(number: i64) {
+    put(b"number ");
+    put_signed(number);
+}
+
+fn put_steps(count: u64) {
+    put(b"steps ");
+    put_count(count);
+}
+
+// The answer of a call or a query.
+pub fn put_response(r: Response) {
+    let kind = r.kind;
+    match kind {
+        ACCEPTED => put(b"accepted"),
+        REFUSED => put_refusal(r.row, r.hour),
+        NUMBERED => put_lodged(r.value),
+        HIDDEN => put(b"hidden"),
+        LIMIT => put_limit(r.row, r.hour),
+        FIGURE => put_signed(r.value),
+        ABSENT => put(b"none"),
+        _ => put_steps(r.count),
     }
 }

@@ -1,5 +1,5 @@
 // The verdicts: a row for each lodgement that stood at closing.
-use crate::replies::put_reply;
+use crate::replies::put_response;
 use crate::text::put;
 use crate::text::put_number_right;
 use crate::text::put_right;
@@ -36,7 +36,7 @@ fn put_verdict(s: Session, l: Lodgement) {
     let key = l.key;
     put_key(l.number, key);
     let verdict = reply_to(s, VERDICT, l.number, true, 0);
-    put_reply(verdict);
+    put_response(verdict);
     put(b"\n");
 }
 

@@ -11,16 +11,16 @@ use Rattle.rules.specs.Refusals.{Row, row, firstRow}
 use Rattle.rules.specs.Book.{Book}
 use Rattle.rules.specs.DayBook as D
 use Rattle.session.specs.Image.{image}
-use Rattle.session.specs.Steps.{said, Met, As}
-use Rattle.session.specs.Parts.{within, told, Judges, Entered, refusedWith}
+use Rattle.answer.specs.Told.{told, refused}
+use Rattle.session.specs.Steps.{Met, As}
+use Rattle.session.specs.Parts.{within, judgement, Judges, Entered, refusedWith}
 use Rattle.session.specs.declared.Session.{Session}
 use Rattle.session.specs.declared.Turn.{Turn}
-use Rattle.session.specs.declared.Answer.the-variants.{Refused}
 use Rattle.session.specs.declared.Judged.the-variants.{No, Clear}
 use Rattle.session.proofs.ImageLaws.{image-within}
 
-refused-as : (b : Book) (c : D.Call) (s : Session) (n h : ℕ) (o : Option Row) → No n h ≡ told o → s ≡ image b → As (D.turned b c o) (Refused n h) s
-unfolding said D.turned
+refused-as : (b : Book) (c : D.Call) (s : Session) (n h : ℕ) (o : Option Row) → No n h ≡ judgement o → s ≡ image b → As (D.turned b c o) (refused n h) s
+unfolding told D.turned
 refused-as b c s n h none q e = let z : _≡_ {A = ℕ} 0 1 = cc in absurd (omega arith)
 refused-as b c s n h (some r) q e =
     record { answer = let a : n ≡ r .number = cc in let d : h ≡ r .hour = cc in rw (a, d); session = e }
@@ -36,7 +36,7 @@ pub out-unsound : (s : Session) (c : D.Call) (n h : ℕ) (r : Turn) → r ≡ re
 out-unsound s c n h r q w =
     rw q (record { book = λ b sound e. absurd (false≢true (sym w ∙ (ap within e ∙ image-within b sound))); kept = λ _. refl })
 
-clear-none : (o : Option Row) → Clear ≡ told o → o ≡ none
+clear-none : (o : Option Row) → Clear ≡ judgement o → o ≡ none
 clear-none none q = refl
 clear-none (some r) q = let z : _≡_ {A = ℕ} 0 1 = cc in absurd (omega arith)
 

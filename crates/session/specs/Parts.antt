@@ -10,11 +10,11 @@ use Rattle.rules.specs.Refusals.{Row, firstRow}
 use Rattle.rules.specs.Book.{Book}
 use Rattle.rules.specs.DayBook as D
 use Rattle.session.specs.Image.{image, Sound, noUnit}
-use Rattle.session.specs.Steps.{As, isRefusal}
+use Rattle.answer.specs.Told.{refused, isRefusal}
+use Rattle.session.specs.Steps.{As}
 use Rattle.session.specs.declared.Unit.{Unit}
 use Rattle.session.specs.declared.Holder.{Holder}
 use Rattle.session.specs.declared.Session.{Session}
-use Rattle.session.specs.declared.Answer.the-variants.{Refused}
 use Rattle.session.specs.declared.Judged.{Judged}
 use Rattle.session.specs.declared.Judged.the-variants.{No, Clear}
 use Rattle.session.specs.declared.Turn.{Turn}
@@ -22,15 +22,15 @@ use Rattle.session.specs.declared.Turn.{Turn}
 -- Guard, judgement, entry
 
 abbrev pub refusedWith : Session → ℕ → ℕ → Turn
-refusedWith s n h = record { session = s; answer = Refused n h }
+refusedWith s n h = record { session = s; answer = refused n h }
 
-abbrev pub told : Option Row → Judged
-told none = Clear
-told (some r) = No (r .number) (r .hour)
+abbrev pub judgement : Option Row → Judged
+judgement none = Clear
+judgement (some r) = No (r .number) (r .hour)
 
 -- a judgement is the first row of the table that applies
 abbrev pub Judges : Session → D.Call → Judged → Type 0
-Judges s c j = (b : Book) → s ≡ image b → j ≡ told (firstRow (D.rowsOf b c))
+Judges s c j = (b : Book) → s ≡ image b → j ≡ judgement (firstRow (D.rowsOf b c))
 
 -- what a call that no row refuses makes of a session
 pub record Entered (s : Session) (c : D.Call) (r : Turn) : Type 0 where

@@ -5,6 +5,7 @@ ghost use Rattle.calendar.specs.View.{dateIn};
 ghost use Rattle.session.specs.Image.{image, noUnit, noNotice, noLodgement, noEnergies, noVerdict, noFigures};
 ghost use Rattle.session.specs.Steps.{Opens};
 ghost use Rattle.session.specs.Parts.{within, refusedWith};
+use answer::Response;
 use calendar::Date;
 
 pub mod units;
@@ -102,27 +103,22 @@ pub struct Holder {
     pub unit: Unit,
 }
 
-// What the gate says: a refusal has the table's number and an hour, 0 where the table gives none.
-pub enum Answer {
-    Refused(u32, u32),
-    Done,
-    Numbered(u32),
-    Steps(u64),
-}
-
 // The first row of the refusal table that applies to a call, or none.
 pub enum Judged {
     No(u32, u32),
     Clear,
 }
 
+// A call's answer, and the session that it leaves.
 pub struct Turn {
     pub session: Session,
-    pub answer: Answer,
+    pub answer: Response,
 }
 
+// A date's answer, and its fresh session.
+#[repr(C)]
 pub struct Opened {
-    pub answer: Answer,
+    pub answer: Response,
     pub session: Session,
 }
 
@@ -280,9 +276,10 @@ impl Session {
         ensures { λ r. ⌜ r ≡ refusedWith self number hour ⌝ }
     {
         let session = self;
+        let answer = answer::refused(number, hour);
         Turn {
             session: session,
-            answer: Answer::Refused(number, hour),
+            answer: answer,
         }
     }
 }
@@ -298,12 +295,12 @@ pub fn open(date: Date) -> Opened
             day: 1,
         };
         return Opened {
-            answer: Answer::Refused(DATE, 0),
+            answer: answer::refused(DATE, 0),
             session: Session::fresh(first),
         };
     }
     Opened {
-        answer: Answer::Done,
+        answer: answer::accepted(),
         session: Session::fresh(date),
     }
 }

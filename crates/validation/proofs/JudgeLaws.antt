@@ -21,7 +21,7 @@ use Rattle.rules.proofs.ListLaws.{all-at, keep-keep}
 use Rattle.rules.proofs.ClosingLaws.{verdict-with}
 use Rattle.session.specs.Bare.{bareEnergies}
 use Rattle.session.specs.Image.{image, Sound, unitAs, noticeAs, verdictAs, noLodgement}
-use Rattle.session.specs.Parts.{Within, told, numberIs, placeOf}
+use Rattle.session.specs.Parts.{Within, judgement, numberIs, placeOf}
 use Rattle.session.specs.declared.Session.{Session}
 use Rattle.session.specs.declared.Unit.{Unit}
 use Rattle.session.specs.declared.Notice.{Notice}
@@ -42,7 +42,7 @@ use Rattle.validation.proofs.TurnLaws.{passed-before, verdict-at}
 use Rattle.validation.proofs.StandingLaws.{stands, lodgement-at, energies-at, loaded-at}
 
 -- a judgement by the limits, as a verdict
-told-verdict : (o : Option Row) → verdictBy (told o) ≡ verdictAs (C.verdictOfRow o)
+told-verdict : (o : Option Row) → verdictBy (judgement o) ≡ verdictAs (C.verdictOfRow o)
 unfolding verdictBy verdictAs C.verdictOfRow
 told-verdict none = refl
 told-verdict (some r) = refl

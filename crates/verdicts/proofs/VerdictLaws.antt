@@ -9,13 +9,13 @@ use lib.Dec.{eqb}
 use lib.ListN.{getD, take, length-map}
 use borrow.Author.Tests.{eqb-true, not-true, lt-ltb, le-ltb}
 use Rattle.rules.specs.Lists.{All, none, more, first}
-use Rattle.rules.specs.Refusals.{Row, row, given, limitRow, firstRow, unless, outcome}
+use Rattle.rules.specs.Refusals.{Row, row, limitRow, firstRow, unless, outcome}
 use Rattle.rules.specs.Units.{limits, maximumLimit}
 use Rattle.rules.specs.Lodging as L
 use Rattle.rules.specs.Book.{Book}
 use Rattle.rules.specs.Closing as C
 use Rattle.rules.specs.Queries as Q
-use Rattle.rules.specs.Queries.{judged, isStanding}
+use Rattle.rules.specs.Queries.{isStanding}
 use Rattle.rules.proofs.BoolLaws.{by-bool, of-not}
 use Rattle.rules.proofs.ListLaws.{first-passes}
 use Rattle.session.specs.Bare.{bareVerdict}
@@ -26,10 +26,10 @@ use Rattle.session.specs.declared.Session.{Session}
 use Rattle.session.specs.declared.Verdict.{Verdict}
 use Rattle.session.proofs.PlaceLaws.{placed, unplaced, place-first, place-map, getD-map}
 use Rattle.session.proofs.ImageLaws.{closed-as, standing-as, lodgements-as}
-use Rattle.queries.specs.Replies.{replyIn, Answered}
+use Rattle.answer.specs.Told.{shown, valueTold, verdictTold, refused}
+use Rattle.answer.specs.declared.Response.{Response}
+use Rattle.queries.specs.Replies.{Answered}
 use Rattle.verdicts.specs.Parts.{lodged, toldAs, verdictPlace, verdictAt}
-use Rattle.queries.specs.declared.Reply.{Reply}
-use Rattle.queries.specs.declared.Reply.the-variants.{Refused}
 use Rattle.queries.proofs.FigureLaws.{pad-at}
 
 -- A limit's number is never 0
@@ -62,8 +62,8 @@ unfolding C.judgements
 among-numbered b n = each-numbered b [] (C.closingOrder (b .standing)) n
 
 -- so a verdict is told as it is
-pub told-as : (v : C.Verdict) → isNumbered v ≡ true → replyIn (toldAs (verdictAs v)) ≡ given (judged v)
-unfolding replyIn toldAs verdictAs isNumbered
+pub told-as : (v : C.Verdict) → isNumbered v ≡ true → toldAs (verdictAs v) ≡ verdictTold v
+unfolding verdictTold toldAs verdictAs isNumbered
 told-as C.accepted h = refl
 told-as C.hidden h = refl
 told-as (C.limit n h) k = rw (not-true (eqb n 0) k)
@@ -113,9 +113,9 @@ place-high at h = rw (lt-ltb 127 at h)
 
 -- The ways out
 
-pub verdict-2 : (s : Session) (n : ℕ) → s .closed ≡ false → Answered s (Q.verdict n) (Refused 2 0)
-unfolding replyIn Q.query Q.queryRows outcome unless row firstRow
-verdict-2 s n k b sound e = rw (closed-as s b e, k)
+pub verdict-2 : (s : Session) (n : ℕ) → (r : Response) → r ≡ refused 2 0 → s .closed ≡ false → Answered s (Q.verdict n) r
+unfolding shown Q.query Q.queryRows outcome unless row firstRow
+verdict-2 s n r q k b sound e = rw (closed-as s b e, k) q
 
 module _ (s : Session) (n at : ℕ) (place : at ≡ placeOf (lodged n) (take (s .standing) (s .lodgements))) (k : s .closed ≡ true) where
   module _ (b : Book) (e : s ≡ image b) where
@@ -130,18 +130,18 @@ module _ (s : Session) (n at : ℕ) (place : at ≡ placeOf (lodged n) (take (s 
         by-bool (isStanding b n) (λ t. t)
         (λ t. absurd (omega (arith, place, place-among s b e n, unplaced (hasNumber n) (b .standing) t, standing-as s b e)))
 
-  pub verdict-13 : s .standing ≤ at → Answered s (Q.verdict n) (Refused 13 0)
-  unfolding replyIn Q.query Q.queryRows outcome unless row firstRow
-  verdict-13 h b sound e =
-      rw (of-not (isStanding b n) (λ t. absurd (omega (arith, h, stands-below b e t))), closed-as s b e, k)
+  pub verdict-13 : (r : Response) → r ≡ refused 13 0 → s .standing ≤ at → Answered s (Q.verdict n) r
+  unfolding shown Q.query Q.queryRows outcome unless row firstRow
+  verdict-13 r q h b sound e =
+      rw (of-not (isStanding b n) (λ t. absurd (omega (arith, h, stands-below b e t))), closed-as s b e, k) q
 
   no-row : (b : Book) → s ≡ image b → at < s .standing → firstRow (Q.queryRows b (Q.verdict n)) ≡ nothing
   unfolding Q.queryRows row firstRow
   no-row b e h = rw (below-stands b e h, closed-as s b e, k)
 
-  pub verdict-told : at < s .standing → at ≤ 127 → (v : Verdict) → v ≡ verdictAt s at → (r : Reply) → r ≡ toldAs v → Answered s (Q.verdict n) r
-  unfolding Q.query Q.shown outcome unless
+  pub verdict-told : at < s .standing → at ≤ 127 → (v : Verdict) → v ≡ verdictAt s at → (r : Response) → r ≡ toldAs v → Answered s (Q.verdict n) r
+  unfolding Q.query Q.shown outcome unless shown valueTold
   verdict-told h low v w r q b sound e =
-      ap replyIn (q ∙ ap toldAs (w ∙ ap (λ i. getD (s .verdicts) i bareVerdict) (place-low at low) ∙ verdict-as s b e n at k (below-stands b e h) place))
+      q ∙ ap toldAs (w ∙ ap (λ i. getD (s .verdicts) i bareVerdict) (place-low at low) ∙ verdict-as s b e n at k (below-stands b e h) place)
       ∙ told-as (C.verdictAmong (C.judgements b) n) (among-numbered b n)
-      ∙ sym (ap (λ o. unless o (Q.shown b (Q.verdict n))) (no-row b e h))
+      ∙ sym (ap (λ o. shown (unless o (Q.shown b (Q.verdict n)))) (no-row b e h))

@@ -9,8 +9,8 @@ use Rattle.session.specs.Parts.{Within, placeOf}
 use Rattle.session.specs.declared.Session.{Session}
 use Rattle.session.specs.declared.Lodgement.{Lodgement}
 use Rattle.session.specs.declared.Verdict.{Verdict}
-use Rattle.queries.specs.declared.Reply.{Reply}
-use Rattle.queries.specs.declared.Reply.the-variants.{Accepted, Hidden, Limit}
+use Rattle.answer.specs.Told.{accepted, hidden, limit}
+use Rattle.answer.specs.declared.Response.{Response}
 
 -- whether a lodgement has a number
 abbrev pub lodged : ℕ → Lodgement → Bool
@@ -33,5 +33,5 @@ abbrev pub verdictAt : Session → ℕ → Verdict
 verdictAt s at = getD (s .verdicts) (verdictPlace at) bareVerdict
 
 -- what a verdict is told as
-unfoldable pub toldAs : Verdict → Reply
-toldAs v = cond (v .accepted) Accepted (cond (eqb (v .limit) 0) Hidden (Limit (v .limit) (v .hour)))
+unfoldable pub toldAs : Verdict → Response
+toldAs v = cond (v .accepted) accepted (cond (eqb (v .limit) 0) hidden (limit (v .limit) (v .hour)))

@@ -6,7 +6,11 @@ ghost use Rattle.rules.specs.Queries as Q;
 ghost use Rattle.session.specs.Parts.{placeOf};
 ghost use Rattle.queries.specs.Replies.{Answered};
 ghost use Rattle.verdicts.specs.Parts.{lodged, toldAs, LodgedFound, verdictPlace, verdictAt};
-use queries::Reply;
+use answer::Response;
+use answer::accepted;
+use answer::hidden;
+use answer::limit;
+use answer::refused;
 use session::GATE;
 use session::Lodgement;
 use session::Session;
@@ -30,16 +34,16 @@ fn lodged_at(lodgements: [Lodgement; 128], n: usize, number: u32) -> usize
 }
 
 // A verdict with no limit's number is hidden.
-fn told(v: Verdict) -> Reply
+fn told(v: Verdict) -> Response
     ensures { λ r. ⌜ r ≡ toldAs v ⌝ }
 {
     if v.accepted {
-        return Reply::Accepted;
+        return accepted();
     }
     if v.limit == 0 {
-        return Reply::Hidden;
+        return hidden();
     }
-    Reply::Limit(v.limit, v.hour)
+    limit(v.limit, v.hour)
 }
 
 // The place of a lodging number among the standing ones, or their number. Of a session that the guard refuses, any place will do.
@@ -73,24 +77,24 @@ fn verdict_at(s: Session, at: usize) -> Verdict
 }
 
 // "a lodging number's verdict", after closing, from the number's place and the verdict there: 2, 13.
-pub fn verdict_from(s: Session, at: usize, v: Verdict, number: u32) -> Reply
+pub fn verdict_from(s: Session, at: usize, v: Verdict, number: u32) -> Response
     requires { ⌜ LodgedFound s number at × (v ≡ verdictAt s at) ⌝ }
     ensures { λ r. ⌜ Answered s (Q.verdict number) r ⌝ }
 {
     if !s.sound() {
-        return Reply::Refused(GATE, 0);
+        return refused(GATE, 0);
     }
     if !s.closed {
-        return Reply::Refused(GATE, 0);
+        return refused(GATE, 0);
     }
     if s.standing <= at {
-        return Reply::Refused(NOT_STANDING, 0);
+        return refused(NOT_STANDING, 0);
     }
     told(v)
 }
 
 // "a lodging number's verdict", after closing: 2, 13.
-pub fn verdict(s: Session, number: u32) -> Reply
+pub fn verdict(s: Session, number: u32) -> Response
     ensures { λ r. ⌜ Answered s (Q.verdict number) r ⌝ }
 {
     let at = standing_at(s, number);

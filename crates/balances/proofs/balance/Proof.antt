@@ -1,6 +1,6 @@
 use mathlib.Core.Path.{ap₂, _∙_}
 use lib.IntN.{subℕ}
-use Rattle.queries.specs.declared.Reply.the-variants.{Number}
+use Rattle.answer.specs.Told.{figure}
 use borrow.Author.Needs.{needs}
 use Rattle.balances.proofs.balance.Statement.{statement}
 use Rattle.balances.proofs.balance.Tie as tie
@@ -21,7 +21,7 @@ difference-requires : tie.Need-difference-requires
 difference-requires c κs = search needs
 
 returns : tie.Need-returns
-returns c = c .difference .ensures ∙ ap₂ (λ x y. Number (subℕ x y)) (c .before .before .of-way .ensures) (c .before .of-way2 .ensures)
+returns c = c .difference .ensures ∙ ap₂ (λ x y. figure (subℕ x y)) (c .before .before .of-way .ensures) (c .before .of-way2 .ensures)
 
 pub balance-spec : {M : Type 1} → statement M
 balance-spec = tie.close (tie.spec of-way-requires of-way-requires-2 cast-difference cast-difference-2 difference-requires returns)

@@ -1,6 +1,6 @@
-use mathlib.Core.Path.{ap}
+use mathlib.Core.Path.{ap, _∙_}
 use native.Mathlib.Omega.{arith}
-use Rattle.queries.specs.declared.Reply.the-variants.{Number}
+use Rattle.answer.specs.Told.{figure}
 use Rattle.balances.proofs.SignedLaws.{less-fits, less-read}
 use borrow.Author.Needs.{needs}
 use Rattle.balances.proofs.difference.Statement.{statement}
@@ -15,8 +15,11 @@ cast-net-2 c = search needs
 sub-net : tie.Need-sub-net
 sub-net c = less-fits (c .args .a) (c .args .b) (omega arith) (omega arith)
 
+figure-requires : tie.Need-figure-requires
+figure-requires c κs = search needs
+
 returns : tie.Need-returns
-returns c = ap Number (less-read (c .args .a) (c .args .b) (omega arith) (omega arith))
+returns c = c .figure .ensures ∙ ap figure (less-read (c .before .args .a) (c .before .args .b) (omega arith) (omega arith))
 
 pub difference-spec : {M : Type 1} → statement M
-difference-spec = tie.close (tie.spec cast-net cast-net-2 sub-net returns)
+difference-spec = tie.close (tie.spec cast-net cast-net-2 sub-net figure-requires returns)

@@ -1,4 +1,3 @@
-use mathlib.Core.Path.{refl}
 use native.Mathlib.Omega.{arith}
 use borrow.Author.Needs.{needs}
 use Rattle.changes.proofs.registry_refused.Statement.{statement}
@@ -10,8 +9,11 @@ no-unit-requires c κs = search needs
 no-notice-requires : tie.Need-no-notice-requires
 no-notice-requires c κs = search needs
 
+refused-requires : tie.Need-refused-requires
+refused-requires c κs = search needs
+
 returns : tie.Need-returns
-returns c = (refl, omega arith)
+returns c = (rw (c .refused .ensures), omega arith)
 
 pub registry-refused-spec : {M : Type 1} → statement M
-registry-refused-spec = tie.close (tie.spec no-unit-requires no-notice-requires returns)
+registry-refused-spec = tie.close (tie.spec no-unit-requires no-notice-requires refused-requires returns)

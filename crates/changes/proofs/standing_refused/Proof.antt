@@ -10,8 +10,11 @@ no-lodgement-requires c κs = search needs
 no-energies-requires : tie.Need-no-energies-requires
 no-energies-requires c κs = search needs
 
+refused-requires : tie.Need-refused-requires
+refused-requires c κs = search needs
+
 returns : tie.Need-returns
-returns c = (refl, record { forward = omega arith; to = omega arith; at = omega arith; still = λ _. refl })
+returns c = (rw (c .refused .ensures), record { forward = omega arith; to = omega arith; at = omega arith; still = λ _. refl })
 
 pub standing-refused-spec : {M : Type 1} → statement M
-standing-refused-spec = tie.close (tie.spec no-lodgement-requires no-energies-requires returns)
+standing-refused-spec = tie.close (tie.spec no-lodgement-requires no-energies-requires refused-requires returns)

@@ -5,7 +5,7 @@ use Rattle.changes.proofs.with_registry.Statement.{statement}
 use Rattle.changes.proofs.with_registry.Tie as tie
 
 returns : tie.Need-returns
-returns c = registry-still _ (c .before .before .before .args .t) (not-true _ (c .if1 .taken))
+returns c = registry-still _ (c .before .before .before .before .args .t) (not-true _ (c .if1 .taken))
 
 mul-unit : tie.Need-mul-unit
 mul-unit c = search needs
@@ -20,7 +20,7 @@ element-set-from-notice : tie.Need-element-set-from-notice
 element-set-from-notice c = search needs
 
 returns-2 : tie.Need-returns-2
-returns-2 c = registry-changed (c .before .before .before .before .before .args .s) (c .before .before .before .before .before .args .t) (not-false _ (c .before .before .if1 .left))
+returns-2 c = registry-changed (c .before .before .before .before .before .before .args .s) (c .before .before .before .before .before .before .args .t) (not-false _ (c .before .before .if1 .left))
 
 pub with-registry-spec : {M : Type 1} → statement M
 with-registry-spec =

@@ -5,7 +5,7 @@ use Rattle.changes.proofs.with_standing.Statement.{statement}
 use Rattle.changes.proofs.with_standing.Tie as tie
 
 returns : tie.Need-returns
-returns c = standing-still _ (c .before .before .before .args .t) (not-true _ (c .if1 .taken))
+returns c = standing-still _ (c .before .before .before .before .args .t) (not-true _ (c .if1 .taken))
 
 moved-forward-requires : tie.Need-moved-forward-requires
 moved-forward-requires c κs = search needs
@@ -23,7 +23,7 @@ element-set-from-energies : tie.Need-element-set-from-energies
 element-set-from-energies c = search needs
 
 returns-2 : tie.Need-returns-2
-returns-2 c = standing-changed (c .before .before .before .before .before .before .args .s) (c .before .before .before .before .before .before .args .t) _ (c .moved-forward .ensures) (not-false _ (c .before .before .before .if1 .left))
+returns-2 c = standing-changed (c .before .before .before .before .before .before .before .args .s) (c .before .before .before .before .before .before .before .args .t) _ (c .moved-forward .ensures) (not-false _ (c .before .before .before .if1 .left))
 
 pub with-standing-spec : {M : Type 1} → statement M
 with-standing-spec =

@@ -6,8 +6,11 @@ use Rattle.clearing.proofs.enter_clear.Tie as tie
 clear-hours-requires : tie.Need-clear-hours-requires
 clear-hours-requires c κs = search needs
 
+steps-requires : tie.Need-steps-requires
+steps-requires c κs = search needs
+
 returns : tie.Need-returns
-returns c = clear-entered _ _ _ (c .before .clear-hours .ensures)
+returns c = rw (c .steps .ensures) (clear-entered _ _ _ (c .before .before .clear-hours .ensures))
 
 pub enter-clear-spec : {M : Type 1} → statement M
-enter-clear-spec = tie.close (tie.spec clear-hours-requires returns)
+enter-clear-spec = tie.close (tie.spec clear-hours-requires steps-requires returns)

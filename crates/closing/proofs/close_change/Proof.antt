@@ -25,8 +25,11 @@ returns-2 c = out-refused _ _ _ _ _ (c .closing-refused2 .ensures) (close-2 (c .
 verdicts-requires : tie.Need-verdicts-requires
 verdicts-requires c κs = guarded _ (sym (c .before .before .sound .ensures) ∙ not-false _ (c .before .if1 .left))
 
+accepted-requires : tie.Need-accepted-requires
+accepted-requires c κs = search needs
+
 returns-3 : tie.Need-returns-3
-returns-3 c = out-entered _ _ _ (close-0 (c .before .before .before .before .args .s) (c .before .if2 .left)) (c .verdicts .ensures)
+returns-3 c = out-entered _ _ _ (close-0 (c .before .before .before .before .before .args .s) (c .before .before .if2 .left)) (rw (c .accepted .ensures) (c .before .verdicts .ensures))
 
 pub close-change-spec : {M : Type 1} → statement M
 close-change-spec =
@@ -38,4 +41,5 @@ close-change-spec =
     closing-refused-requires-2
     returns-2
     verdicts-requires
+    accepted-requires
     returns-3)

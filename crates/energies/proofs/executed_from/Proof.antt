@@ -12,8 +12,11 @@ judge-unit-requires c κs = c .pre .1
 enum-known-j : tie.Need-enum-known-j
 enum-known-j c = search needs
 
+refused-requires : tie.Need-refused-requires
+refused-requires c κs = search needs
+
 returns : tie.Need-returns
-returns c = out-refused _ _ _ (executed-rows _ _) _ (c .before .before .before .judge-unit .ensures .0) _ _ (c .before .j .given .1)
+returns c = out-refused _ _ _ (executed-rows _ _) _ (c .before .before .before .before .judge-unit .ensures .0) _ _ _ (c .refused .ensures) (c .before .before .j .given .1)
 
 enum-told : tie.Need-enum-told
 enum-told c = search needs
@@ -31,4 +34,4 @@ returns-2 : tie.Need-returns-2
 returns-2 c = out-shown _ _ _ (executed-rows _ _) _ (c .before .before .before .before .judge-unit .ensures .0) _ _ (c .number .ensures) (c .before .before .enum-told .given .1) (λ b sound e. executed-shown _ _ _ (c .before .before .before .before .before .pre .0) b sound e _ _ (c .before .before .before .before .judge-unit .ensures .1 (c .before .before .enum-told .given .1)))
 
 pub executed-from-spec : {M : Type 1} → statement M
-executed-from-spec = tie.close (tie.spec judge-unit-requires enum-known-j returns enum-told mul-executed array-read-executed number-requires returns-2)
+executed-from-spec = tie.close (tie.spec judge-unit-requires enum-known-j refused-requires returns enum-told mul-executed array-read-executed number-requires returns-2)

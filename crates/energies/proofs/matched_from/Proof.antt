@@ -11,8 +11,11 @@ judge-unit-requires c κs = c .pre .1
 enum-known-j : tie.Need-enum-known-j
 enum-known-j c = search needs
 
+refused-requires : tie.Need-refused-requires
+refused-requires c κs = search needs
+
 returns : tie.Need-returns
-returns c = out-refused _ _ _ (own-rows _) _ (c .before .before .before .judge-unit .ensures .0) _ _ (c .before .j .given .1)
+returns c = out-refused _ _ _ (own-rows _) _ (c .before .before .before .before .judge-unit .ensures .0) _ _ _ (c .refused .ensures) (c .before .before .j .given .1)
 
 enum-told : tie.Need-enum-told
 enum-told c = search needs
@@ -30,4 +33,4 @@ returns-2 : tie.Need-returns-2
 returns-2 c = out-shown _ _ _ (own-rows _) _ (c .before .before .before .before .judge-unit .ensures .0) _ _ (c .number .ensures) (c .before .before .enum-told .given .1) (λ b sound e. matched-shown _ _ _ (c .before .before .before .before .before .pre .0) b sound e _ _ (c .before .before .before .before .judge-unit .ensures .1 (c .before .before .enum-told .given .1)))
 
 pub matched-from-spec : {M : Type 1} → statement M
-matched-from-spec = tie.close (tie.spec judge-unit-requires enum-known-j returns enum-told mul-matched array-read-matched number-requires returns-2)
+matched-from-spec = tie.close (tie.spec judge-unit-requires enum-known-j refused-requires returns enum-told mul-matched array-read-matched number-requires returns-2)

@@ -3,16 +3,17 @@ use contract.Running.{givenOf, tables, tablesOf}
 use denote.Struct.Laws as LL
 use denote.Triple.Spec.{tripleOf}
 use denote.Triple.Table.{entered, cited}
-use Rattle.response.specs.Told.{MetAs, availableIn}
-use Rattle.response.specs.declared.Availability.{Availability as Arg}
-use Rattle.response.proofs.Availability as U
-use Rattle.response.proofs.Availability.Laws as U′
+use Rattle.session.specs.Steps.{Met}
+use Rattle.notices.specs.Notices.{availableIn}
+use Rattle.notices.specs.declared.Availability.{Availability as Arg}
+use Rattle.notices.proofs.Availability as U
+use Rattle.notices.proofs.Availability.Laws as U′
 use Rattle.gate.proofs.Passing.{Passed, Laws}
 use Rattle.gate.proofs.AppliedTo as law
 use Rattle.gate.proofs.Changes.{registered}
-use Rattle.response.proofs.available.Symbol as step-def
-use Rattle.response.proofs.available.Symbol.{name as #step}
-use Rattle.response.proofs.available.Met as step-thm
+use Rattle.notices.proofs.available_change.Symbol as step-def
+use Rattle.notices.proofs.available_change.Symbol.{name as #step}
+use Rattle.notices.proofs.available_change.Met as step-thm
 use Rattle.lent.proofs.settle_registry.Symbol as settle-def
 use Rattle.lent.proofs.settle_registry.Symbol.{name as #settle}
 use Rattle.lent.proofs.settle_registry.Met as settle-thm
@@ -32,6 +33,6 @@ unfolding code.routine tablesOf
 gate-available-spec 𝓤 H 𝓜 𝓖 𝓡 =
     entered 𝓤 H (tripleOf 𝓤 H (𝓖 .A) f.signature (f.spec 𝓤 H (𝓖 .A) (𝓜 .mem) (𝓡 .run)))
     (tables 𝓤 H 𝓜 𝓡 code.env .C) (tables 𝓤 H 𝓜 𝓡 code.env .Λ) #entry code.function (code.unfolded 𝓤 H 𝓜 𝓡)
-    (law.meets passed its-laws registered #step #settle (λ h u r. MetAs h (availableIn u) r) 𝓤 H (𝓖 .A) (givenOf 𝓤 H 𝓜 𝓖) (tablesOf 𝓤 H 𝓜 (tables 𝓤 H 𝓜 𝓡 code.env))
-    (cited 𝓤 H (law.Step passed registered (λ h u r. MetAs h (availableIn u) r) 𝓤 H (𝓖 .A)) 𝓜 𝓡 code.env #step step-def.routine code.calls-response·available (step-thm.met 𝓤 H 𝓜 𝓖 𝓡))
+    (law.meets passed its-laws registered #step #settle (λ h u r. Met h (availableIn u) r) 𝓤 H (𝓖 .A) (givenOf 𝓤 H 𝓜 𝓖) (tablesOf 𝓤 H 𝓜 (tables 𝓤 H 𝓜 𝓡 code.env))
+    (cited 𝓤 H (law.Step passed registered (λ h u r. Met h (availableIn u) r) 𝓤 H (𝓖 .A)) 𝓜 𝓡 code.env #step step-def.routine code.calls-notices·available-change (step-thm.met 𝓤 H 𝓜 𝓖 𝓡))
     (cited 𝓤 H (law.Settle registered 𝓤 H (𝓖 .A)) 𝓜 𝓡 code.env #settle settle-def.routine code.calls-lent·settle-registry (settle-thm.met 𝓤 H 𝓜 𝓖 𝓡)))

@@ -3,12 +3,12 @@ use contract.Running.{givenOf, tables, tablesOf}
 use denote.Triple.Spec.{tripleOf}
 use denote.Triple.Table.{entered, cited}
 use Rattle.rules.specs.DayBook as D
-use Rattle.response.specs.Told.{MetAs}
+use Rattle.session.specs.Steps.{Met}
 use Rattle.gate.proofs.Applied as law
 use Rattle.gate.proofs.Changes.{cleared}
-use Rattle.response.proofs.clear.Symbol as step-def
-use Rattle.response.proofs.clear.Symbol.{name as #step}
-use Rattle.response.proofs.clear.Met as step-thm
+use Rattle.clearing.proofs.clear_change.Symbol as step-def
+use Rattle.clearing.proofs.clear_change.Symbol.{name as #step}
+use Rattle.clearing.proofs.clear_change.Met as step-thm
 use Rattle.lent.proofs.settle_clearing.Symbol as settle-def
 use Rattle.lent.proofs.settle_clearing.Symbol.{name as #settle}
 use Rattle.lent.proofs.settle_clearing.Met as settle-thm
@@ -22,6 +22,6 @@ unfolding code.routine tablesOf
 gate-clear-spec 𝓤 H 𝓜 𝓖 𝓡 =
     entered 𝓤 H (tripleOf 𝓤 H (𝓖 .A) f.signature (f.spec 𝓤 H (𝓖 .A) (𝓜 .mem) (𝓡 .run)))
     (tables 𝓤 H 𝓜 𝓡 code.env .C) (tables 𝓤 H 𝓜 𝓡 code.env .Λ) #entry code.function (code.unfolded 𝓤 H 𝓜 𝓡)
-    (law.meets cleared #step #settle (λ h r. MetAs h D.clear r) 𝓤 H (𝓖 .A) (givenOf 𝓤 H 𝓜 𝓖) (tablesOf 𝓤 H 𝓜 (tables 𝓤 H 𝓜 𝓡 code.env))
-    (cited 𝓤 H (law.Step cleared (λ h r. MetAs h D.clear r) 𝓤 H (𝓖 .A)) 𝓜 𝓡 code.env #step step-def.routine code.calls-response·clear (step-thm.met 𝓤 H 𝓜 𝓖 𝓡))
+    (law.meets cleared #step #settle (λ h r. Met h D.clear r) 𝓤 H (𝓖 .A) (givenOf 𝓤 H 𝓜 𝓖) (tablesOf 𝓤 H 𝓜 (tables 𝓤 H 𝓜 𝓡 code.env))
+    (cited 𝓤 H (law.Step cleared (λ h r. Met h D.clear r) 𝓤 H (𝓖 .A)) 𝓜 𝓡 code.env #step step-def.routine code.calls-clearing·clear-change (step-thm.met 𝓤 H 𝓜 𝓖 𝓡))
     (cited 𝓤 H (law.Settle cleared 𝓤 H (𝓖 .A)) 𝓜 𝓡 code.env #settle settle-def.routine code.calls-lent·settle-clearing (settle-thm.met 𝓤 H 𝓜 𝓖 𝓡)))

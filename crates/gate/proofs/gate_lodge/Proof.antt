@@ -42,8 +42,8 @@ use denote.Triple.Table.{entered, cited}
 use denote.Triple.Walked.{says, Stays, gave-ref, stay-none-slice, walkOf, AllGo, goes-none-slice, goes-gave-ref, Walks, ends-at, walked, walk-meets}
 use denote.Exit.{yes}
 use Rattle.rules.specs.DayBook as D
-use Rattle.response.specs.Effects.{Stepped}
-use Rattle.response.specs.Told.{MetAs}
+use Rattle.session.specs.declared.Turn.{Turn}
+use Rattle.session.specs.Steps.{Met}
 use Rattle.changes.specs.Changes.{Placed, standingWith}
 use Rattle.session.specs.Bare.{bareNotice, bareEnergies}
 use Rattle.session.specs.declared.Session.{Session}
@@ -51,8 +51,8 @@ use Rattle.session.specs.declared.Notice.{Notice}
 use Rattle.session.specs.declared.Energies.{Energies}
 use Rattle.pending.specs.Awaiting.{Pends}
 use Rattle.pending.specs.declared.Pending.{Pending}
-use Rattle.told.specs.declared.Response.{Response}
-use Rattle.response.specs.declared.Lodged.{Lodged}
+use Rattle.answer.specs.declared.Response.{Response}
+use Rattle.changes.specs.declared.StandingTurn.{StandingTurn}
 use Rattle.session.proofs.Session as T
 use Rattle.session.proofs.Session.Laws as T′
 use Rattle.session.proofs.Notice as X
@@ -61,18 +61,18 @@ use Rattle.session.proofs.Energies as E
 use Rattle.session.proofs.Energies.Laws as E′
 use Rattle.pending.proofs.Pending as P
 use Rattle.pending.proofs.Pending.Laws as P′
-use Rattle.response.proofs.Lodged as G
-use Rattle.response.proofs.Lodged.Laws as G′
-use Rattle.told.proofs.Response as N
-use Rattle.told.proofs.Response.Laws as N′
+use Rattle.changes.proofs.StandingTurn as G
+use Rattle.changes.proofs.StandingTurn.Laws as G′
+use Rattle.answer.proofs.Response as N
+use Rattle.answer.proofs.Response.Laws as N′
 use Rattle.pending.proofs.pend as read
 use Rattle.pending.proofs.pend.Symbol as read-def
 use Rattle.pending.proofs.pend.Symbol.{name as #read}
 use Rattle.pending.proofs.pend.Met as read-thm
-use Rattle.response.proofs.lodge as step
-use Rattle.response.proofs.lodge.Symbol as step-def
-use Rattle.response.proofs.lodge.Symbol.{name as #step}
-use Rattle.response.proofs.lodge.Met as step-thm
+use Rattle.lodging.proofs.lodge.lodge_change as step
+use Rattle.lodging.proofs.lodge.lodge_change.Symbol as step-def
+use Rattle.lodging.proofs.lodge.lodge_change.Symbol.{name as #step}
+use Rattle.lodging.proofs.lodge.lodge_change.Met as step-thm
 use Rattle.lent.proofs.settle_standing.Symbol as settle-def
 use Rattle.lent.proofs.settle_standing.Symbol.{name as #settle}
 use Rattle.lent.proofs.settle_standing.Met as settle-thm
@@ -152,14 +152,14 @@ module _ {M : Type 1} (𝓤 : URA M) (H : Heap 𝓤) (A : Atoms 𝓤) (W : Given
   OwnM = ShrSlice (named 1) κ′ u8 .own m (mv ∷ [])
 
   -- what is promised of the session left and the response, and by the steps
-  abbrev Good : Stepped → Type 0
-  Good r = MetAs h (D.lodge (now m)) r
+  abbrev Good : Turn → Type 0
+  Good r = Met h (D.lodge (now m)) r
 
   abbrev Found : Pending → Type 0
   Found p = Pends h (now m) p
 
-  abbrev Promised : Pending → Lodged → Type 0
-  Promised p r = ((bytes : List ℕ) → Pends h bytes p → MetAs h (D.lodge bytes) (stepped lodged h r)) × Placed (r .change)
+  abbrev Promised : Pending → StandingTurn → Type 0
+  Promised p r = ((bytes : List ℕ) → Pends h bytes p → Met h (D.lodge bytes) (stepped lodged h r)) × Placed (r .change)
 
   abbrev Post : Val → SProp 𝓤
   Post = walkOf 𝓤 H A f.ended stayed (f.clauses 𝓤 H A at-mem run) .post (((κ, (κ′, tt)), (q, (q′, tt)), bounds, x, at), tt)
@@ -188,7 +188,7 @@ module _ {M : Type 1} (𝓤 : URA M) (H : Heap 𝓤) (A : Atoms 𝓤) (W : Given
     abbrev to-step : Step 𝓤 H A at-mem run .Ghost
     to-step = ((tt, tt, tt, asked, (sv h ∷ [], (pv p ∷ [], (xv notice ∷ [], (ev (energies (p .first)) ∷ [], (ev (energies (p .second)) ∷ [], (ev (energies (p .third)) ∷ [], (ev (energies (p .fourth)) ∷ [], tt)))))))), tt)
 
-    step-says : (r : Lodged) → ent 𝓤 (ensured 𝓤 H A step.ended (step.clauses 𝓤 H A at-mem run) tt asked tt r) (fact 𝓤 (Promised p r))
+    step-says : (r : StandingTurn) → ent 𝓤 (ensured 𝓤 H A step.ended (step.clauses 𝓤 H A at-mem run) tt asked tt r) (fact 𝓤 (Promised p r))
     step-says r = exE 𝓤 _ (λ ws. snd∗ 𝓤 (sem 𝓤 H A (lasts step.ended tt asked ws)) (fact 𝓤 (Promised p r)))
 
     goes-step : Found p → Holds h → Is P.the-row p (pv p ∷ []) → ent 𝓤 (emp 𝓤) (Step 𝓤 H A at-mem run .pre to-step)
@@ -203,12 +203,12 @@ module _ {M : Type 1} (𝓤 : URA M) (H : Heap 𝓤) (A : Atoms 𝓤) (W : Given
         owned ! P.the-row (Is P.the-row) (LL.makes P.the-type P′.the-plain 𝓤 H A) p _ is $ fjoin ! $
         owned ! T.the-row (Is T.the-row) (LL.makes T.the-type T′.the-plain 𝓤 H A) h _ was $ fjoin ! $ nothing ! $ frame ! $ done !
 
-  exits : (r : Lodged) (w : Response) (v : Val) → Good (stepped lodged h r) → w ≡ r .response
+  exits : (r : StandingTurn) (w : Response) (v : Val) → Good (stepped lodged h r) → w ≡ r .answer
       → ent 𝓤 (⋆ 𝓤 H A (‵ (flft κ q) ∷ ‵ (fres γ (T.the-row .coded .code (standingWith h (r .change)))) ∷ ‵ (N.the-row .own w (v ∷ [])) ∷ (‵ (flft κ′ q′) ⊛ ‵ ftrue) ∷ ‵ OwnM ∷ [])) (Post v)
   exits r w v e same =
       qed W (‵ (flft κ q) ∷ ‵ (fres γ (T.the-row .coded .code (standingWith h (r .change)))) ∷ ‵ (N.the-row .own w (v ∷ [])) ∷ (‵ (flft κ′ q′) ⊛ ‵ ftrue) ∷ ‵ OwnM ∷ []) ∵
       suffices ! _ (ends-at 𝓤 H A f.ended stayed (f.clauses 𝓤 H A at-mem run) W (((κ, (κ′, tt)), (q, (q′, tt)), bounds, x, at), tt) v w (standingWith h (r .change), (tt, tt)) (tt, (tt, tt))) $
-      says ! (subst (λ (y : Response). Good (record { session = standingWith h (r .change); response = y })) (sym same) e) $ move ! (0 ∷ 3 ∷ []) $ join ! $ frame ! $
+      says ! (subst (λ (y : Response). Good (record { session = standingWith h (r .change); answer = y })) (sym same) e) $ move ! (0 ∷ 3 ∷ []) $ join ! $ frame ! $
       nothing ! $ move ! (3 ∷ 0 ∷ []) $ fjoin ! $ move ! (1 ∷ 0 ∷ []) $ fjoin ! $ done !
 
   module _ (C : Calls 𝓤 H) (Λ : Loops 𝓤 H) (fm : FmC 𝓤 H (W .laws) C) (reads : Triple 𝓤 (C #read) (Read 𝓤 H A at-mem run)) (known : Triple 𝓤 (C #step) (Step 𝓤 H A at-mem run)) (stores : Triple 𝓤 (C #settle) (Settle lodged 𝓤 H A)) where
@@ -270,7 +270,7 @@ module _ {M : Type 1} (𝓤 : URA M) (H : Heap 𝓤) (A : Atoms 𝓤) (W : Given
         -- [obs; the borrow; its token; the message's token; the message's; true; _31; …; .. room for _0; …]
         use0 W (raw (Step 𝓤 H A at-mem run .pre (to-step p))) (goes-step p found was (subst (λ (ws : List Val). Is P.the-row p ws) (LL.tells P.the-type P′.the-laws p _ is-p) is-p)) $
         calls-at ! fm (Step 𝓤 H A at-mem run) known (to-step p) (and-then ! (load ! (from ! (stop !)) (look ! 49 refl)) (and-then ! (load ! (from ! (stop !)) (look ! 63 refl)) (and-then ! (load ! (from ! (stop !)) (look ! 41 refl)) (and-then ! (load ! (from ! (stop !)) (look ! 33 refl)) (and-then ! (load ! (from ! (stop !)) (look ! 25 refl)) (and-then ! (load ! (from ! (stop !)) (look ! 17 refl)) (and-then ! (load ! (from ! (stop !)) (look ! 9 refl)) (no-more !)))))))) (λ v₁.
-        use1 W (later (some (λ (r : Lodged). (‵ ftrue ⊛ ‵ (G.the-row .own r (v₁ ∷ []))) ⊛ raw (ensured 𝓤 H A step.ended (step.clauses 𝓤 H A at-mem run) tt (asked p) tt r)))) (id⊢ 𝓤 _) $ await ! tt $ pick ! (λ r.
+        use1 W (later (some (λ (r : StandingTurn). (‵ ftrue ⊛ ‵ (G.the-row .own r (v₁ ∷ []))) ⊛ raw (ensured 𝓤 H A step.ended (step.clauses 𝓤 H A at-mem run) tt (asked p) tt r)))) (id⊢ 𝓤 _) $ await ! tt $ pick ! (λ r.
         split ! $ move ! (1 ∷ []) $ use1 W (raw (fact 𝓤 (Promised p r))) (step-says p r) $ heard ! (Promised p r) (λ e. split ! $ drop ! $
         peeks ! G.the-row (Is G.the-row) (shows 𝓤 H A G.the-row) r (v₁ ∷ []) (λ is. drop ! $
         -- [obs; the borrow; its token; the message's token; the message's; true; _31; …; .. room for _0; …]
@@ -280,7 +280,7 @@ module _ {M : Type 1} (𝓤 : URA M) (H : Heap 𝓤) (A : Atoms 𝓤) (W : Given
         -- [what is asked; the message's token; the message's; true; _31; …; .. room for _0; …]
         calls-at ! fm (Settle lodged 𝓤 H A) stores (to-settle lodged 𝓤 H A W κ q b o γ h r) (and-then ! (load ! (from ! (stop !)) (look ! 4 refl)) (and-then ! (load ! (from ! (stop !)) (look ! 48 refl)) (no-more !))) (λ v₂.
         use1 W (later (some (λ (w : Response). ((‵ (flft κ q) ⊛ ‵ ftrue) ⊛ ‵ (N.the-row .own w (v₂ ∷ []))) ⊛ raw (ensured 𝓤 H A (entry-ended (lodged .type)) (settle-clauses lodged 𝓤) (κ, tt) (passed lodged 𝓤 H A W κ q b o γ h r) tt w)))) (id⊢ 𝓤 _) $ await ! tt $ pick ! (λ w.
-        split ! $ move ! (1 ∷ []) $ use1 W (given (w ≡ r .response) (‵ (fres γ (T.the-row .coded .code (standingWith h (r .change)))))) (settled lodged 𝓤 H A W κ q b o γ h r w) $ learn ! (λ same.
+        split ! $ move ! (1 ∷ []) $ use1 W (given (w ≡ r .answer) (‵ (fres γ (T.the-row .coded .code (standingWith h (r .change)))))) (settled lodged 𝓤 H A W κ q b o γ h r w) $ learn ! (λ same.
         move ! (1 ∷ []) $ split ! $ split ! $ move ! (1 ∷ []) $ drop ! $ move ! (1 ∷ []) $
         peeks ! N.the-row (Is N.the-row) (shows 𝓤 H A N.the-row) w (v₂ ∷ []) (λ told.
         -- [the response; the token; the last value; the message's token; the message's; true; _31; …; .. room for _0; …]
@@ -308,5 +308,5 @@ gate-lodge-spec 𝓤 H 𝓜 𝓖 𝓡 =
     (tables 𝓤 H 𝓜 𝓡 code.env .C) (tables 𝓤 H 𝓜 𝓡 code.env .Λ) #entry code.function (code.unfolded 𝓤 H 𝓜 𝓡)
     (meets 𝓤 H (𝓖 .A) (givenOf 𝓤 H 𝓜 𝓖) (𝓜 .mem) (𝓡 .run) (tablesOf 𝓤 H 𝓜 (tables 𝓤 H 𝓜 𝓡 code.env))
     (cited 𝓤 H (Read 𝓤 H (𝓖 .A) (𝓜 .mem) (𝓡 .run)) 𝓜 𝓡 code.env #read read-def.routine code.calls-pending·pend (read-thm.met 𝓤 H 𝓜 𝓖 𝓡))
-    (cited 𝓤 H (Step 𝓤 H (𝓖 .A) (𝓜 .mem) (𝓡 .run)) 𝓜 𝓡 code.env #step step-def.routine code.calls-response·lodge (step-thm.met 𝓤 H 𝓜 𝓖 𝓡))
+    (cited 𝓤 H (Step 𝓤 H (𝓖 .A) (𝓜 .mem) (𝓡 .run)) 𝓜 𝓡 code.env #step step-def.routine code.calls-lodging·lodge·lodge-change (step-thm.met 𝓤 H 𝓜 𝓖 𝓡))
     (cited 𝓤 H (Settle lodged 𝓤 H (𝓖 .A)) 𝓜 𝓡 code.env #settle settle-def.routine code.calls-lent·settle-standing (settle-thm.met 𝓤 H 𝓜 𝓖 𝓡)))

@@ -3,15 +3,15 @@ use contract.Running.{givenOf, tables, tablesOf}
 use denote.Triple.Spec.{tripleOf}
 use denote.Triple.Table.{entered, cited}
 use Rattle.rules.specs.Queries as Q
-use Rattle.replies.specs.Told.{AnsweredAs}
+use Rattle.queries.specs.Replies.{Answered}
 use Rattle.gate.proofs.Places as places
 use Rattle.gate.proofs.AskedBorder as law
 use Rattle.queries.proofs.place_of.Symbol as hour-def
 use Rattle.queries.proofs.place_of.Symbol.{name as #hour}
 use Rattle.queries.proofs.place_of.Met as hour-thm
-use Rattle.replies.proofs.market.Symbol as step-def
-use Rattle.replies.proofs.market.Symbol.{name as #step}
-use Rattle.replies.proofs.market.Met as step-thm
+use Rattle.balances.proofs.market_from.Symbol as step-def
+use Rattle.balances.proofs.market_from.Symbol.{name as #step}
+use Rattle.balances.proofs.market_from.Met as step-thm
 use Rattle.gate.proofs.gate_market.Key.{name as #entry}
 use Rattle.gate.proofs.gate_market as f
 use Rattle.gate.proofs.gate_market.Statement as stated
@@ -22,6 +22,6 @@ unfolding code.routine tablesOf
 gate-market-spec 𝓤 H 𝓜 𝓖 𝓡 =
     entered 𝓤 H (tripleOf 𝓤 H (𝓖 .A) f.signature (f.spec 𝓤 H (𝓖 .A) (𝓜 .mem) (𝓡 .run)))
     (tables 𝓤 H 𝓜 𝓡 code.env .C) (tables 𝓤 H 𝓜 𝓡 code.env .Λ) #entry code.function (code.unfolded 𝓤 H 𝓜 𝓡)
-    (law.meets #hour #step (λ h z t r. AnsweredAs h (Q.market z t) r) 𝓤 H (𝓖 .A) (givenOf 𝓤 H 𝓜 𝓖) (tablesOf 𝓤 H 𝓜 (tables 𝓤 H 𝓜 𝓡 code.env))
+    (law.meets #hour #step (λ h z t r. Answered h (Q.market z t) r) 𝓤 H (𝓖 .A) (givenOf 𝓤 H 𝓜 𝓖) (tablesOf 𝓤 H 𝓜 (tables 𝓤 H 𝓜 𝓡 code.env))
     (cited 𝓤 H (places.Hour 𝓤 H (𝓖 .A)) 𝓜 𝓡 code.env #hour hour-def.routine code.calls-queries·place-of (hour-thm.met 𝓤 H 𝓜 𝓖 𝓡))
-    (cited 𝓤 H (law.Step (λ h z t r. AnsweredAs h (Q.market z t) r) 𝓤 H (𝓖 .A)) 𝓜 𝓡 code.env #step step-def.routine code.calls-replies·market (step-thm.met 𝓤 H 𝓜 𝓖 𝓡)))
+    (cited 𝓤 H (law.Step (λ h z t r. Answered h (Q.market z t) r) 𝓤 H (𝓖 .A)) 𝓜 𝓡 code.env #step step-def.routine code.calls-balances·market-from (step-thm.met 𝓤 H 𝓜 𝓖 𝓡)))

@@ -38,17 +38,17 @@ use denote.Triple.Walked.{says, Stays, stay-ref, stay-none, walkOf, AllGo, goes-
 use denote.Exit.{yes}
 use Rattle.changes.specs.Changes.{withCapacities, capacitiesWith}
 use Rattle.session.specs.declared.Session.{Session}
-use Rattle.response.specs.declared.CapacitiesNoted.{CapacitiesNoted}
+use Rattle.changes.specs.declared.CapacityTurn.{CapacityTurn}
 use Rattle.session.proofs.Session as T
 use Rattle.session.proofs.Session.Laws as T′
 use Rattle.session.proofs.Notice as X
 use Rattle.session.proofs.Notice.Laws as X′
 use Rattle.changes.proofs.CapacityChange as C
 use Rattle.changes.proofs.CapacityChange.Laws as C′
-use Rattle.response.proofs.CapacitiesNoted as G
-use Rattle.response.proofs.CapacitiesNoted.Laws as G′
-use Rattle.told.proofs.Response as N
-use Rattle.told.proofs.Response.Laws as N′
+use Rattle.changes.proofs.CapacityTurn as G
+use Rattle.changes.proofs.CapacityTurn.Laws as G′
+use Rattle.answer.proofs.Response as N
+use Rattle.answer.proofs.Response.Laws as N′
 use Rattle.lent.proofs.ArrayLaws.{vals, All}
 use Rattle.lent.proofs.Outcomes.{is-true, is-false}
 use Rattle.lent.proofs.Cell.{sv, field-read, nested-read}
@@ -60,7 +60,7 @@ use Rattle.lent.proofs.settle_capacities.Code as code′
 use Rattle.lent.proofs.settle_capacities.Code.Mir as code
 
 -- the machine values of what is stored, and of its capacities
-abbrev tv : CapacitiesNoted → Val
+abbrev tv : CapacityTurn → Val
 tv t = LL.val G.the-type G′.the-laws t
 
 abbrev refTy : Ty
@@ -69,7 +69,7 @@ refTy = tyRef (named 0) mut (pointee (T.the-row .written))
 abbrev capacitiesTy : Ty
 capacitiesTy = tyArray X′.mir 8
 
-abbrev cv : CapacitiesNoted → Val
+abbrev cv : CapacityTurn → Val
 cv t = arrayVal (vals X.the-field X′.the-field-laws (t .change .capacities))
 
 module _ {M : Type 1} {𝓤 : URA M} {H : Heap 𝓤} {A : Atoms 𝓤} {K : Type 0} {W : Given 𝓤 H A} {Γ : List (Item 𝓤)} where
@@ -77,26 +77,26 @@ module _ {M : Type 1} {𝓤 : URA M} {H : Heap 𝓤} {A : Atoms 𝓤} {K : Type 
   of-capacities : K → {E : Env 𝓤 H} {l : ℕ} → Walks′ K W Γ E (G′.mir, l, 0) (field 0 ∷ field 0 ∷ []) (capacitiesTy, l, 0)
   of-capacities k = fld k refl (fld k refl (stop k))
 
-  get-capacities : K → {q : Share} {l : ℕ} (t : CapacitiesNoted) (n : ℕ) → nth 𝓤 H A n Γ ≡ ‵ (fat q G′.mir l 0 (tv t)) → Reads K W Γ capacitiesTy l 0 (cv t)
+  get-capacities : K → {q : Share} {l : ℕ} (t : CapacityTurn) (n : ℕ) → nth 𝓤 H A n Γ ≡ ‵ (fat q G′.mir l 0 (tv t)) → Reads K W Γ capacitiesTy l 0 (cv t)
   get-capacities k t n e = nested-read k n 0 0 e refl refl refl refl
 
   of-changed : K → {E : Env 𝓤 H} {l : ℕ} → Walks′ K W Γ E (G′.mir, l, 0) (field 0 ∷ field 1 ∷ []) (tyBool, l, 832)
   of-changed k = fld k refl (fld k refl (stop k))
 
-  get-changed : K → {q : Share} {l : ℕ} (t : CapacitiesNoted) (n : ℕ) → nth 𝓤 H A n Γ ≡ ‵ (fat q G′.mir l 0 (tv t)) → Reads K W Γ tyBool l 832 (vbool (t .change .changed))
+  get-changed : K → {q : Share} {l : ℕ} (t : CapacityTurn) (n : ℕ) → nth 𝓤 H A n Γ ≡ ‵ (fat q G′.mir l 0 (tv t)) → Reads K W Γ tyBool l 832 (vbool (t .change .changed))
   get-changed k t n e = nested-read k n 0 1 e refl refl refl refl
 
   of-response : K → {E : Env 𝓤 H} {l : ℕ} → Walks′ K W Γ E (G′.mir, l, 0) (field 1 ∷ []) (N′.mir, l, 840)
   of-response k = fld k refl (stop k)
 
-  get-response : K → {q : Share} {l : ℕ} (t : CapacitiesNoted) (n : ℕ) → nth 𝓤 H A n Γ ≡ ‵ (fat q G′.mir l 0 (tv t)) → Reads K W Γ N′.mir l 840 (LL.val N.the-type N′.the-laws (t .response))
+  get-response : K → {q : Share} {l : ℕ} (t : CapacityTurn) (n : ℕ) → nth 𝓤 H A n Γ ≡ ‵ (fat q G′.mir l 0 (tv t)) → Reads K W Γ N′.mir l 840 (LL.val N.the-type N′.the-laws (t .answer))
   get-response k t n e = field-read k n 1 e refl refl
 
 abbrev stayed : Stays (f.ended .signature .params) (f.ended .kept)
 stayed = (stay-ref (0 ∷ []) tt (plain (λ _. T.the-row)), (stay-none (λ _. G.the-row) yes, tt))
 
-module _ {M : Type 1} (𝓤 : URA M) (H : Heap 𝓤) (A : Atoms 𝓤) (W : Given 𝓤 H A) (at-mem : Memory → SProp 𝓤) (run : Routine → Fun 𝓤) (κ : Lft) (q : Share) (b o : ℕ) (γ : GName) (h : Session) (t : CapacitiesNoted) where
-  abbrev x : RefT Session × (CapacitiesNoted × Unit {0})
+module _ {M : Type 1} (𝓤 : URA M) (H : Heap 𝓤) (A : Atoms 𝓤) (W : Given 𝓤 H A) (at-mem : Memory → SProp 𝓤) (run : Routine → Fun 𝓤) (κ : Lft) (q : Share) (b o : ℕ) (γ : GName) (h : Session) (t : CapacityTurn) where
+  abbrev x : RefT Session × (CapacityTurn × Unit {0})
   x = (record { ptr = (b, o); name = γ; now = h }, (t, tt))
 
   -- the session with the capacities stored, and what is left
@@ -121,7 +121,7 @@ module _ {M : Type 1} (𝓤 : URA M) (H : Heap 𝓤) (A : Atoms 𝓤) (W : Given
 
   module _ (gt : Is G.the-row t (tv t ∷ [])) where
     -- what is known of the parts
-    told : Is N.the-row (t .response) (LL.vals N.the-type N′.the-laws (t .response))
+    told : Is N.the-row (t .answer) (LL.vals N.the-type N′.the-laws (t .answer))
     told = LL.owed G.the-type G′.the-laws t _ gt .1 .0
 
     changed : Is C.the-row (t .change) (LL.vals C.the-type C′.the-laws (t .change))
@@ -137,13 +137,13 @@ module _ {M : Type 1} (𝓤 : URA M) (H : Heap 𝓤) (A : Atoms 𝓤) (W : Given
     made : Good h → Good h₁
     made was = with-capacities h was (t .change .capacities) all-capacities
 
-    exits : (z : Session) → z ≡ h′ → ent 𝓤 (sep 𝓤 (A .obs γ (T.the-row .coded .code z)) (sep 𝓤 (A .bor κ (Body (mem T.the-row) b o γ)) (A .lft κ q))) (Post (LL.val N.the-type N′.the-laws (t .response)))
+    exits : (z : Session) → z ≡ h′ → ent 𝓤 (sep 𝓤 (A .obs γ (T.the-row .coded .code z)) (sep 𝓤 (A .bor κ (Body (mem T.the-row) b o γ)) (A .lft κ q))) (Post (LL.val N.the-type N′.the-laws (t .answer)))
     exits z e =
         qed W (‵ (fobs γ (T.the-row .coded .code z)) ∷ ‵ (fbor κ (Body (mem T.the-row) b o γ)) ∷ ‵ (flft κ q) ∷ []) ∵
-        suffices ! _ (ends-at 𝓤 H A f.ended stayed (f.clauses 𝓤 H A at-mem run) W (((κ, tt), (q, tt), tt, x, at), tt) (LL.val N.the-type N′.the-laws (t .response)) (t .response) (z, (tt, tt)) (tt, (tt, tt))) $
+        suffices ! _ (ends-at 𝓤 H A f.ended stayed (f.clauses 𝓤 H A at-mem run) W (((κ, tt), (q, tt), tt, x, at), tt) (LL.val N.the-type N′.the-laws (t .answer)) (t .answer) (z, (tt, tt)) (tt, (tt, tt))) $
         says ! (e, refl) $ nothing ! $ move ! (3 ∷ 0 ∷ []) $ join ! $
         frame ! $ feqI ! (List Val) (vptr b o ∷ []) (vptr b o ∷ []) refl $ fjoin3 ! $ nothing ! $ owned ! G.the-row (Is G.the-row) (LL.makes G.the-type G′.the-plain 𝓤 H A) t _ gt $ fjoin ! $ move ! (1 ∷ 0 ∷ []) $ fjoin ! $
-        owned ! N.the-row (Is N.the-row) (LL.makes N.the-type N′.the-plain 𝓤 H A) (t .response) _ told $ move ! (1 ∷ 0 ∷ []) $ done !
+        owned ! N.the-row (Is N.the-row) (LL.makes N.the-type N′.the-plain 𝓤 H A) (t .answer) _ told $ move ! (1 ∷ 0 ∷ []) $ done !
 
     module _ (was : Good h) (C : Calls 𝓤 H) (Λ : Loops 𝓤 H) (l₀ l₁ l₂ l₃ : ℕ) where
       abbrev En : Env 𝓤 H
@@ -155,14 +155,14 @@ module _ {M : Type 1} (𝓤 : URA M) (H : Heap 𝓤) (A : Atoms 𝓤) (W : Given
           assigns ! (of-opd ! (load ! (from ! (of-changed !)) (get-changed ! t 6 refl))) (from ! (stop !)) (init ! 4 refl (tt, tt)) $
           first ! $ branches ! (load ! (from ! (stop !)) (look ! 4 refl))
           (λ y. assigns-last ! (of-opd ! (load ! (from ! (of-capacities !)) (get-capacities ! t 6 refl))) (from ! (hop ! (look ! 8 refl) (at-capacities !))) (store-capacities ! h (t .change .capacities) typed) $ exec ! C Λ En code.t-3 (atRet En Post) $
-          assigns ! (of-opd ! (load ! (from ! (of-response !)) (get-response ! t 6 refl))) (from ! (stop !)) (init ! 10 refl (LL.lawful N.the-type N′.the-laws 𝓤 H A W .typed (t .response) _ told .0)) $
+          assigns ! (of-opd ! (load ! (from ! (of-response !)) (get-response ! t 6 refl))) (from ! (stop !)) (init ! 10 refl (LL.lawful N.the-type N′.the-laws 𝓤 H A W .typed (t .answer) _ told .0)) $
           use1 W (‵ (fat fullShare (rawTy T′.mir) b o (sv h₁))) (W .laws .at-raw fullShare T′.mir b o (sv h₁)) $
           owned ! T.the-row (Is T.the-row) (LL.makes T.the-type T′.the-plain 𝓤 H A) h₁ _ (made was) $ move ! (1 ∷ 0 ∷ []) $ closes ! tt T.the-row h₁ (LL.vals T.the-type T′.the-laws h₁) b o $
           -- [obs; the borrow; the token; _3; …; _2; …; _1; …; _0; …]
           returns ! (look ! 9 refl) $ forget ! 3 refl $ forget ! 5 refl $ forget ! 7 refl $ forget ! 9 refl $ move ! (9 ∷ 10 ∷ []) $ free1 ! $ move ! (7 ∷ 8 ∷ []) $ free1 ! $ move ! (5 ∷ 6 ∷ []) $ free1 ! $ move ! (3 ∷ 4 ∷ []) $ free1 ! $ free0 ! $
           keep ! (0 ∷ 1 ∷ 2 ∷ []) $ by ! (exits h₁ (stored y)))
           (λ n. skips ! $ exec ! C Λ En code.t-3 (atRet En Post) $
-          assigns ! (of-opd ! (load ! (from ! (of-response !)) (get-response ! t 6 refl))) (from ! (stop !)) (init ! 10 refl (LL.lawful N.the-type N′.the-laws 𝓤 H A W .typed (t .response) _ told .0)) $
+          assigns ! (of-opd ! (load ! (from ! (of-response !)) (get-response ! t 6 refl))) (from ! (stop !)) (init ! 10 refl (LL.lawful N.the-type N′.the-laws 𝓤 H A W .typed (t .answer) _ told .0)) $
           use1 W (‵ (fat fullShare (rawTy T′.mir) b o (sv h))) (W .laws .at-raw fullShare T′.mir b o (sv h)) $
           owned ! T.the-row (Is T.the-row) (LL.makes T.the-type T′.the-plain 𝓤 H A) h _ was $ move ! (1 ∷ 0 ∷ []) $ closes ! tt T.the-row h (LL.vals T.the-type T′.the-laws h) b o $
           -- [obs; the borrow; the token; _3; …; _2; …; _1; …; _0; …]

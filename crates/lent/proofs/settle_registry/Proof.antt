@@ -38,7 +38,7 @@ use denote.Triple.Walked.{says, Stays, stay-ref, stay-none, walkOf, needs, AllGo
 use denote.Exit.{yes}
 use Rattle.changes.specs.Changes.{registryWith}
 use Rattle.session.specs.declared.Session.{Session}
-use Rattle.response.specs.declared.Registered.{Registered}
+use Rattle.changes.specs.declared.RegistryTurn.{RegistryTurn}
 use Rattle.session.proofs.Session as T
 use Rattle.session.proofs.Session.Laws as T′
 use Rattle.session.proofs.Unit as U
@@ -47,10 +47,10 @@ use Rattle.session.proofs.Notice as X
 use Rattle.session.proofs.Notice.Laws as X′
 use Rattle.changes.proofs.RegistryChange as C
 use Rattle.changes.proofs.RegistryChange.Laws as C′
-use Rattle.response.proofs.Registered as G
-use Rattle.response.proofs.Registered.Laws as G′
-use Rattle.told.proofs.Response as N
-use Rattle.told.proofs.Response.Laws as N′
+use Rattle.changes.proofs.RegistryTurn as G
+use Rattle.changes.proofs.RegistryTurn.Laws as G′
+use Rattle.answer.proofs.Response as N
+use Rattle.answer.proofs.Response.Laws as N′
 use Rattle.lent.proofs.ArrayLaws.{One}
 use Rattle.lent.proofs.Outcomes.{is-true, is-false}
 use Rattle.lent.proofs.Cell.{sv, field-read, nested-read}
@@ -62,7 +62,7 @@ use Rattle.lent.proofs.settle_registry.Code as code′
 use Rattle.lent.proofs.settle_registry.Code.Mir as code
 
 -- the machine value of what is stored
-abbrev tv : Registered → Val
+abbrev tv : RegistryTurn → Val
 tv t = LL.val G.the-type G′.the-laws t
 
 abbrev refTy : Ty
@@ -73,44 +73,44 @@ module _ {M : Type 1} {𝓤 : URA M} {H : Heap 𝓤} {A : Atoms 𝓤} {K : Type 
   of-enrolled : K → {E : Env 𝓤 H} {l : ℕ} → Walks′ K W Γ E (G′.mir, l, 0) (field 0 ∷ field 0 ∷ []) ((tyInt w64), l, 0)
   of-enrolled k = fld k refl (fld k refl (stop k))
 
-  get-enrolled : K → {q : Share} {l : ℕ} (t : Registered) (n : ℕ) → nth 𝓤 H A n Γ ≡ ‵ (fat q G′.mir l 0 (tv t)) → Reads K W Γ (tyInt w64) l 0 (vint w64 (t .change .enrolled))
+  get-enrolled : K → {q : Share} {l : ℕ} (t : RegistryTurn) (n : ℕ) → nth 𝓤 H A n Γ ≡ ‵ (fat q G′.mir l 0 (tv t)) → Reads K W Γ (tyInt w64) l 0 (vint w64 (t .change .enrolled))
   get-enrolled k t n e = nested-read k n 0 0 e refl refl refl refl
 
   of-at : K → {E : Env 𝓤 H} {l : ℕ} → Walks′ K W Γ E (G′.mir, l, 0) (field 0 ∷ field 1 ∷ []) ((tyInt w64), l, 8)
   of-at k = fld k refl (fld k refl (stop k))
 
-  get-at : K → {q : Share} {l : ℕ} (t : Registered) (n : ℕ) → nth 𝓤 H A n Γ ≡ ‵ (fat q G′.mir l 0 (tv t)) → Reads K W Γ (tyInt w64) l 8 (vint w64 (t .change .at))
+  get-at : K → {q : Share} {l : ℕ} (t : RegistryTurn) (n : ℕ) → nth 𝓤 H A n Γ ≡ ‵ (fat q G′.mir l 0 (tv t)) → Reads K W Γ (tyInt w64) l 8 (vint w64 (t .change .at))
   get-at k t n e = nested-read k n 0 1 e refl refl refl refl
 
   of-unit : K → {E : Env 𝓤 H} {l : ℕ} → Walks′ K W Γ E (G′.mir, l, 0) (field 0 ∷ field 2 ∷ []) (U′.mir, l, 16)
   of-unit k = fld k refl (fld k refl (stop k))
 
-  get-unit : K → {q : Share} {l : ℕ} (t : Registered) (n : ℕ) → nth 𝓤 H A n Γ ≡ ‵ (fat q G′.mir l 0 (tv t)) → Reads K W Γ U′.mir l 16 (LL.val U.the-type U′.the-laws (t .change .unit))
+  get-unit : K → {q : Share} {l : ℕ} (t : RegistryTurn) (n : ℕ) → nth 𝓤 H A n Γ ≡ ‵ (fat q G′.mir l 0 (tv t)) → Reads K W Γ U′.mir l 16 (LL.val U.the-type U′.the-laws (t .change .unit))
   get-unit k t n e = nested-read k n 0 2 e refl refl refl refl
 
   of-notice : K → {E : Env 𝓤 H} {l : ℕ} → Walks′ K W Γ E (G′.mir, l, 0) (field 0 ∷ field 3 ∷ []) (X′.mir, l, 40)
   of-notice k = fld k refl (fld k refl (stop k))
 
-  get-notice : K → {q : Share} {l : ℕ} (t : Registered) (n : ℕ) → nth 𝓤 H A n Γ ≡ ‵ (fat q G′.mir l 0 (tv t)) → Reads K W Γ X′.mir l 40 (LL.val X.the-type X′.the-laws (t .change .notice))
+  get-notice : K → {q : Share} {l : ℕ} (t : RegistryTurn) (n : ℕ) → nth 𝓤 H A n Γ ≡ ‵ (fat q G′.mir l 0 (tv t)) → Reads K W Γ X′.mir l 40 (LL.val X.the-type X′.the-laws (t .change .notice))
   get-notice k t n e = nested-read k n 0 3 e refl refl refl refl
 
   of-changed : K → {E : Env 𝓤 H} {l : ℕ} → Walks′ K W Γ E (G′.mir, l, 0) (field 0 ∷ field 4 ∷ []) (tyBool, l, 144)
   of-changed k = fld k refl (fld k refl (stop k))
 
-  get-changed : K → {q : Share} {l : ℕ} (t : Registered) (n : ℕ) → nth 𝓤 H A n Γ ≡ ‵ (fat q G′.mir l 0 (tv t)) → Reads K W Γ tyBool l 144 (vbool (t .change .changed))
+  get-changed : K → {q : Share} {l : ℕ} (t : RegistryTurn) (n : ℕ) → nth 𝓤 H A n Γ ≡ ‵ (fat q G′.mir l 0 (tv t)) → Reads K W Γ tyBool l 144 (vbool (t .change .changed))
   get-changed k t n e = nested-read k n 0 4 e refl refl refl refl
 
   of-response : K → {E : Env 𝓤 H} {l : ℕ} → Walks′ K W Γ E (G′.mir, l, 0) (field 1 ∷ []) (N′.mir, l, 152)
   of-response k = fld k refl (stop k)
 
-  get-response : K → {q : Share} {l : ℕ} (t : Registered) (n : ℕ) → nth 𝓤 H A n Γ ≡ ‵ (fat q G′.mir l 0 (tv t)) → Reads K W Γ N′.mir l 152 (LL.val N.the-type N′.the-laws (t .response))
+  get-response : K → {q : Share} {l : ℕ} (t : RegistryTurn) (n : ℕ) → nth 𝓤 H A n Γ ≡ ‵ (fat q G′.mir l 0 (tv t)) → Reads K W Γ N′.mir l 152 (LL.val N.the-type N′.the-laws (t .answer))
   get-response k t n e = field-read k n 1 e refl refl
 
 abbrev stayed : Stays (f.ended .signature .params) (f.ended .kept)
 stayed = (stay-ref (0 ∷ []) tt (plain (λ _. T.the-row)), (stay-none (λ _. G.the-row) yes, tt))
 
-module _ {M : Type 1} (𝓤 : URA M) (H : Heap 𝓤) (A : Atoms 𝓤) (W : Given 𝓤 H A) (at-mem : Memory → SProp 𝓤) (run : Routine → Fun 𝓤) (κ : Lft) (q : Share) (b o : ℕ) (γ : GName) (h : Session) (t : Registered) where
-  abbrev x : RefT Session × (Registered × Unit {0})
+module _ {M : Type 1} (𝓤 : URA M) (H : Heap 𝓤) (A : Atoms 𝓤) (W : Given 𝓤 H A) (at-mem : Memory → SProp 𝓤) (run : Routine → Fun 𝓤) (κ : Lft) (q : Share) (b o : ℕ) (γ : GName) (h : Session) (t : RegistryTurn) where
+  abbrev x : RefT Session × (RegistryTurn × Unit {0})
   x = (record { ptr = (b, o); name = γ; now = h }, (t, tt))
 
   -- the session after each store
@@ -141,7 +141,7 @@ module _ {M : Type 1} (𝓤 : URA M) (H : Heap 𝓤) (A : Atoms 𝓤) (W : Given
 
   module _ (gt : Is G.the-row t (tv t ∷ [])) (small : t .change .at < 64) where
     -- what is known of the parts
-    told : Is N.the-row (t .response) (LL.vals N.the-type N′.the-laws (t .response))
+    told : Is N.the-row (t .answer) (LL.vals N.the-type N′.the-laws (t .answer))
     told = LL.owed G.the-type G′.the-laws t _ gt .1 .0
 
     changed : Is C.the-row (t .change) (LL.vals C.the-type C′.the-laws (t .change))
@@ -167,13 +167,13 @@ module _ {M : Type 1} (𝓤 : URA M) (H : Heap 𝓤) (A : Atoms 𝓤) (W : Given
       made : Good h₃
       made = with-notice h₂ good₂ (t .change .at) (t .change .notice) one-notice
 
-    exits : (z : Session) → z ≡ h′ → ent 𝓤 (sep 𝓤 (A .obs γ (T.the-row .coded .code z)) (sep 𝓤 (A .bor κ (Body (mem T.the-row) b o γ)) (A .lft κ q))) (Post (LL.val N.the-type N′.the-laws (t .response)))
+    exits : (z : Session) → z ≡ h′ → ent 𝓤 (sep 𝓤 (A .obs γ (T.the-row .coded .code z)) (sep 𝓤 (A .bor κ (Body (mem T.the-row) b o γ)) (A .lft κ q))) (Post (LL.val N.the-type N′.the-laws (t .answer)))
     exits z e =
         qed W (‵ (fobs γ (T.the-row .coded .code z)) ∷ ‵ (fbor κ (Body (mem T.the-row) b o γ)) ∷ ‵ (flft κ q) ∷ []) ∵
-        suffices ! _ (ends-at 𝓤 H A f.ended stayed (f.clauses 𝓤 H A at-mem run) W (((κ, tt), (q, tt), tt, x, at), tt) (LL.val N.the-type N′.the-laws (t .response)) (t .response) (z, (tt, tt)) (tt, (tt, tt))) $
+        suffices ! _ (ends-at 𝓤 H A f.ended stayed (f.clauses 𝓤 H A at-mem run) W (((κ, tt), (q, tt), tt, x, at), tt) (LL.val N.the-type N′.the-laws (t .answer)) (t .answer) (z, (tt, tt)) (tt, (tt, tt))) $
         says ! (e, refl) $ nothing ! $ move ! (3 ∷ 0 ∷ []) $ join ! $
         frame ! $ feqI ! (List Val) (vptr b o ∷ []) (vptr b o ∷ []) refl $ fjoin3 ! $ nothing ! $ owned ! G.the-row (Is G.the-row) (LL.makes G.the-type G′.the-plain 𝓤 H A) t _ gt $ fjoin ! $ move ! (1 ∷ 0 ∷ []) $ fjoin ! $
-        owned ! N.the-row (Is N.the-row) (LL.makes N.the-type N′.the-plain 𝓤 H A) (t .response) _ told $ move ! (1 ∷ 0 ∷ []) $ done !
+        owned ! N.the-row (Is N.the-row) (LL.makes N.the-type N′.the-plain 𝓤 H A) (t .answer) _ told $ move ! (1 ∷ 0 ∷ []) $ done !
 
     module _ (was : Good h) (C : Calls 𝓤 H) (Λ : Loops 𝓤 H) (l₀ l₁ l₂ l₃ l₄ l₅ l₆ l₇ l₈ l₉ : ℕ) where
       abbrev En : Env 𝓤 H
@@ -197,7 +197,7 @@ module _ {M : Type 1} (𝓤 : URA M) (H : Heap 𝓤) (A : Atoms 𝓤) (W : Given
           assigns ! (addr ! (from ! (hop ! (look ! 20 refl) (at-notices !)))) (from ! (stop !)) (init ! 6 refl (tt, tt)) $
           assigns ! (bin ! (load ! (from ! (stop !)) (look ! 6 refl)) (load ! (from ! (stop !)) (look ! 12 refl)) tt) (from ! (stop !)) (init ! 4 refl (tt, tt)) $
           assigns-last ! (of-opd ! (load ! (from ! (of-notice !)) (get-notice ! t 18 refl))) (from ! (hop ! (look ! 4 refl) (stop !))) (store-notice ! h₂ (t .change .at) (t .change .notice) (good₂ was) small (LL.lawful X.the-type X′.the-laws 𝓤 H A W .typed (t .change .notice) _ one-notice .0)) $ exec ! C Λ En code.t-3 (atRet En Post) $
-          assigns ! (of-opd ! (load ! (from ! (of-response !)) (get-response ! t 18 refl))) (from ! (stop !)) (init ! 22 refl (LL.lawful N.the-type N′.the-laws 𝓤 H A W .typed (t .response) _ told .0)) $
+          assigns ! (of-opd ! (load ! (from ! (of-response !)) (get-response ! t 18 refl))) (from ! (stop !)) (init ! 22 refl (LL.lawful N.the-type N′.the-laws 𝓤 H A W .typed (t .answer) _ told .0)) $
           use1 W (‵ (fat fullShare (rawTy T′.mir) b o (sv h₃))) (W .laws .at-raw fullShare T′.mir b o (sv h₃)) $
           owned ! T.the-row (Is T.the-row) (LL.makes T.the-type T′.the-plain 𝓤 H A) h₃ _ (made was) $ move ! (1 ∷ 0 ∷ []) $ closes ! tt T.the-row h₃ (LL.vals T.the-type T′.the-laws h₃) b o $
           -- [obs; the borrow; the token; _9; …; .. _0; …]
@@ -205,7 +205,7 @@ module _ {M : Type 1} (𝓤 : URA M) (H : Heap 𝓤) (A : Atoms 𝓤) (W : Given
           move ! (21 ∷ 22 ∷ []) $ free1 ! $ move ! (19 ∷ 20 ∷ []) $ free1 ! $ move ! (17 ∷ 18 ∷ []) $ free1 ! $ move ! (15 ∷ 16 ∷ []) $ free1 ! $ move ! (13 ∷ 14 ∷ []) $ free1 ! $ move ! (11 ∷ 12 ∷ []) $ free1 ! $ move ! (9 ∷ 10 ∷ []) $ free1 ! $ move ! (7 ∷ 8 ∷ []) $ free1 ! $ move ! (5 ∷ 6 ∷ []) $ free1 ! $ move ! (3 ∷ 4 ∷ []) $ free1 ! $ free0 ! $
           keep ! (0 ∷ 1 ∷ 2 ∷ []) $ by ! (exits h₃ (stored y)))
           (λ n. skips ! $ exec ! C Λ En code.t-3 (atRet En Post) $
-          assigns ! (of-opd ! (load ! (from ! (of-response !)) (get-response ! t 18 refl))) (from ! (stop !)) (init ! 22 refl (LL.lawful N.the-type N′.the-laws 𝓤 H A W .typed (t .response) _ told .0)) $
+          assigns ! (of-opd ! (load ! (from ! (of-response !)) (get-response ! t 18 refl))) (from ! (stop !)) (init ! 22 refl (LL.lawful N.the-type N′.the-laws 𝓤 H A W .typed (t .answer) _ told .0)) $
           use1 W (‵ (fat fullShare (rawTy T′.mir) b o (sv h))) (W .laws .at-raw fullShare T′.mir b o (sv h)) $
           owned ! T.the-row (Is T.the-row) (LL.makes T.the-type T′.the-plain 𝓤 H A) h _ (was) $ move ! (1 ∷ 0 ∷ []) $ closes ! tt T.the-row h (LL.vals T.the-type T′.the-laws h) b o $
           -- [obs; the borrow; the token; _9; …; .. _0; …]

@@ -46,7 +46,7 @@ use Rattle.changes.specs.Changes.{movedIn, standingWith, Placed}
 use Rattle.session.specs.declared.Session.{Session}
 use Rattle.session.specs.declared.Lodgement.{Lodgement}
 use Rattle.session.specs.declared.Energies.{Energies}
-use Rattle.response.specs.declared.Lodged.{Lodged}
+use Rattle.changes.specs.declared.StandingTurn.{StandingTurn}
 use Rattle.changes.proofs.ChangeLaws.{session-none, session-more}
 use Rattle.session.proofs.Session as T
 use Rattle.session.proofs.Session.Laws as T′
@@ -56,10 +56,10 @@ use Rattle.session.proofs.Energies as E
 use Rattle.session.proofs.Energies.Laws as E′
 use Rattle.changes.proofs.StandingChange as S
 use Rattle.changes.proofs.StandingChange.Laws as S′
-use Rattle.response.proofs.Lodged as G
-use Rattle.response.proofs.Lodged.Laws as G′
-use Rattle.told.proofs.Response as N
-use Rattle.told.proofs.Response.Laws as N′
+use Rattle.changes.proofs.StandingTurn as G
+use Rattle.changes.proofs.StandingTurn.Laws as G′
+use Rattle.answer.proofs.Response as N
+use Rattle.answer.proofs.Response.Laws as N′
 use Rattle.lent.proofs.ArrayLaws.{One}
 use Rattle.lent.proofs.Outcomes.{decide, reflected, refuted, is-true, is-false}
 use Rattle.lent.proofs.Cell.{sv, field-read, nested-read}
@@ -71,7 +71,7 @@ use Rattle.lent.proofs.settle_standing.Code as code′
 use Rattle.lent.proofs.settle_standing.Code.Mir as code
 
 -- the machine value of what is stored
-abbrev tv : Lodged → Val
+abbrev tv : StandingTurn → Val
 tv t = LL.val G.the-type G′.the-laws t
 
 abbrev refTy : Ty
@@ -82,62 +82,62 @@ module _ {M : Type 1} {𝓤 : URA M} {H : Heap 𝓤} {A : Atoms 𝓤} {K : Type 
   of-from : K → {E : Env 𝓤 H} {l : ℕ} → Walks′ K W Γ E (G′.mir, l, 0) (field 0 ∷ field 0 ∷ []) ((tyInt w64), l, 0)
   of-from k = fld k refl (fld k refl (stop k))
 
-  get-from : K → {q : Share} {l : ℕ} (t : Lodged) (n : ℕ) → nth 𝓤 H A n Γ ≡ ‵ (fat q G′.mir l 0 (tv t)) → Reads K W Γ (tyInt w64) l 0 (vint w64 (t .change .from))
+  get-from : K → {q : Share} {l : ℕ} (t : StandingTurn) (n : ℕ) → nth 𝓤 H A n Γ ≡ ‵ (fat q G′.mir l 0 (tv t)) → Reads K W Γ (tyInt w64) l 0 (vint w64 (t .change .from))
   get-from k t n e = nested-read k n 0 0 e refl refl refl refl
 
   of-to : K → {E : Env 𝓤 H} {l : ℕ} → Walks′ K W Γ E (G′.mir, l, 0) (field 0 ∷ field 1 ∷ []) ((tyInt w64), l, 8)
   of-to k = fld k refl (fld k refl (stop k))
 
-  get-to : K → {q : Share} {l : ℕ} (t : Lodged) (n : ℕ) → nth 𝓤 H A n Γ ≡ ‵ (fat q G′.mir l 0 (tv t)) → Reads K W Γ (tyInt w64) l 8 (vint w64 (t .change .to))
+  get-to : K → {q : Share} {l : ℕ} (t : StandingTurn) (n : ℕ) → nth 𝓤 H A n Γ ≡ ‵ (fat q G′.mir l 0 (tv t)) → Reads K W Γ (tyInt w64) l 8 (vint w64 (t .change .to))
   get-to k t n e = nested-read k n 0 1 e refl refl refl refl
 
   of-at : K → {E : Env 𝓤 H} {l : ℕ} → Walks′ K W Γ E (G′.mir, l, 0) (field 0 ∷ field 2 ∷ []) ((tyInt w64), l, 16)
   of-at k = fld k refl (fld k refl (stop k))
 
-  get-at : K → {q : Share} {l : ℕ} (t : Lodged) (n : ℕ) → nth 𝓤 H A n Γ ≡ ‵ (fat q G′.mir l 0 (tv t)) → Reads K W Γ (tyInt w64) l 16 (vint w64 (t .change .at))
+  get-at : K → {q : Share} {l : ℕ} (t : StandingTurn) (n : ℕ) → nth 𝓤 H A n Γ ≡ ‵ (fat q G′.mir l 0 (tv t)) → Reads K W Γ (tyInt w64) l 16 (vint w64 (t .change .at))
   get-at k t n e = nested-read k n 0 2 e refl refl refl refl
 
   of-lodgement : K → {E : Env 𝓤 H} {l : ℕ} → Walks′ K W Γ E (G′.mir, l, 0) (field 0 ∷ field 3 ∷ []) (L′.mir, l, 24)
   of-lodgement k = fld k refl (fld k refl (stop k))
 
-  get-lodgement : K → {q : Share} {l : ℕ} (t : Lodged) (n : ℕ) → nth 𝓤 H A n Γ ≡ ‵ (fat q G′.mir l 0 (tv t)) → Reads K W Γ L′.mir l 24 (LL.val L.the-type L′.the-laws (t .change .lodgement))
+  get-lodgement : K → {q : Share} {l : ℕ} (t : StandingTurn) (n : ℕ) → nth 𝓤 H A n Γ ≡ ‵ (fat q G′.mir l 0 (tv t)) → Reads K W Γ L′.mir l 24 (LL.val L.the-type L′.the-laws (t .change .lodgement))
   get-lodgement k t n e = nested-read k n 0 3 e refl refl refl refl
 
   of-energies : K → {E : Env 𝓤 H} {l : ℕ} → Walks′ K W Γ E (G′.mir, l, 0) (field 0 ∷ field 4 ∷ []) (E′.mir, l, 40)
   of-energies k = fld k refl (fld k refl (stop k))
 
-  get-energies : K → {q : Share} {l : ℕ} (t : Lodged) (n : ℕ) → nth 𝓤 H A n Γ ≡ ‵ (fat q G′.mir l 0 (tv t)) → Reads K W Γ E′.mir l 40 (LL.val E.the-type E′.the-laws (t .change .energies))
+  get-energies : K → {q : Share} {l : ℕ} (t : StandingTurn) (n : ℕ) → nth 𝓤 H A n Γ ≡ ‵ (fat q G′.mir l 0 (tv t)) → Reads K W Γ E′.mir l 40 (LL.val E.the-type E′.the-laws (t .change .energies))
   get-energies k t n e = nested-read k n 0 4 e refl refl refl refl
 
   of-standing : K → {E : Env 𝓤 H} {l : ℕ} → Walks′ K W Γ E (G′.mir, l, 0) (field 0 ∷ field 5 ∷ []) ((tyInt w64), l, 240)
   of-standing k = fld k refl (fld k refl (stop k))
 
-  get-standing : K → {q : Share} {l : ℕ} (t : Lodged) (n : ℕ) → nth 𝓤 H A n Γ ≡ ‵ (fat q G′.mir l 0 (tv t)) → Reads K W Γ (tyInt w64) l 240 (vint w64 (t .change .standing))
+  get-standing : K → {q : Share} {l : ℕ} (t : StandingTurn) (n : ℕ) → nth 𝓤 H A n Γ ≡ ‵ (fat q G′.mir l 0 (tv t)) → Reads K W Γ (tyInt w64) l 240 (vint w64 (t .change .standing))
   get-standing k t n e = nested-read k n 0 5 e refl refl refl refl
 
   of-last : K → {E : Env 𝓤 H} {l : ℕ} → Walks′ K W Γ E (G′.mir, l, 0) (field 0 ∷ field 6 ∷ []) ((tyInt w32), l, 248)
   of-last k = fld k refl (fld k refl (stop k))
 
-  get-last : K → {q : Share} {l : ℕ} (t : Lodged) (n : ℕ) → nth 𝓤 H A n Γ ≡ ‵ (fat q G′.mir l 0 (tv t)) → Reads K W Γ (tyInt w32) l 248 (vint w32 (t .change .last))
+  get-last : K → {q : Share} {l : ℕ} (t : StandingTurn) (n : ℕ) → nth 𝓤 H A n Γ ≡ ‵ (fat q G′.mir l 0 (tv t)) → Reads K W Γ (tyInt w32) l 248 (vint w32 (t .change .last))
   get-last k t n e = nested-read k n 0 6 e refl refl refl refl
 
   of-changed : K → {E : Env 𝓤 H} {l : ℕ} → Walks′ K W Γ E (G′.mir, l, 0) (field 0 ∷ field 7 ∷ []) (tyBool, l, 252)
   of-changed k = fld k refl (fld k refl (stop k))
 
-  get-changed : K → {q : Share} {l : ℕ} (t : Lodged) (n : ℕ) → nth 𝓤 H A n Γ ≡ ‵ (fat q G′.mir l 0 (tv t)) → Reads K W Γ tyBool l 252 (vbool (t .change .changed))
+  get-changed : K → {q : Share} {l : ℕ} (t : StandingTurn) (n : ℕ) → nth 𝓤 H A n Γ ≡ ‵ (fat q G′.mir l 0 (tv t)) → Reads K W Γ tyBool l 252 (vbool (t .change .changed))
   get-changed k t n e = nested-read k n 0 7 e refl refl refl refl
 
   of-response : K → {E : Env 𝓤 H} {l : ℕ} → Walks′ K W Γ E (G′.mir, l, 0) (field 1 ∷ []) (N′.mir, l, 256)
   of-response k = fld k refl (stop k)
 
-  get-response : K → {q : Share} {l : ℕ} (t : Lodged) (n : ℕ) → nth 𝓤 H A n Γ ≡ ‵ (fat q G′.mir l 0 (tv t)) → Reads K W Γ N′.mir l 256 (LL.val N.the-type N′.the-laws (t .response))
+  get-response : K → {q : Share} {l : ℕ} (t : StandingTurn) (n : ℕ) → nth 𝓤 H A n Γ ≡ ‵ (fat q G′.mir l 0 (tv t)) → Reads K W Γ N′.mir l 256 (LL.val N.the-type N′.the-laws (t .answer))
   get-response k t n e = field-read k n 1 e refl refl
 
 abbrev stayed : Stays (f.ended .signature .params) (f.ended .kept)
 stayed = (stay-ref (0 ∷ []) tt (plain (λ _. T.the-row)), (stay-none (λ _. G.the-row) yes, tt))
 
-module _ {M : Type 1} (𝓤 : URA M) (H : Heap 𝓤) (A : Atoms 𝓤) (W : Given 𝓤 H A) (at-mem : Memory → SProp 𝓤) (run : Routine → Fun 𝓤) (κ : Lft) (q : Share) (b o : ℕ) (γ : GName) (h : Session) (t : Lodged) where
-  abbrev x : RefT Session × (Lodged × Unit {0})
+module _ {M : Type 1} (𝓤 : URA M) (H : Heap 𝓤) (A : Atoms 𝓤) (W : Given 𝓤 H A) (at-mem : Memory → SProp 𝓤) (run : Routine → Fun 𝓤) (κ : Lft) (q : Share) (b o : ℕ) (γ : GName) (h : Session) (t : StandingTurn) where
+  abbrev x : RefT Session × (StandingTurn × Unit {0})
   x = (record { ptr = (b, o); name = γ; now = h }, (t, tt))
 
   abbrev h′ : Session
@@ -151,7 +151,7 @@ module _ {M : Type 1} (𝓤 : URA M) (H : Heap 𝓤) (A : Atoms 𝓤) (W : Given
 
   module _ (gt : Is G.the-row t (tv t ∷ [])) (placed : Placed (t .change)) where
     -- what is known of the parts
-    told : Is N.the-row (t .response) (LL.vals N.the-type N′.the-laws (t .response))
+    told : Is N.the-row (t .answer) (LL.vals N.the-type N′.the-laws (t .answer))
     told = LL.owed G.the-type G′.the-laws t _ gt .1 .0
 
     changed : Is S.the-row (t .change) (LL.vals S.the-type S′.the-laws (t .change))
@@ -279,13 +279,13 @@ module _ {M : Type 1} (𝓤 : URA M) (H : Heap 𝓤) (A : Atoms 𝓤) (W : Given
       made : Good h₄
       made = with-last h₃ good₃ (t .change .last) last-fits
 
-    exits : (z : Session) → z ≡ h′ → ent 𝓤 (sep 𝓤 (A .obs γ (T.the-row .coded .code z)) (sep 𝓤 (A .bor κ (Body (mem T.the-row) b o γ)) (A .lft κ q))) (Post (LL.val N.the-type N′.the-laws (t .response)))
+    exits : (z : Session) → z ≡ h′ → ent 𝓤 (sep 𝓤 (A .obs γ (T.the-row .coded .code z)) (sep 𝓤 (A .bor κ (Body (mem T.the-row) b o γ)) (A .lft κ q))) (Post (LL.val N.the-type N′.the-laws (t .answer)))
     exits z e =
         qed W (‵ (fobs γ (T.the-row .coded .code z)) ∷ ‵ (fbor κ (Body (mem T.the-row) b o γ)) ∷ ‵ (flft κ q) ∷ []) ∵
-        suffices ! _ (ends-at 𝓤 H A f.ended stayed (f.clauses 𝓤 H A at-mem run) W (((κ, tt), (q, tt), tt, x, at), tt) (LL.val N.the-type N′.the-laws (t .response)) (t .response) (z, (tt, tt)) (tt, (tt, tt))) $
+        suffices ! _ (ends-at 𝓤 H A f.ended stayed (f.clauses 𝓤 H A at-mem run) W (((κ, tt), (q, tt), tt, x, at), tt) (LL.val N.the-type N′.the-laws (t .answer)) (t .answer) (z, (tt, tt)) (tt, (tt, tt))) $
         says ! (e, refl) $ nothing ! $ move ! (3 ∷ 0 ∷ []) $ join ! $
         frame ! $ feqI ! (List Val) (vptr b o ∷ []) (vptr b o ∷ []) refl $ fjoin3 ! $ nothing ! $ owned ! G.the-row (Is G.the-row) (LL.makes G.the-type G′.the-plain 𝓤 H A) t _ gt $ fjoin ! $ move ! (1 ∷ 0 ∷ []) $ fjoin ! $
-        owned ! N.the-row (Is N.the-row) (LL.makes N.the-type N′.the-plain 𝓤 H A) (t .response) _ told $ move ! (1 ∷ 0 ∷ []) $ done !
+        owned ! N.the-row (Is N.the-row) (LL.makes N.the-type N′.the-plain 𝓤 H A) (t .answer) _ told $ move ! (1 ∷ 0 ∷ []) $ done !
 
     module _ (𝓣 : Tables 𝓤 H) (l₀ l₁ l₂ l₃ l₄ l₅ l₆ l₇ l₈ l₉ l₁₀ l₁₁ l₁₂ l₁₃ l₁₄ l₁₅ l₁₆ l₁₇ l₁₈ l₁₉ l₂₀ l₂₁ l₂₂ l₂₃ l₂₄ : ℕ) where
       abbrev C : Calls 𝓤 H
@@ -351,7 +351,7 @@ module _ {M : Type 1} (𝓤 : URA M) (H : Heap 𝓤) (A : Atoms 𝓤) (W : Given
           -- the count and the last number
           assigns ! (of-opd ! (load ! (from ! (of-standing !)) (get-standing ! t 48 refl))) (from ! (hop ! (look ! 50 refl) (at-standing !))) (store-standing ! h₂ (t .change .standing) count-fits) $
           assigns-last ! (of-opd ! (load ! (from ! (of-last !)) (get-last ! t 48 refl))) (from ! (hop ! (look ! 50 refl) (at-last !))) (store-last ! h₃ (t .change .last) last-fits) $ exec ! C Λ En code.t-5 (atRet En Post) $
-          assigns ! (of-opd ! (load ! (from ! (of-response !)) (get-response ! t 48 refl))) (from ! (stop !)) (init ! 52 refl (LL.lawful N.the-type N′.the-laws 𝓤 H A W .typed (t .response) _ told .0)) $
+          assigns ! (of-opd ! (load ! (from ! (of-response !)) (get-response ! t 48 refl))) (from ! (stop !)) (init ! 52 refl (LL.lawful N.the-type N′.the-laws 𝓤 H A W .typed (t .answer) _ told .0)) $
           use1 W (‵ (fat fullShare (rawTy T′.mir) b o (sv h₄))) (W .laws .at-raw fullShare T′.mir b o (sv h₄)) $
           owned ! T.the-row (Is T.the-row) (LL.makes T.the-type T′.the-plain 𝓤 H A) h₄ _ (made u over) $ move ! (1 ∷ 0 ∷ []) $ closes ! tt T.the-row h₄ (LL.vals T.the-type T′.the-laws h₄) b o $
           -- [obs; the borrow; the token; _24; …; .. _0; …]
@@ -359,7 +359,7 @@ module _ {M : Type 1} (𝓤 : URA M) (H : Heap 𝓤) (A : Atoms 𝓤) (W : Given
           move ! (51 ∷ 52 ∷ []) $ free1 ! $ move ! (49 ∷ 50 ∷ []) $ free1 ! $ move ! (47 ∷ 48 ∷ []) $ free1 ! $ move ! (45 ∷ 46 ∷ []) $ free1 ! $ move ! (43 ∷ 44 ∷ []) $ free1 ! $ move ! (41 ∷ 42 ∷ []) $ free1 ! $ move ! (39 ∷ 40 ∷ []) $ free1 ! $ move ! (37 ∷ 38 ∷ []) $ free1 ! $ move ! (35 ∷ 36 ∷ []) $ free1 ! $ move ! (33 ∷ 34 ∷ []) $ free1 ! $ move ! (31 ∷ 32 ∷ []) $ free1 ! $ move ! (29 ∷ 30 ∷ []) $ free1 ! $ move ! (27 ∷ 28 ∷ []) $ free1 ! $ move ! (25 ∷ 26 ∷ []) $ free1 ! $ move ! (23 ∷ 24 ∷ []) $ free1 ! $ move ! (21 ∷ 22 ∷ []) $ free1 ! $ move ! (19 ∷ 20 ∷ []) $ free1 ! $ move ! (17 ∷ 18 ∷ []) $ free1 ! $ move ! (15 ∷ 16 ∷ []) $ free1 ! $ move ! (13 ∷ 14 ∷ []) $ free1 ! $ move ! (11 ∷ 12 ∷ []) $ free1 ! $ move ! (9 ∷ 10 ∷ []) $ free1 ! $ move ! (7 ∷ 8 ∷ []) $ free1 ! $ move ! (5 ∷ 6 ∷ []) $ free1 ! $ move ! (3 ∷ 4 ∷ []) $ free1 ! $ free0 ! $
           keep ! (0 ∷ 1 ∷ 2 ∷ []) $ by ! (exits h₄ (stored y)))
           (λ n. skips ! $ exec ! C Λ En code.t-5 (atRet En Post) $
-          assigns ! (of-opd ! (load ! (from ! (of-response !)) (get-response ! t 48 refl))) (from ! (stop !)) (init ! 52 refl (LL.lawful N.the-type N′.the-laws 𝓤 H A W .typed (t .response) _ told .0)) $
+          assigns ! (of-opd ! (load ! (from ! (of-response !)) (get-response ! t 48 refl))) (from ! (stop !)) (init ! 52 refl (LL.lawful N.the-type N′.the-laws 𝓤 H A W .typed (t .answer) _ told .0)) $
           use1 W (‵ (fat fullShare (rawTy T′.mir) b o (sv h₀))) (W .laws .at-raw fullShare T′.mir b o (sv h₀)) $
           owned ! T.the-row (Is T.the-row) (LL.makes T.the-type T′.the-plain 𝓤 H A) h₀ _ (good₀ u over) $ move ! (1 ∷ 0 ∷ []) $ closes ! tt T.the-row h₀ (LL.vals T.the-type T′.the-laws h₀) b o $
           -- [obs; the borrow; the token; _24; …; .. _0; …]

@@ -18,7 +18,7 @@ returns : tie.Need-returns
 returns c = (out-unsound _ _ _ _ _ (c .registry-refused .ensures .0) (sym (c .before .before .sound .ensures) ∙ not-true _ (c .before .if1 .taken)), c .registry-refused .ensures .1)
 
 holder-of-requires : tie.Need-holder-of-requires
-holder-of-requires c κs = guarded (c .before .before .before .args .s) (sym (c .before .before .sound .ensures) ∙ not-false _ (c .before .if1 .left)) .enrolled
+holder-of-requires c κs = guarded (c .before .before .before .before .args .s) (sym (c .before .before .sound .ensures) ∙ not-false _ (c .before .if1 .left)) .enrolled
 
 judge-available-requires : tie.Need-judge-available-requires
 judge-available-requires c κs = c .before .holder-of .ensures .place
@@ -43,7 +43,7 @@ returns-3 c =
     let clear = sym (c .before .enum-told .given .1) in
     let enrolled = c .before .before .before .judge-available .ensures .1 (c .before .enum-told .given .1) in (
       out-entered _ _ _ (λ b e. clear ∙ c .before .before .before .judge-available .ensures .0 b e) (rw (c .note-available .ensures) (available-held _ _ _ _ _ (c .before .before .before .before .before .holder-of .ensures) enrolled)),
-      rw (c .note-available .ensures) (omega (arith, guarded (c .before .before .before .before .before .before .before .before .before .args .s) (sym (c .before .before .before .before .before .before .before .before .sound .ensures) ∙ not-false _ (c .before .before .before .before .before .before .before .if1 .left)), enrolled)),
+      rw (c .note-available .ensures) (omega (arith, guarded (c .before .before .before .before .before .before .before .before .before .before .args .s) (sym (c .before .before .before .before .before .before .before .before .sound .ensures) ∙ not-false _ (c .before .before .before .before .before .before .before .if1 .left)), enrolled)),
     )
 
 pub available-change-spec : {M : Type 1} → statement M

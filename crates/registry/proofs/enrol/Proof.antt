@@ -3,14 +3,17 @@ use borrow.Author.Needs.{needs}
 use Rattle.registry.proofs.enrol.Statement.{statement}
 use Rattle.registry.proofs.enrol.Tie as tie
 
+add-enrolled : tie.Need-add-enrolled
+add-enrolled c = search needs
+
 no-notice-requires : tie.Need-no-notice-requires
 no-notice-requires c κs = search needs
 
-add-t6 : tie.Need-add-t6
-add-t6 c = search needs
+accepted-requires : tie.Need-accepted-requires
+accepted-requires c κs = search needs
 
 returns : tie.Need-returns
-returns c = (rw (c .no-notice .ensures) (unit-entered _ _ (c .before .pre)), c .before .pre)
+returns c = (rw (c .before .no-notice .ensures, c .accepted .ensures) (unit-entered _ _ (c .before .before .pre)), c .before .before .pre)
 
 pub enrol-spec : {M : Type 1} → statement M
-enrol-spec = tie.close (tie.spec no-notice-requires add-t6 returns)
+enrol-spec = tie.close (tie.spec add-enrolled no-notice-requires accepted-requires returns)

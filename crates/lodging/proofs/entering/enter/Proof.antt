@@ -16,11 +16,14 @@ left-of-requires c κs = search needs
 add-standing : tie.Need-add-standing
 add-standing c = omega (arith, room-left (c .before .before .before .before .before .args .s) (c .before .before .before .before .before .args .m) _ _ _ (c .before .before .before .before .key-of .ensures) (c .before .before .before .before .before .pre .1) (c .left-of .ensures) (c .before .before .before .before .before .pre .0))
 
+numbered-requires : tie.Need-numbered-requires
+numbered-requires c κs = search needs
+
 returns : tie.Need-returns
 returns c = (
-  entered _ _ _ _ _ (c .before .before .before .before .key-of .ensures) (c .before .before .before .before .before .pre .1) (c .left-of .ensures) (c .before .before .before .before .before .pre .0),
-  entering-placed _ (c .before .before .before .before .before .args .m) _ _ _ (c .before .before .before .before .key-of .ensures) (c .before .before .before .before .before .pre .1) (c .left-of .ensures) (c .before .before .before .before .before .pre .0) (c .before .before .before .before .before .pre .2) _,
+  rw (c .numbered .ensures) (entered _ _ _ _ _ (c .before .before .before .before .before .key-of .ensures) (c .before .before .before .before .before .before .pre .1) (c .before .left-of .ensures) (c .before .before .before .before .before .before .pre .0)),
+  entering-placed _ (c .before .before .before .before .before .before .args .m) _ _ _ (c .before .before .before .before .before .key-of .ensures) (c .before .before .before .before .before .before .pre .1) (c .before .left-of .ensures) (c .before .before .before .before .before .before .pre .0) (c .before .before .before .before .before .before .pre .2) _,
 )
 
 pub enter-spec : {M : Type 1} → statement M
-enter-spec = tie.close (tie.spec key-of-requires add-number left-of-requires add-standing returns)
+enter-spec = tie.close (tie.spec key-of-requires add-number left-of-requires add-standing numbered-requires returns)
