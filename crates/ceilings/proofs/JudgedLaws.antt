@@ -13,14 +13,14 @@ use Rattle.rules.specs.Units.{Limit, passes, limits, ceiling}
 use Rattle.rules.specs.Lodging.{passedAt, judgedBy, limitRows}
 use Rattle.rules.proofs.BoolLaws.{by-bool, neither}
 use Rattle.rules.proofs.LowestLaws.{lowest-none, Least, missing, found, least}
-use Rattle.rules.proofs.CeilingLaws.{over-ceiling}
+use Rattle.rules.proofs.CeilingLaws.{over-limits}
 use Rattle.session.specs.Parts.{told}
 use Rattle.session.specs.declared.Unit.{Unit}
 use Rattle.session.specs.declared.Notice.{Notice}
 use Rattle.session.specs.declared.Judged.{Judged}
 use Rattle.session.specs.declared.Judged.the-variants.{No, Clear}
 use Rattle.loads.proofs.LoadLaws.{and-false}
-use Rattle.limits.specs.Limits.{noticeIn, registeredIn, judgedIn}
+use Rattle.limits.specs.Limits.{registeredIn, linesIn, judgedIn}
 
 -- a judgement that refuses
 pub data Refuses : Judged → Type 0 where
@@ -67,14 +67,14 @@ module _ (H : ℕ) (own : List ℕ) (load : ℕ → ℕ) where
 
 module _ (u : Unit) (n : Notice) (cs : List Notice) (H : ℕ) (own : List ℕ) (load : ℕ → ℕ) where
   abbrev pub top : ℕ → ℕ
-  top h = ceiling (map noticeIn cs) (registeredIn u n) h
+  top h = ceiling (linesIn cs) (registeredIn u n) h
 
   pub judged-under : ((h : ℕ) → 1 ≤ h → h ≤ H → load h ≤ top h) → judgedIn u n cs false H own load ≡ Clear
   unfolding judgedIn judgedBy
   judged-under f =
-      ap told (rows-under H own load (limits (map noticeIn cs) (registeredIn u n)) (λ h a b. sym (over-ceiling (map noticeIn cs) (registeredIn u n) h (load h)) ∙ le-ltb (top h) (load h) (f h a b)))
+      ap told (rows-under H own load (limits (linesIn cs) (registeredIn u n)) (λ h a b. sym (over-limits (linesIn cs) (registeredIn u n) h (load h)) ∙ le-ltb (top h) (load h) (f h a b)))
 
   pub judged-over : (h : ℕ) → 1 ≤ h → h ≤ H → (hourly own h ≡ 0 → ⊥) → top h < load h → Refuses (judgedIn u n cs false H own load)
   unfolding judgedIn judgedBy
   judged-over h a b e i =
-      rows-over H own load (limits (map noticeIn cs) (registeredIn u n)) h a b (ne-eqb (hourly own h) 0 e) (sym (over-ceiling (map noticeIn cs) (registeredIn u n) h (load h)) ∙ lt-ltb (top h) (load h) i)
+      rows-over H own load (limits (linesIn cs) (registeredIn u n)) h a b (ne-eqb (hourly own h) 0 e) (sym (over-limits (linesIn cs) (registeredIn u n) h (load h)) ∙ lt-ltb (top h) (load h) i)

@@ -8,7 +8,7 @@ use lib.Dec.{eqb}
 use lib.ListN.{length, List·getD-map}
 use Rattle.rules.specs.Lists.{hourly}
 use Rattle.rules.specs.Refusals.{Row, limitRow, firstRow}
-use Rattle.rules.specs.Units.{Limit, Registered, Capacities, Published, direction, capacityOf, bothAt, availableAt, borderSum, maximumLimit, limits}
+use Rattle.rules.specs.Units.{Limit, Registered, Capacities, Lines, Published, direction, capacityOf, bothAt, availableAt, borderSum, maximumLimit, availableLimit, ownLimits, borderLimit, borderLimits, limits}
 use Rattle.rules.specs.Lodging.{passedAt, judgedBy, limitRows}
 use Rattle.rules.proofs.ListLaws.{getD-pad}
 use Rattle.session.specs.Laid.{pad}
@@ -16,7 +16,7 @@ use Rattle.session.specs.Image.{unitAs, noticeAs}
 use Rattle.session.specs.Parts.{told}
 use Rattle.session.specs.declared.Unit.{Unit}
 use Rattle.session.specs.declared.Notice.{Notice}
-use Rattle.limits.specs.Limits.{noticeIn, registeredIn, judgedIn}
+use Rattle.limits.specs.Limits.{noticeIn, registeredIn, linesIn, judgedIn}
 use Rattle.limits.proofs.RowLaws.{lowest-same, limit-same}
 
 -- zeros behind change no hour
@@ -46,7 +46,10 @@ rows-own H own like load e (l ∷ ls) =
     ap₂ (λ (h : ℕ) (rs : List Row). record { number = l .number; hour = h; applies = not (eqb h 0) } ∷ rs)
     (lowest-same (passedAt own load l) (passedAt like load l) H (λ h a b. rw (e h a b))) (rows-own H own like load e ls)
 
-module _ (r : Registered) (cs : Capacities) where
+module _ (r : Registered) (ls : Lines) where
+  abbrev cs : Capacities
+  cs = ls .capacities
+
   abbrev here : Registered
   here = registeredIn (unitAs (r .unit)) (noticeAs (r .available))
 
@@ -74,20 +77,20 @@ module _ (r : Registered) (cs : Capacities) where
     unfolding limitRow
     row-same l m e f = ap₂ (λ (n h : ℕ). record { number = n; hour = h; applies = not (eqb h 0) }) e (limit-same H own load l m (λ h x y. f h))
 
-    rows-as : (only : Bool) → limitRows H own load (judgedBy around here only) ≡ limitRows H own load (judgedBy cs r only)
-    unfolding limitRows judgedBy limits maximumLimit
+    rows-as : (only : Bool) → limitRows H own load (judgedBy (linesIn (map noticeAs cs)) here only) ≡ limitRows H own load (judgedBy ls r only)
+    unfolding limitRows judgedBy limits ownLimits borderLimits maximumLimit availableLimit borderLimit
     rows-as true = refl
     rows-as false =
         ap₂ (λ (x y : Row). limitRow 10 H (passedAt own load (maximumLimit r)) ∷ x ∷ y ∷ [])
-        (row-same (record { number = 11; at = λ h. some (availableAt here h) }) (record { number = 11; at = λ h. some (availableAt r h) }) refl (λ h. ap some (available-as h)))
-        (row-same (record { number = 12; at = λ h. borderSum around (r .unit .border) h }) (record { number = 12; at = λ h. borderSum cs (r .unit .border) h }) refl (λ h. border-as (r .unit .border) h))
+        (row-same (availableLimit here) (availableLimit r) refl (λ h. ap some (available-as h)))
+        (row-same (borderLimit (linesIn (map noticeAs cs)) here) (borderLimit ls r) refl (λ h. border-as (r .unit .border) h))
 
     pub judged-as : (u : Unit) (n : Notice) (ns : List Notice) (only : Bool) → u ≡ unitAs (r .unit) → n ≡ noticeAs (r .available) → ns ≡ map noticeAs cs
-        → judgedIn u n ns only H own load ≡ told (firstRow (limitRows H own load (judgedBy cs r only)))
+        → judgedIn u n ns only H own load ≡ told (firstRow (limitRows H own load (judgedBy ls r only)))
     unfolding judgedIn
     judged-as u n ns only e f g = rw (e, f, g) (ap (λ rows. told (firstRow rows)) (rows-as only))
 
     -- and by a load that is the same in every hour
     pub judged-by : (u : Unit) (n : Notice) (ns : List Notice) (only : Bool) (f : ℕ → ℕ) → u ≡ unitAs (r .unit) → n ≡ noticeAs (r .available) → ns ≡ map noticeAs cs
-        → ((h : ℕ) → 1 ≤ h → h ≤ H → load h ≡ f h) → judgedIn u n ns only H own load ≡ told (firstRow (limitRows H own f (judgedBy cs r only)))
-    judged-by u n ns only f e k g same = judged-as u n ns only e k g ∙ ap (λ rows. told (firstRow rows)) (rows-load H own load f same (judgedBy cs r only))
+        → ((h : ℕ) → 1 ≤ h → h ≤ H → load h ≡ f h) → judgedIn u n ns only H own load ≡ told (firstRow (limitRows H own f (judgedBy ls r only)))
+    judged-by u n ns only f e k g same = judged-as u n ns only e k g ∙ ap (λ rows. told (firstRow rows)) (rows-load H own load f same (judgedBy ls r only))

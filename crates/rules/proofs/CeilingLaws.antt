@@ -1,15 +1,16 @@
 -- The ceiling is passed exactly when one of the limits is.
 use Prim.Native.Nat.{ℕ, min}
-use mathlib.Core.Path.{_≡_, refl, sym, _∙_}
+use mathlib.Core.Path.{_≡_, refl, ap, sym, _∙_}
 use mathlib.Core.Bool.{Bool, true, false, _||_, or-assoc}
-use mathlib.Core.List.{List, [], _∷_}
+use mathlib.Core.List.{List, [], _∷_, map}
 use mathlib.Core.Option.{Option, some, none}
 use lib.Dec.{ltb}
 use native.Mathlib.Nat.{min-le-left, min-le-right, le-min}
 use native.Mathlib.Omega.{arith}
 use borrow.Author.Tests.{lt-ltb, le-ltb, ltb-true, ltb-false}
 use Rattle.rules.specs.Lists.{any}
-use Rattle.rules.specs.Units.{Registered, Capacities, availableAt, borderSum, maximumLimit, limits, passes, leastOf, ceiling}
+use Rattle.rules.specs.Units.{Registered, Lines, Limit, maximumLimit, availableLimit, ownLimits, borderLimits, limits, passes, leastOf, ceiling, unitOf}
+use Rattle.rules.specs.Book.{Book, linesOf, limitsOf, ceilingOf}
 use Rattle.rules.proofs.BoolLaws.{by-bool}
 
 -- the lesser of two is passed exactly when one of them is
@@ -32,9 +33,26 @@ again true b = refl
 again false true = refl
 again false false = refl
 
+any-at : (e h : ℕ) (ls : List Limit) → any (passes e) (map (λ l. l .at h) ls) ≡ any (λ l. passes e (l .at h)) ls
+unfolding any
+any-at e h [] = refl
+any-at e h (l ∷ ls) = ap (λ t. passes e (l .at h) || t) (any-at e h ls)
+
+-- the least of a unit's maximum and some other limits is passed exactly when one of them is
+pub over-least : (r : Registered) (ls : List Limit) (h e : ℕ)
+    → ltb (leastOf (r .unit .maximum) (map (λ l. l .at h) (maximumLimit r ∷ ls))) e ≡ any (λ l. passes e (l .at h)) (maximumLimit r ∷ ls)
+unfolding maximumLimit any passes
+over-least r ls h e =
+    least-passed e (r .unit .maximum) (map (λ l. l .at h) (maximumLimit r ∷ ls))
+    ∙ again (ltb (r .unit .maximum) e) (any (passes e) (map (λ l. l .at h) ls))
+    ∙ ap (λ t. ltb (r .unit .maximum) e || t) (any-at e h ls)
+
 -- an energy passes the ceiling exactly when it passes one of the limits
-pub over-ceiling : (cs : Capacities) (r : Registered) (h e : ℕ) → ltb (ceiling cs r h) e ≡ any (λ l. passes e (l .at h)) (limits cs r)
-unfolding ceiling limits maximumLimit any passes
-over-ceiling cs r h e =
-    least-passed e (r .unit .maximum) (some (r .unit .maximum) ∷ some (availableAt r h) ∷ borderSum cs (r .unit .border) h ∷ [])
-    ∙ again (ltb (r .unit .maximum) e) (ltb (availableAt r h) e || (passes e (borderSum cs (r .unit .border) h) || false))
+pub over-limits : (ls : Lines) (r : Registered) (h e : ℕ) → ltb (ceiling ls r h) e ≡ any (λ l. passes e (l .at h)) (limits ls r)
+unfolding ceiling limits ownLimits
+over-limits ls r h e = over-least r (availableLimit r ∷ borderLimits ls r) h e
+
+-- by the book
+pub over-ceiling : (b : Book) (u h e : ℕ) → ltb (ceilingOf b u h) e ≡ any (λ l. passes e (l .at h)) (limitsOf b u)
+unfolding ceilingOf limitsOf
+over-ceiling b u h e = over-limits (linesOf b) (unitOf (b .units) u) h e

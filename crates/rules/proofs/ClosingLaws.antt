@@ -10,9 +10,9 @@ use lib.Dec.{ltb, eqb}
 use borrow.Author.Tests.{ltb-true, ltb-false, lt-ltb, eqb-true, eqb-false, eq-eqb, ne-eqb, not-true}
 use Rattle.rules.specs.Lists.{All, none, more, empty, ahead, keep, any, sum, sumOf, hourly}
 use Rattle.rules.specs.Refusals.{Row, firstRow}
-use Rattle.rules.specs.Units.{Registered, Limit, limits, passes, ceiling, unitOf}
+use Rattle.rules.specs.Units.{Limit, passes}
 use Rattle.rules.specs.Lodging.{Lodgement, energyAt, isHidden, passedAt, limitRows}
-use Rattle.rules.specs.Book.{Book, hours}
+use Rattle.rules.specs.Book.{Book, hours, limitsOf, ceilingOf}
 use Rattle.rules.specs.Closing.{hidden, limit, isAccepted, closingOrder, loadAt, verdictOfRow, judge, Judged, judgeEach, judgements, verdictAmong, acceptedAt}
 use Rattle.rules.specs.Sound.{Numbered}
 use Rattle.rules.specs.Demands.{verdictOf, takenBefore, acceptedBefore, energyWith, Passes, Chosen, ChosenAt, Judgement}
@@ -33,53 +33,49 @@ unfolding passedAt
 passed-any named load h ls = by-bool (eqb (hourly named h) 0) (λ e. rw e (of-any-false _ (all-every (λ l. refl) ls))) (λ e. rw e)
 
 module _ (b : Book) (before : List Lodgement) (l : Lodgement) where
-  -- its unit's entry
-  abbrev holder : Registered
-  holder = unitOf (b .units) (l .key .unit)
-
   -- its limits' rows
   abbrev row-of : Option Row
-  row-of = firstRow (limitRows (hours b) (l .energies) (loadAt before l) (limits (b .capacities) holder))
+  row-of = firstRow (limitRows (hours b) (l .energies) (loadAt before l) (limitsOf b (l .key .unit)))
 
   -- "in an hour it names its energy, plus that of those accepted before it on its unit, passes the ceiling"
   abbrev Over : ℕ → Type 0
-  Over h = (1 ≤ h) × (h ≤ hours b) × (0 < energyAt l h) × (ceiling (b .capacities) holder h < loadAt before l h)
+  Over h = (1 ≤ h) × (h ≤ hours b) × (0 < energyAt l h) × (ceilingOf b (l .key .unit) h < loadAt before l h)
 
   -- a limit passed in a named hour: the ceiling is passed there
-  over-of : (h : ℕ) → any (λ L. passedAt (l .energies) (loadAt before l) L h) (limits (b .capacities) holder) ≡ true
-      → (0 < energyAt l h) × (ceiling (b .capacities) holder h < loadAt before l h)
+  over-of : (h : ℕ) → any (λ L. passedAt (l .energies) (loadAt before l) L h) (limitsOf b (l .key .unit)) ≡ true
+      → (0 < energyAt l h) × (ceilingOf b (l .key .unit) h < loadAt before l h)
   unfolding energyAt
   over-of h e =
-      let k = both (not (eqb (hourly (l .energies) h) 0)) (any (λ L. passes (loadAt before l h) (L .at h)) (limits (b .capacities) holder))
-      (sym (passed-any (l .energies) (loadAt before l) h (limits (b .capacities) holder)) ∙ e) in (
+      let k = both (not (eqb (hourly (l .energies) h) 0)) (any (λ L. passes (loadAt before l h) (L .at h)) (limitsOf b (l .key .unit)))
+      (sym (passed-any (l .energies) (loadAt before l) h (limitsOf b (l .key .unit))) ∙ e) in (
         omega (arith, eqb-false (hourly (l .energies) h) 0 (not-true _ (k .0))),
-        ltb-true _ _ (over-ceiling (b .capacities) holder h (loadAt before l h) ∙ k .1),
+        ltb-true _ _ (over-ceiling b (l .key .unit) h (loadAt before l h) ∙ k .1),
       )
 
   -- and the other way
-  of-over : (h : ℕ) → 0 < energyAt l h → ceiling (b .capacities) holder h < loadAt before l h
-      → any (λ L. passedAt (l .energies) (loadAt before l) L h) (limits (b .capacities) holder) ≡ true
+  of-over : (h : ℕ) → 0 < energyAt l h → ceilingOf b (l .key .unit) h < loadAt before l h
+      → any (λ L. passedAt (l .energies) (loadAt before l) L h) (limitsOf b (l .key .unit)) ≡ true
   unfolding energyAt
   of-over h e k =
-      passed-any (l .energies) (loadAt before l) h (limits (b .capacities) holder)
-      ∙ of-both (ap not (ne-eqb (hourly (l .energies) h) 0 (λ z. omega arith))) (sym (over-ceiling (b .capacities) holder h (loadAt before l h)) ∙ lt-ltb _ _ k)
+      passed-any (l .energies) (loadAt before l) h (limitsOf b (l .key .unit))
+      ∙ of-both (ap not (ne-eqb (hourly (l .energies) h) 0 (λ z. omega arith))) (sym (over-ceiling b (l .key .unit) h (loadAt before l h)) ∙ lt-ltb _ _ k)
 
   -- the row that is given is that of the first limit passed
-  row-chosen : (r : Row) → row-of ≡ some r → Chosen (hours b) (passedAt (l .energies) (loadAt before l)) (r .number) (r .hour) (limits (b .capacities) holder)
+  row-chosen : (r : Row) → row-of ≡ some r → Chosen (hours b) (passedAt (l .energies) (loadAt before l)) (r .number) (r .hour) (limitsOf b (l .key .unit))
   unfolding limitRows
-  row-chosen r e = first-limit (hours b) (passedAt (l .energies) (loadAt before l)) (limits (b .capacities) holder) r e
+  row-chosen r e = first-limit (hours b) (passedAt (l .energies) (loadAt before l)) (limitsOf b (l .key .unit)) r e
 
   -- where none is given no limit is passed
-  row-none : row-of ≡ nothing → (h : ℕ) → 1 ≤ h → h ≤ hours b → any (λ L. passedAt (l .energies) (loadAt before l) L h) (limits (b .capacities) holder) ≡ false
+  row-none : row-of ≡ nothing → (h : ℕ) → 1 ≤ h → h ≤ hours b → any (λ L. passedAt (l .energies) (loadAt before l) L h) (limitsOf b (l .key .unit)) ≡ false
   unfolding limitRows
-  row-none e h a c = of-any-false _ (all-map (λ L f. f h a c) (no-limit (hours b) (passedAt (l .energies) (loadAt before l)) (limits (b .capacities) holder) e))
+  row-none e h a c = of-any-false _ (all-map (λ L f. f h a c) (no-limit (hours b) (passedAt (l .energies) (loadAt before l)) (limitsOf b (l .key .unit)) e))
 
   -- refused: by the first limit passed, in its lowest hour
-  judge-chosen : (n h : ℕ) → judge b before l ≡ limit n h → Chosen (hours b) (passedAt (l .energies) (loadAt before l)) n h (limits (b .capacities) holder)
+  judge-chosen : (n h : ℕ) → judge b before l ≡ limit n h → Chosen (hours b) (passedAt (l .energies) (loadAt before l)) n h (limitsOf b (l .key .unit))
   unfolding judge verdictOfRow
   judge-chosen n h e = go row-of refl e
     where
-      go : (o : Option Row) → row-of ≡ o → verdictOfRow o ≡ limit n h → Chosen (hours b) (passedAt (l .energies) (loadAt before l)) n h (limits (b .capacities) holder)
+      go : (o : Option Row) → row-of ≡ o → verdictOfRow o ≡ limit n h → Chosen (hours b) (passedAt (l .energies) (loadAt before l)) n h (limitsOf b (l .key .unit))
       go nothing q k = let z : _≡_ {A = ℕ} 0 1 = cc in absurd (omega arith)
       go (some r) q k =
           let n-is : r .number ≡ n = cc in
@@ -117,9 +113,9 @@ module _ (b : Book) (before : List Lodgement) (l : Lodgement) where
       go (some r) k = let z : _≡_ {A = ℕ} 0 1 = cc in omega arith
 
   -- accepted: in no hour that it names is the ceiling passed
-  judge-within : isAccepted (judge b before l) ≡ true → (h : ℕ) → 1 ≤ h → h ≤ hours b → 0 < energyAt l h → loadAt before l h ≤ ceiling (b .capacities) holder h
+  judge-within : isAccepted (judge b before l) ≡ true → (h : ℕ) → 1 ≤ h → h ≤ hours b → 0 < energyAt l h → loadAt before l h ≤ ceilingOf b (l .key .unit) h
   judge-within e h a c n =
-      by-bool (ltb (ceiling (b .capacities) holder h) (loadAt before l h))
+      by-bool (ltb (ceilingOf b (l .key .unit) h) (loadAt before l h))
       (λ k. not-both e (judge-over h (a, c, n, ltb-true _ _ k))) (λ k. ltb-false _ _ k)
 
 -- the energy in an hour of those of a unit
@@ -210,7 +206,7 @@ module _ (b : Book) where
   module _ (u h : ℕ) (low : 1 ≤ h) (high : h ≤ hours b) where
     -- the ceiling of the unit
     abbrev top : ℕ
-    top = ceiling (b .capacities) (unitOf (b .units) u) h
+    top = ceilingOf b u h
 
     -- an accepted one keeps within it, with those before it
     next-within : (start : List Lodgement) (x : Lodgement) (xs : List Lodgement) → energyOn u h start ≤ top → energyOn u h (next start x xs) ≤ top
@@ -221,8 +217,8 @@ module _ (b : Book) where
         (λ e. let c = both (isAccepted (judge b start x)) (eqb (x .key .unit) u) e in
         let q : x .key .unit ≡ u = eqb-true _ _ (c .1) in
         rw e (by-bool (ltb 0 (energyAt x h))
-        (λ p. let w : energyAt x h + energyOn (x .key .unit) h start ≤ ceiling (b .capacities) (unitOf (b .units) (x .key .unit)) h = judge-within b start x (c .0) h low high (ltb-true _ _ p) in
-        omega (arith, w, ap (λ v. energyOn v h start) q, ap (λ v. ceiling (b .capacities) (unitOf (b .units) v) h) q))
+        (λ p. let w : energyAt x h + energyOn (x .key .unit) h start ≤ ceilingOf b (x .key .unit) h = judge-within b start x (c .0) h low high (ltb-true _ _ p) in
+        omega (arith, w, ap (λ v. energyOn v h start) q, ap (λ v. ceilingOf b v h) q))
         (λ p. omega (arith, ltb-false 0 (energyAt x h) p))))
         (λ e. rw e (omega arith)))
 
@@ -328,15 +324,15 @@ module _ (b : Book) (numbered : Numbered (b .standing)) where
 
   -- an unhidden one's verdict is that of its limits against its energy with that accepted before it on its unit
   pub verdict-with : All (λ l. isHidden (b .standing) l ≡ false
-      → verdictOf b l ≡ verdictOfRow (firstRow (limitRows (hours b) (l .energies) (energyWith b l) (limits (b .capacities) (unitOf (b .units) (l .key .unit)))))) (b .standing)
+      → verdictOf b l ≡ verdictOfRow (firstRow (limitRows (hours b) (l .energies) (energyWith b l) (limitsOf b (l .key .unit))))) (b .standing)
   unfolding judge
-  verdict-with = all-map (λ l t e. t e .verdict ∙ ap (λ load. verdictOfRow (firstRow (limitRows (hours b) (l .energies) load (limits (b .capacities) (unitOf (b .units) (l .key .unit)))))) (fun-ext (t e .load))) all-placed
+  verdict-with = all-map (λ l t e. t e .verdict ∙ ap (λ load. verdictOfRow (firstRow (limitRows (hours b) (l .energies) load (limitsOf b (l .key .unit))))) (fun-ext (t e .load))) all-placed
 
   -- "no unit's energy passes its ceiling": in each hour the energies of a unit's accepted lodgements sum to at most its ceiling
-  pub accepted-within : (u h : ℕ) → 1 ≤ h → h ≤ hours b → energyOn u h (acceptedAt b) ≤ ceiling (b .capacities) (unitOf (b .units) u) h
+  pub accepted-within : (u h : ℕ) → 1 ≤ h → h ≤ hours b → energyOn u h (acceptedAt b) ≤ ceilingOf b u h
   unfolding judgements keep sumOf sum
   accepted-within u h low high =
-      let none-on : energyOn u h [] ≤ ceiling (b .capacities) (unitOf (b .units) u) h = zero-le in
+      let none-on : energyOn u h [] ≤ ceilingOf b u h = zero-le in
       omega (
         arith,
         accepted-sums (λ l. energyAt l h) (λ l. eqb (l .key .unit) u),

@@ -6,9 +6,8 @@ use mathlib.Core.Option.{Option, some, none}
 use lib.Dec.{eqb}
 use Rattle.rules.specs.Lists.{keep, sumOf}
 use Rattle.rules.specs.Refusals.{Row, firstRow}
-use Rattle.rules.specs.Units.{limits, unitOf}
 use Rattle.rules.specs.Lodging.{Lodgement, energyAt, unhidden, limitRows}
-use Rattle.rules.specs.Book.{Book, hours}
+use Rattle.rules.specs.Book.{Book, hours, limitsOf}
 
 -- "a lodging number's verdict (accepted, hidden, or the limit's number and hour, chosen as below)"
 pub data Verdict : Type 0 where
@@ -41,7 +40,7 @@ verdictOfRow (some r) = limit (r .number) (r .hour)
 -- ceiling. Then it is refused whole": by the first of its limits that is passed, in that limit's lowest hour
 unfoldable pub judge : Book → List Lodgement → Lodgement → Verdict
 judge b before l =
-    verdictOfRow (firstRow (limitRows (hours b) (l .energies) (loadAt before l) (limits (b .capacities) (unitOf (b .units) (l .key .unit)))))
+    verdictOfRow (firstRow (limitRows (hours b) (l .energies) (loadAt before l) (limitsOf b (l .key .unit))))
 
 -- a lodgement that was taken at closing, with its verdict
 pub record Judged : Type 0 where

@@ -9,9 +9,9 @@ use lib.Dec.{ltb, eqb}
 use lib.IntN.{ℤ, pos, _+ℤ_}
 use lib.Signed.{_≤ℤ_, _<ℤ_}
 use Rattle.rules.specs.Lists.{All, Each, keep, sum, sumOf, hourly}
-use Rattle.rules.specs.Units.{Registered, Limit, capacityOf, ceiling, limits, unitOf}
+use Rattle.rules.specs.Units.{Registered, Limit, capacityOf}
 use Rattle.rules.specs.Lodging.{Lodgement, energyAt, isHidden, passedAt}
-use Rattle.rules.specs.Book.{Book, hours}
+use Rattle.rules.specs.Book.{Book, hours, limitsOf, ceilingOf}
 use Rattle.rules.specs.Closing.{Verdict, hidden, limit, isAccepted, judgements, verdictAmong, acceptedAt}
 use Rattle.rules.specs.Share.{share}
 use Rattle.rules.specs.Match.{Offer}
@@ -48,7 +48,7 @@ pub record Passes (b : Book) (l : Lodgement) (h : ℕ) : Type 0 where
   pub first : 1 ≤ h
   pub last : h ≤ hours b
   pub named : 0 < energyAt l h
-  pub over : ceiling (b .capacities) (unitOf (b .units) (l .key .unit)) h < energyWith b l h
+  pub over : ceilingOf b (l .key .unit) h < energyWith b l h
 
 -- "The lowest applicable number is given, and for 10 to 12 the lowest hour in which that limit is passed": of some limits
 -- n is the number of the first that is passed in an hour of 1 to H, and h the lowest such hour
@@ -61,7 +61,7 @@ pub data Chosen (H : ℕ) (passed : Limit → ℕ → Bool) (n h : ℕ) : List L
 -- the limit and hour of a lodgement refused at closing
 abbrev pub ChosenAt : Book → Lodgement → ℕ → ℕ → Type 0
 ChosenAt b l n h =
-    Chosen (hours b) (passedAt (l .energies) (energyWith b l)) n h (limits (b .capacities) (unitOf (b .units) (l .key .unit)))
+    Chosen (hours b) (passedAt (l .energies) (energyWith b l)) n h (limitsOf b (l .key .unit))
 
 -- What closing gives a standing lodgement.
 pub record Judgement (b : Book) (l : Lodgement) : Type 0 where
@@ -134,7 +134,7 @@ pub record Cleared (b : Book) (h : ℕ) : Type 0 where
   -- "Matched sales equal matched purchases"
   pub balanced : matchedOn false (figuresAt b h .offers) ≡ matchedOn true (figuresAt b h .offers)
   -- "and no unit's energy passes its ceiling": "A unit's energy is matched plus executed, after cuts."
-  pub ceilings : (u : ℕ) → matchedAt b u h + executedAt b u h ≤ ceiling (b .capacities) (unitOf (b .units) u) h
+  pub ceilings : (u : ℕ) → matchedAt b u h + executedAt b u h ≤ ceilingOf b u h
   -- no execution gains by the cut
   pub executions : Each CutDown (executionsAt b h) (figuresAt b h .executions)
   -- "Market plus bilateral balance at each border keeps within each published capacity", and what is cut there: at each of

@@ -13,7 +13,7 @@ use Rattle.rules.specs.Lists.{keep, any, sumOf, from, hourly}
 use Rattle.rules.specs.Refusals.{Row, firstRow}
 use Rattle.rules.specs.Units as U
 use Rattle.rules.specs.Lodging as L
-use Rattle.rules.specs.Book.{Book, hours}
+use Rattle.rules.specs.Book.{Book, hours, linesOf, limitsOf}
 use Rattle.rules.specs.Closing as C
 use Rattle.rules.specs.Demands.{turnOf, takenBefore, verdictOf, acceptedBefore, energyWith}
 use Rattle.rules.proofs.BoolLaws.{both}
@@ -97,16 +97,16 @@ module _ (s : Session) (b : Book) (sound : Sound b) (e : s ≡ image b) (vs : Li
       ∙ ap (λ (ls : List L.Lodgement). hourly (l .energies) h + sumOf (λ k. hourly (k .energies) h) ls) accepted-before)
 
   -- the book's verdict, by the limits of its unit
-  verdict-is : verdictAt b i ≡ C.verdictOfRow (firstRow (L.limitRows (hours b) (l .energies) (energyWith b l) (U.limits (b .capacities) (U.unitOf (b .units) (l .key .unit)))))
+  verdict-is : verdictAt b i ≡ C.verdictOfRow (firstRow (L.limitRows (hours b) (l .energies) (energyWith b l) (limitsOf b (l .key .unit))))
   verdict-is = verdict-at b i (stands s b e i h) ∙ all-at i beyond (verdict-with b (sound .ranges .standing .rising)) (stands s b e i h) shown
 
   -- and the code's
   judged-is : (u : Unit) (n : Notice) (own : List ℕ) → u ≡ unitAs (U.unitOf (b .units) (l .key .unit) .unit) → n ≡ noticeAs (U.unitOf (b .units) (l .key .unit) .available) → own ≡ l .energies
       → verdictBy (judgedIn u n (s .capacities) false (s .hours) own (loadIn own marks (take (s .standing) (s .energies)))) ≡ verdictAs (verdictAt b i)
-  unfolding L.judgedBy
+  unfolding L.judgedBy limitsOf
   judged-is u n own eu en eo =
       rw (eo, load-with, ← hours-as s b e, verdict-is)
-      (ap verdictBy (judged-as (U.unitOf (b .units) (l .key .unit)) (b .capacities) (hours b) (l .energies) (energyWith b l) u n (s .capacities) false eu en (capacities-as s b e))
+      (ap verdictBy (judged-as (U.unitOf (b .units) (l .key .unit)) (linesOf b) (hours b) (l .energies) (energyWith b l) u n (s .capacities) false eu en (capacities-as s b e))
       ∙ told-verdict _)
 
 -- The code's ways out

@@ -10,9 +10,9 @@ use lib.ListN.{getD, take, length-map}
 use borrow.Author.Tests.{eqb-true, not-true, lt-ltb, le-ltb}
 use Rattle.rules.specs.Lists.{All, none, more, first}
 use Rattle.rules.specs.Refusals.{Row, row, given, limitRow, firstRow, unless, outcome}
-use Rattle.rules.specs.Units.{limits, maximumLimit}
+use Rattle.rules.specs.Units.{limits, ownLimits, borderLimits, maximumLimit, availableLimit, borderLimit}
 use Rattle.rules.specs.Lodging as L
-use Rattle.rules.specs.Book.{Book}
+use Rattle.rules.specs.Book.{Book, limitsOf}
 use Rattle.rules.specs.Closing as C
 use Rattle.rules.specs.Queries as Q
 use Rattle.rules.specs.Queries.{judged, isStanding}
@@ -47,7 +47,7 @@ rows-numbered (more {x} h t) = by-bool (x .applies) (λ e. rw (e, h)) (λ e. rw 
 
 -- limits are 10, 11 and 12
 judge-numbered : (b : Book) (before : List L.Lodgement) (l : L.Lodgement) → isNumbered (C.judge b before l) ≡ true
-unfolding C.judge L.limitRows limitRow limits maximumLimit
+unfolding C.judge L.limitRows limitRow limitsOf limits ownLimits borderLimits maximumLimit availableLimit borderLimit
 judge-numbered b before l = rows-numbered (more refl (more refl (more refl none)))
 
 each-numbered : (b : Book) (before ls : List L.Lodgement) (n : ℕ) → isNumbered (C.verdictAmong (C.judgeEach b before ls) n) ≡ true
