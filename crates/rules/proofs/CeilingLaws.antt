@@ -38,21 +38,24 @@ unfolding any
 any-at e h [] = refl
 any-at e h (l ∷ ls) = ap (λ t. passes e (l .at h) || t) (any-at e h ls)
 
--- the least of a unit's maximum and some other limits is passed exactly when one of them is
-pub over-least : (r : Registered) (ls : List Limit) (h e : ℕ)
-    → ltb (leastOf (r .unit .maximum) (map (λ l. l .at h) (maximumLimit r ∷ ls))) e ≡ any (λ l. passes e (l .at h)) (maximumLimit r ∷ ls)
-unfolding maximumLimit any passes
-over-least r ls h e =
-    least-passed e (r .unit .maximum) (map (λ l. l .at h) (maximumLimit r ∷ ls))
-    ∙ again (ltb (r .unit .maximum) e) (any (passes e) (map (λ l. l .at h) ls))
-    ∙ ap (λ t. ltb (r .unit .maximum) e || t) (any-at e h ls)
+-- Limits whose least is a ceiling: an energy passes it exactly when it passes one of them.
+abbrev pub Bound : (ℕ → ℕ) → List Limit → Type 0
+Bound top ls = (h e : ℕ) → ltb (top h) e ≡ any (λ l. passes e (l .at h)) ls
+
+-- the least of some limits of which the first applies in every hour, whatever the others are
+pub over-least : (most : ℕ → ℕ) (l : Limit) (ls : List Limit) → ((h : ℕ) → l .at h ≡ some (most h))
+    → Bound (λ h. leastOf (most h) (map (λ k. k .at h) (l ∷ ls))) (l ∷ ls)
+unfolding any passes
+over-least most l ls applies h e =
+    least-passed e (most h) (map (λ k. k .at h) (l ∷ ls))
+    ∙ rw (applies h) (again (ltb (most h) e) (any (passes e) (map (λ k. k .at h) ls)) ∙ ap (λ t. ltb (most h) e || t) (any-at e h ls))
 
 -- an energy passes the ceiling exactly when it passes one of the limits
-pub over-limits : (ls : Lines) (r : Registered) (h e : ℕ) → ltb (ceiling ls r h) e ≡ any (λ l. passes e (l .at h)) (limits ls r)
-unfolding ceiling limits ownLimits
-over-limits ls r h e = over-least r (availableLimit r ∷ borderLimits ls r) h e
+pub over-limits : (ls : Lines) (r : Registered) → Bound (ceiling ls r) (limits ls r)
+unfolding ceiling limits ownLimits maximumLimit
+over-limits ls r = over-least (λ h. r .unit .maximum) (maximumLimit r) (availableLimit r ∷ borderLimits ls r) (λ h. refl)
 
 -- by the book
-pub over-ceiling : (b : Book) (u h e : ℕ) → ltb (ceilingOf b u h) e ≡ any (λ l. passes e (l .at h)) (limitsOf b u)
+pub over-ceiling : (b : Book) (u : ℕ) → Bound (ceilingOf b u) (limitsOf b u)
 unfolding ceilingOf limitsOf
-over-ceiling b u h e = over-limits (linesOf b) (unitOf (b .units) u) h e
+over-ceiling b u = over-limits (linesOf b) (unitOf (b .units) u)

@@ -13,12 +13,13 @@ use borrow.Author.Tests.{ltb-true, ltb-false, lt-ltb, le-ltb, leb-true, leb-fals
 use Rattle.rules.specs.Lists.{empty, ahead}
 use Rattle.rules.specs.Lodging as L
 use Rattle.rules.specs.Book.{Book}
+use Rattle.rules.specs.Judging.{isBefore}
 use Rattle.rules.specs.Closing as C
 use Rattle.rules.specs.Sound as R
 use Rattle.rules.specs.Demands.{turnOf, takenBefore, verdictOf}
 use Rattle.rules.proofs.BoolLaws.{by-bool, both}
 use Rattle.rules.proofs.ListLaws.{all-at}
-use Rattle.rules.proofs.ClosingLaws.{closing-exactly}
+use Rattle.rules.proofs.ClosingLaws.{turn-is, closing-exactly}
 use Rattle.session.specs.Laid.{pad}
 use Rattle.session.specs.Image.{verdictAs, noVerdict}
 use Rattle.session.specs.declared.Verdict.{Verdict}
@@ -64,7 +65,7 @@ module _ (b : Book) where
   -- "normal executions, default executions, offers; within each, latest number first": what is passed before a place of a turn
   pub passed-before : R.Numbered (b .standing) → (turn i j : ℕ) → i < length (b .standing) → j < length (b .standing) → turnOf (standingAt b i) ≡ turn
       → hasPassed turn (i + 1) j (standingAt b j) ≡ takenBefore (standingAt b j) (standingAt b i)
-  unfolding hasPassed takenBefore
+  unfolding hasPassed takenBefore isBefore turnOf
   passed-before n turn i j h k e = rw (← e, later-places n i j h k)
 
   -- Verdicts by place
@@ -180,8 +181,8 @@ module _ (b : Book) where
 
   -- all are passed after the third
   all-passed : (j : ℕ) (l : L.Lodgement) → hasPassed 2 0 j l ≡ true
-  unfolding hasPassed turnOf
-  all-passed j l = rw (le-leb 0 j (omega arith)) (by-bool (l .key .execution) (λ e. rw e (by-bool (l .key .default) (λ d. rw d) (λ d. rw d))) (λ e. rw e))
+  unfolding hasPassed
+  all-passed j l = rw (le-leb 0 j (omega arith), turn-is l) (by-bool (l .key .execution) (λ e. rw e (by-bool (l .key .default) (λ d. rw d) (λ d. rw d))) (λ e. rw e))
 
   last-verdict : (j : ℕ) → verdictSoFar b 2 0 j ≡ verdictAs (verdictAt b j)
   unfolding verdictSoFar

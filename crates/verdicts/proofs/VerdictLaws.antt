@@ -13,6 +13,7 @@ use Rattle.rules.specs.Refusals.{Row, row, given, limitRow, firstRow, unless, o
 use Rattle.rules.specs.Units.{limits, ownLimits, borderLimits, maximumLimit, availableLimit, borderLimit}
 use Rattle.rules.specs.Lodging as L
 use Rattle.rules.specs.Book.{Book, limitsOf}
+use Rattle.rules.specs.Judging.{judgeEach}
 use Rattle.rules.specs.Closing as C
 use Rattle.rules.specs.Queries as Q
 use Rattle.rules.specs.Queries.{judged, isStanding}
@@ -50,16 +51,17 @@ judge-numbered : (b : Book) (before : List L.Lodgement) (l : L.Lodgement) → is
 unfolding C.judge L.limitRows limitRow limitsOf limits ownLimits borderLimits maximumLimit availableLimit borderLimit
 judge-numbered b before l = rows-numbered (more refl (more refl (more refl none)))
 
-each-numbered : (b : Book) (before ls : List L.Lodgement) (n : ℕ) → isNumbered (C.verdictAmong (C.judgeEach b before ls) n) ≡ true
-unfolding C.verdictAmong C.judgeEach isNumbered
-each-numbered b before [] n = refl
-each-numbered b before (l ∷ ls) n =
-    by-bool (eqb (l .number) n) (λ t. rw t (judge-numbered b before l))
-    (λ t. rw t (each-numbered b (cond (C.isAccepted (C.judge b before l)) (l ∷ before) before) ls n))
+each-numbered : {A : Type 0} (number : A → ℕ) (judge : List A → A → C.Verdict) → ((before : List A) (x : A) → isNumbered (judge before x) ≡ true)
+    → (before xs : List A) (n : ℕ) → isNumbered (C.verdictAmong (judgeEach number judge before xs) n) ≡ true
+unfolding C.verdictAmong judgeEach isNumbered
+each-numbered number judge f before [] n = refl
+each-numbered number judge f before (x ∷ xs) n =
+    by-bool (eqb (number x) n) (λ t. rw t (f before x))
+    (λ t. rw t (each-numbered number judge f (cond (C.isAccepted (judge before x)) (x ∷ before) before) xs n))
 
 pub among-numbered : (b : Book) (n : ℕ) → isNumbered (C.verdictAmong (C.judgements b) n) ≡ true
 unfolding C.judgements
-among-numbered b n = each-numbered b [] (C.closingOrder (b .standing)) n
+among-numbered b n = each-numbered (λ (l : L.Lodgement). l .number) (C.judge b) (judge-numbered b) [] (C.closingOrder (b .standing)) n
 
 -- so a verdict is told as it is
 pub told-as : (v : C.Verdict) → isNumbered v ≡ true → replyIn (toldAs (verdictAs v)) ≡ given (judged v)
