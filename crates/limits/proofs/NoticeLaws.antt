@@ -6,7 +6,7 @@ use mathlib.Core.List.{List, [], _∷_, map}
 use mathlib.Core.Option.{Option, some, none}
 use lib.Dec.{eqb}
 use lib.ListN.{length, List·getD-map}
-use Rattle.rules.specs.Lists.{hourly}
+use Rattle.rules.specs.Lists.{Each, each0, each, hourly}
 use Rattle.rules.specs.Refusals.{Row, limitRow, firstRow}
 use Rattle.rules.specs.Units.{Limit, Registered, Capacities, Lines, Published, direction, capacityOf, bothAt, availableAt, borderSum, maximumLimit, availableLimit, ownLimits, borderLimit, borderLimits, limits}
 use Rattle.rules.specs.Lodging.{passedAt, judgedBy, limitRows}
@@ -73,17 +73,24 @@ module _ (r : Registered) (ls : Lines) where
   border-as b h = rw (direction-as b true, direction-as b false, both-as h (capacityOf cs b true) (capacityOf cs b false))
 
   module _ (H : ℕ) (own : List ℕ) (load : ℕ → ℕ) where
+    abbrev Same : Limit → Limit → Type 0
+    Same l m = (l .number ≡ m .number) × ((h : ℕ) → l .at h ≡ m .at h)
+
     row-same : (l m : Limit) → l .number ≡ m .number → ((h : ℕ) → l .at h ≡ m .at h) → limitRow (l .number) H (passedAt own load l) ≡ limitRow (m .number) H (passedAt own load m)
     unfolding limitRow
     row-same l m e f = ap₂ (λ (n h : ℕ). record { number = n; hour = h; applies = not (eqb h 0) }) e (limit-same H own load l m (λ h x y. f h))
 
+    -- limits that are the same one by one have the same rows
+    rows-same : {ls ms : List Limit} → Each Same ls ms → limitRows H own load ls ≡ limitRows H own load ms
+    unfolding limitRows
+    rows-same each0 = refl
+    rows-same (each {x = l} {y = m} e t) = ap₂ (λ (x : Row) (rows : List Row). x ∷ rows) (row-same l m (e .0) (e .1)) (rows-same t)
+
     rows-as : (only : Bool) → limitRows H own load (judgedBy (linesIn (map noticeAs cs)) here only) ≡ limitRows H own load (judgedBy ls r only)
-    unfolding limitRows judgedBy limits ownLimits borderLimits maximumLimit availableLimit borderLimit
+    unfolding judgedBy limits ownLimits borderLimits maximumLimit availableLimit borderLimit
     rows-as true = refl
     rows-as false =
-        ap₂ (λ (x y : Row). limitRow 10 H (passedAt own load (maximumLimit r)) ∷ x ∷ y ∷ [])
-        (row-same (availableLimit here) (availableLimit r) refl (λ h. ap some (available-as h)))
-        (row-same (borderLimit (linesIn (map noticeAs cs)) here) (borderLimit ls r) refl (λ h. border-as (r .unit .border) h))
+        rows-same (each (refl, λ h. refl) (each (refl, λ h. ap some (available-as h)) (each (refl, λ h. border-as (r .unit .border) h) each0)))
 
     pub judged-as : (u : Unit) (n : Notice) (ns : List Notice) (only : Bool) → u ≡ unitAs (r .unit) → n ≡ noticeAs (r .available) → ns ≡ map noticeAs cs
         → judgedIn u n ns only H own load ≡ told (firstRow (limitRows H own load (judgedBy ls r only)))

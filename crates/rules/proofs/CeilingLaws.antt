@@ -3,13 +3,13 @@ use Prim.Native.Nat.{ℕ, min}
 use mathlib.Core.Path.{_≡_, refl, ap, sym, _∙_}
 use mathlib.Core.Bool.{Bool, true, false, _||_, or-assoc}
 use mathlib.Core.List.{List, [], _∷_, map}
-use mathlib.Core.Option.{Option, some, none}
-use lib.Dec.{ltb}
+use mathlib.Core.Option.{Option, some, none as nothing}
+use lib.Dec.{ltb, eqb}
 use native.Mathlib.Nat.{min-le-left, min-le-right, le-min}
 use native.Mathlib.Omega.{arith}
 use borrow.Author.Tests.{lt-ltb, le-ltb, ltb-true, ltb-false}
-use Rattle.rules.specs.Lists.{any}
-use Rattle.rules.specs.Units.{Registered, Lines, Limit, maximumLimit, availableLimit, ownLimits, borderLimits, limits, passes, leastOf, ceiling, unitOf}
+use Rattle.rules.specs.Lists.{All, none, more, any}
+use Rattle.rules.specs.Units.{Registered, Lines, Limit, maximumLimit, availableLimit, ownLimits, borderLimit, borderLimits, limits, passes, leastOf, ceiling, unitOf}
 use Rattle.rules.specs.Book.{Book, linesOf, limitsOf, ceilingOf}
 use Rattle.rules.proofs.BoolLaws.{by-bool}
 
@@ -25,7 +25,7 @@ ltb-min a b e =
 least-passed : (e n : ℕ) (ls : List (Option ℕ)) → ltb (leastOf n ls) e ≡ (any (passes e) ls || ltb n e)
 unfolding leastOf any passes
 least-passed e n [] = refl
-least-passed e n (none ∷ ls) = least-passed e n ls
+least-passed e n (nothing ∷ ls) = least-passed e n ls
 least-passed e n (some l ∷ ls) = ltb-min l (leastOf n ls) e ∙ rw (least-passed e n ls) (sym (or-assoc (ltb l e) (any (passes e) ls) (ltb n e)))
 
 again : (a b : Bool) → (a || b || a) ≡ (a || b)
@@ -54,6 +54,11 @@ over-least most l ls applies h e =
 pub over-limits : (ls : Lines) (r : Registered) → Bound (ceiling ls r) (limits ls r)
 unfolding ceiling limits ownLimits maximumLimit
 over-limits ls r = over-least (λ h. r .unit .maximum) (maximumLimit r) (availableLimit r ∷ borderLimits ls r) (λ h. refl)
+
+-- each has a number of the table
+pub limits-numbered : (ls : Lines) (r : Registered) → All (λ l. eqb (l .number) 0 ≡ false) (limits ls r)
+unfolding limits ownLimits borderLimits maximumLimit availableLimit borderLimit
+limits-numbered ls r = more refl (more refl (more refl none))
 
 -- by the book
 pub over-ceiling : (b : Book) (u : ℕ) → Bound (ceilingOf b u) (limitsOf b u)

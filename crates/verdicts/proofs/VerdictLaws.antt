@@ -10,15 +10,16 @@ use lib.ListN.{getD, take, length-map}
 use borrow.Author.Tests.{eqb-true, not-true, lt-ltb, le-ltb}
 use Rattle.rules.specs.Lists.{All, none, more, first}
 use Rattle.rules.specs.Refusals.{Row, row, given, limitRow, firstRow, unless, outcome}
-use Rattle.rules.specs.Units.{limits, ownLimits, borderLimits, maximumLimit, availableLimit, borderLimit}
+use Rattle.rules.specs.Units.{unitOf}
 use Rattle.rules.specs.Lodging as L
-use Rattle.rules.specs.Book.{Book, limitsOf}
+use Rattle.rules.specs.Book.{Book, linesOf, limitsOf}
 use Rattle.rules.specs.Judging.{judgeEach}
 use Rattle.rules.specs.Closing as C
 use Rattle.rules.specs.Queries as Q
 use Rattle.rules.specs.Queries.{judged, isStanding}
 use Rattle.rules.proofs.BoolLaws.{by-bool, of-not}
-use Rattle.rules.proofs.ListLaws.{first-passes}
+use Rattle.rules.proofs.ListLaws.{first-passes, all-mapped}
+use Rattle.rules.proofs.CeilingLaws.{limits-numbered}
 use Rattle.session.specs.Bare.{bareVerdict}
 use Rattle.session.specs.Laid.{pad}
 use Rattle.session.specs.Image.{image, verdictsIn, verdictAs, noVerdict, lodgementAs}
@@ -46,10 +47,10 @@ unfolding C.verdictOfRow firstRow isNumbered
 rows-numbered none = refl
 rows-numbered (more {x} h t) = by-bool (x .applies) (λ e. rw (e, h)) (λ e. rw e (rows-numbered t))
 
--- limits are 10, 11 and 12
+-- limits have numbers of the table
 judge-numbered : (b : Book) (before : List L.Lodgement) (l : L.Lodgement) → isNumbered (C.judge b before l) ≡ true
-unfolding C.judge L.limitRows limitRow limitsOf limits ownLimits borderLimits maximumLimit availableLimit borderLimit
-judge-numbered b before l = rows-numbered (more refl (more refl (more refl none)))
+unfolding C.judge L.limitRows limitRow limitsOf
+judge-numbered b before l = rows-numbered (all-mapped _ (limits-numbered (linesOf b) (unitOf (b .units) (l .key .unit))))
 
 each-numbered : {A : Type 0} (number : A → ℕ) (judge : List A → A → C.Verdict) → ((before : List A) (x : A) → isNumbered (judge before x) ≡ true)
     → (before xs : List A) (n : ℕ) → isNumbered (C.verdictAmong (judgeEach number judge before xs) n) ≡ true
