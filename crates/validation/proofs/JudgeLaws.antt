@@ -8,7 +8,7 @@ use native.Mathlib.Omega.{arith}
 use lib.Dec.{eqb}
 use lib.ListN.{length, getD, take, length-map, length-take}
 use lib.Seq.{ext-getD, getD-take}
-use borrow.Author.Tests.{eqb-true, not-true}
+use borrow.Author.Tests.{not-true}
 use Rattle.rules.specs.Lists.{keep, any, sumOf, from, hourly}
 use Rattle.rules.specs.Refusals.{Row, firstRow}
 use Rattle.rules.specs.Units as U
@@ -36,9 +36,9 @@ use Rattle.limits.specs.Limits.{judgedIn}
 use Rattle.limits.proofs.NoticeLaws.{judged-as}
 use Rattle.loads.proofs.MarkLaws.{load-keep}
 use Rattle.limits.proofs.PlaceLaws.{judged-places, judged-same}
-use Rattle.validation.specs.Turns.{beyond, standingAt, verdictAt, isTaken, verdictSoFar, Reached, Loaded, JudgesAt, countsOn, countsAt, verdictBy}
+use Rattle.validation.specs.Turns.{beyond, standingAt, verdictAt, turnAt, isTaken, verdictSoFar, Reached, Loaded, JudgesAt, countsOn, countsAt, verdictBy}
 use Rattle.validation.proofs.CountLaws.{length-from, places-at, counted-as}
-use Rattle.validation.proofs.TurnLaws.{passed-before, verdict-at}
+use Rattle.validation.proofs.TurnLaws.{closing-before, taken-turn, verdict-at}
 use Rattle.validation.proofs.StandingLaws.{stands, lodgement-at, energies-at, loaded-at}
 
 -- a judgement by the limits, as a verdict
@@ -52,9 +52,8 @@ module _ (s : Session) (b : Book) (sound : Sound b) (e : s ≡ image b) (vs : Li
   abbrev l : L.Lodgement
   l = standingAt b i
 
-  of-turn : turnOf l ≡ turn
-  unfolding isTaken
-  of-turn = eqb-true _ _ (both (eqb (turnOf l) turn) (not (L.isHidden (b .standing) l)) t .0)
+  of-turn : turnAt b i ≡ turn
+  of-turn = taken-turn b turn i t
 
   shown : L.isHidden (b .standing) l ≡ false
   unfolding isTaken
@@ -67,7 +66,7 @@ module _ (s : Session) (b : Book) (sound : Sound b) (e : s ≡ image b) (vs : Li
   counts-before : (j : ℕ) → j < length (b .standing) → countsAt (l .key .unit) vs (s .lodgements) j ≡ before (standingAt b j)
   unfolding countsAt countsOn verdictSoFar
   counts-before j k =
-      rw (r .at j, lodgement-at s b e j (omega (arith, standing-as s b e)) noLodgement, passed-before b (sound .ranges .standing .rising) turn i j (stands s b e i h) k of-turn, verdict-at b j k)
+      rw (r .at j, lodgement-at s b e j (omega (arith, standing-as s b e)) noLodgement, closing-before b (sound .ranges .standing .rising) turn i j (stands s b e i h) k of-turn, verdict-at b j k)
       (counted-as (takenBefore (standingAt b j) l) (verdictOf b (standingAt b j)) (eqb (standingAt b j .key .unit) (l .key .unit)))
 
   -- the marks of those that are counted
