@@ -11,7 +11,7 @@ use Rattle.rules.specs.Refusals.{row, firstRow}
 use Rattle.rules.specs.Units as U
 use Rattle.rules.specs.Message.{badMap, badFields}
 use Rattle.rules.specs.Lodging as L
-use Rattle.rules.specs.Book.{Book}
+use Rattle.rules.specs.Book.{Book, linesOf}
 use Rattle.rules.specs.DayBook as D
 use Rattle.rules.proofs.BoolLaws.{by-bool, neither}
 use Rattle.message.specs.View.{fieldsIn}
@@ -116,9 +116,9 @@ module _ (s : Session) (m : Fields) where
       let registered = U.unitOf (b .units) (m .unit) in
       let p = holder .at in
       t
-      ∙ (judged-by registered (b .capacities) (s .hours) (m .energies) (loadIn (m .energies) (marksFor s m) (take (s .standing) (s .energies))) _ _ _ (m .default) (L.judgedAt (b .standing) (fieldsIn m))
+      ∙ (judged-by registered (linesOf b) (s .hours) (m .energies) (loadIn (m .energies) (marksFor s m) (take (s .standing) (s .energies))) _ _ _ (m .default) (L.judgedAt (b .standing) (fieldsIn m))
       (held .unit in-list ∙ unit-as s b e (m .unit) p (held .place) in-list noUnit) (noticed ∙ notice-as s b e (m .unit) p (held .place) in-list bareNotice) (capacities-as s b e) (λ h low high. load-as s b e m h)
-      ∙ ap (λ H. judgement (firstRow (L.limitRows H (m .energies) (L.judgedAt (b .standing) (fieldsIn m)) (L.judgedBy (b .capacities) registered (m .default))))) (sym (hours-as s b e)))
+      ∙ ap (λ H. judgement (firstRow (L.limitRows H (m .energies) (L.judgedAt (b .standing) (fieldsIn m)) (L.judgedBy (linesOf b) registered (m .default))))) (sym (hours-as s b e)))
 
 -- Rows 4, 5, 6, 9 and the limits
 

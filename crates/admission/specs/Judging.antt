@@ -9,7 +9,7 @@ use Rattle.rules.specs.Refusals.{Row, row, firstRow}
 use Rattle.rules.specs.Units as U
 use Rattle.rules.specs.Message.{Fields, badMap, badFields}
 use Rattle.rules.specs.Lodging.{keyOf, judgedAt, judgedBy, limitRows, namesBeyond}
-use Rattle.rules.specs.Book.{Book, hours}
+use Rattle.rules.specs.Book.{Book, hours, linesOf}
 use Rattle.rules.specs.DayBook.{badHolder, full}
 use Rattle.session.specs.Image.{image}
 use Rattle.session.specs.Parts.{Within, judgement}
@@ -36,7 +36,7 @@ fullAt n last p = (leb 128 n && leb n p) || leb 65535 last
 
 -- limits 10 to 12
 unfoldable pub lastRows : Book → Fields → List Row
-lastRows b m = limitRows (hours b) (m .energies) (judgedAt (b .standing) m) (judgedBy (b .capacities) (U.unitOf (b .units) (m .unit)) (m .default))
+lastRows b m = limitRows (hours b) (m .energies) (judgedAt (b .standing) m) (judgedBy (linesOf b) (U.unitOf (b .units) (m .unit)) (m .default))
 
 -- the table's rows after 3
 unfoldable pub fieldRows : Book → Fields → List Row

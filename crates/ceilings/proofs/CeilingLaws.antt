@@ -9,14 +9,14 @@ use lib.Dec.{ltb}
 use lib.ListN.{length, getD}
 use borrow.Author.Tests.{ltb-true, ltb-false}
 use Rattle.rules.specs.Lists.{hourly}
-use Rattle.rules.specs.Units.{availableAt, borderSum, maximumLimit, limits, leastOf, ceiling}
+use Rattle.rules.specs.Units.{availableAt, borderSum, maximumLimit, availableLimit, ownLimits, borderLimit, borderLimits, limits, leastOf, ceiling}
 use Rattle.rules.proofs.BoolLaws.{by-bool}
 use Rattle.rules.proofs.ListLaws.{hourly-suc}
 use Rattle.session.specs.Bare.{bareNotice}
 use Rattle.session.specs.Image.{noUnit}
 use Rattle.session.specs.declared.Unit.{Unit}
 use Rattle.session.specs.declared.Notice.{Notice}
-use Rattle.limits.specs.Limits.{noticeIn, registeredIn, borderAt}
+use Rattle.limits.specs.Limits.{noticeIn, registeredIn, linesIn, borderAt}
 use Rattle.limits.specs.declared.BorderLimit.{BorderLimit}
 use Rattle.limits.proofs.BorderLaws.{off-domestic, off-borders}
 use Rattle.ceilings.specs.Ceilings.{most, lineBy, lineIn, lineOf, lineAt, lineRow, ceilingBy, ceilingIn, ceilingAt}
@@ -58,8 +58,8 @@ available-at true es m h = hourly-suc es h
 available-at false es m h = refl
 
 pub ceiling-as : (u : Unit) (n : Notice) (cs : List Notice) (lines : List ℕ) (h : ℕ) → u .maximum ≤ most → length cs ≡ 8
-    → getD lines (lineRow (u .border) * 25 + h) 0 ≡ lineAt cs (lineRow (u .border)) h → ceilingIn u n lines h ≡ ceiling (map noticeIn cs) (registeredIn u n) (suc h)
-unfolding ceilingIn lineAt ceiling limits maximumLimit availableAt noticeIn leastOf
+    → getD lines (lineRow (u .border) * 25 + h) 0 ≡ lineAt cs (lineRow (u .border)) h → ceilingIn u n lines h ≡ ceiling (linesIn cs) (registeredIn u n) (suc h)
+unfolding ceilingIn lineAt ceiling limits ownLimits borderLimits maximumLimit availableLimit borderLimit availableAt noticeIn leastOf
 ceiling-as u n cs lines h m l e =
     rw (e ∙ row-as cs (u .border) h l)
     (ceiling-by (n .given) (u .maximum) (getD (n .energies) h 0) (borderSum (map noticeIn cs) (u .border) (suc h)) m

@@ -11,7 +11,7 @@ use Rattle.session.specs.Bare.{bareNotice}
 use Rattle.session.specs.Image.{noUnit}
 use Rattle.session.specs.declared.Unit.{Unit}
 use Rattle.session.specs.declared.Notice.{Notice}
-use Rattle.limits.specs.Limits.{noticeIn, registeredIn}
+use Rattle.limits.specs.Limits.{noticeIn, registeredIn, linesIn}
 use Rattle.limits.specs.declared.BorderLimit.{BorderLimit}
 
 -- as much as a maximum can be
@@ -45,7 +45,7 @@ ceilingIn u n lines h = ceilingBy (u .maximum) (n .given) (getD (n .energies) h 
 
 -- that of the unit at a place, by the rules, the hours counted from 0
 unfoldable pub ceilingAt : List Unit → List Notice → List Notice → ℕ → ℕ → ℕ
-ceilingAt us ns cs p h = ceiling (map noticeIn cs) (registeredIn (getD us p noUnit) (getD ns p bareNotice)) (suc h)
+ceilingAt us ns cs p h = ceiling (linesIn cs) (registeredIn (getD us p noUnit) (getD ns p bareNotice)) (suc h)
 
 -- the first n numbers of a row are these, and all others as before
 pub record RowAt (l : ℕ) (g : ℕ → ℕ) (n : ℕ) (before after : List ℕ) : Type 0 where

@@ -7,7 +7,7 @@ use lib.IntN.{ℤ, _+ℤ_}
 use Rattle.rules.specs.Lists.{All, Some, keep, sumOf, hourly}
 use Rattle.rules.specs.Units.{Registered, ceiling, isRegistered, hasNumber, badNumber}
 use Rattle.rules.specs.Lodging.{Lodgement}
-use Rattle.rules.specs.Book.{Book, hours}
+use Rattle.rules.specs.Book.{Book, hours, linesOf, ceilingOf}
 use Rattle.rules.specs.Closing as C
 use Rattle.rules.specs.Borders.{Directed, toward, marketBalance, executionBalance}
 use Rattle.rules.specs.Clearing.{figuresAt}
@@ -82,9 +82,10 @@ module _ (b : Book) (s : R.Sound b) (response : Q.Query → Response) (told : (q
     both-as : All (λ r. (matchedOf b response h r ≡ Q.matchedAt b (r .unit .number) h) × (executedOf b response h r ≡ Q.executedAt b (r .unit .number) h)) (b .units)
     both-as = all-both (λ r x y. (x, y)) matched-as executed-as
 
-    ceilings-all : All (λ r. matchedOf b response h r + executedOf b response h r ≤ ceiling (b .capacities) r h) (b .units)
+    ceilings-all : All (λ r. matchedOf b response h r + executedOf b response h r ≤ ceiling (linesOf b) r h) (b .units)
+    unfolding ceilingOf
     ceilings-all =
-        all-both (λ r p e. omega (arith, p .0, p .1, ap (λ (x : Registered). ceiling (b .capacities) x h) e, hour .ceilings (r .unit .number)))
+        all-both (λ r p e. omega (arith, p .0, p .1, ap (λ (x : Registered). ceiling (linesOf b) x h) e, hour .ceilings (r .unit .number)))
         both-as (all-entries (s .units .distinct))
 
     module _ (border : ℕ) (export : Bool) (capacity : ℕ) (first : 1 ≤ border) (last : border ≤ 4) where

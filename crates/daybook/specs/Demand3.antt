@@ -13,7 +13,7 @@ use Rattle.rules.specs.Lists.{All, Some, keep, sumOf, hourly}
 use Rattle.rules.specs.Hours.{Date}
 use Rattle.rules.specs.Units.{Registered, capacityOf, ceiling}
 use Rattle.rules.specs.Lodging.{Lodgement, isHidden}
-use Rattle.rules.specs.Book.{Book, hours}
+use Rattle.rules.specs.Book.{Book, hours, linesOf}
 use Rattle.rules.specs.Borders.{positive, toward, executionBalance}
 use Rattle.rules.specs.Queries as Q
 use Rattle.rules.specs.DayBook as D
@@ -90,7 +90,7 @@ module _ (b : Book) (response : Q.Query → Response) where
       -- "Matched sales equal matched purchases"
       pub balanced : sumOf matchedOf (keep (λ r. Bool·beq (r .unit .purchase) false) (b .units)) ≡ sumOf matchedOf (keep (λ r. Bool·beq (r .unit .purchase) true) (b .units))
       -- "and no unit's energy passes its ceiling": "matched plus executed, after cuts"
-      pub ceilings : All (λ r. matchedOf r + executedOf r ≤ ceiling (b .capacities) r h) (b .units)
+      pub ceilings : All (λ r. matchedOf r + executedOf r ≤ ceiling (linesOf b) r h) (b .units)
       -- the borders, for each direction given energies es by the last notice
       pub borders : (border : ℕ) (export : Bool) (es : List ℕ) → 1 ≤ border → border ≤ 4 → capacityOf (b .capacities) border export ≡ some es
           → Carried border export (hourly es h)

@@ -6,9 +6,9 @@ use mathlib.Core.List.{List, [], _∷_, map}
 use mathlib.Core.Option.{Option, some, none}
 use lib.Dec.{eqb}
 use lib.ListN.{length, List·getD-map}
-use Rattle.rules.specs.Lists.{hourly}
+use Rattle.rules.specs.Lists.{Each, each0, each, hourly}
 use Rattle.rules.specs.Refusals.{Row, limitRow, firstRow}
-use Rattle.rules.specs.Units.{Limit, Registered, Capacities, Published, direction, capacityOf, bothAt, availableAt, borderSum, maximumLimit, limits}
+use Rattle.rules.specs.Units.{Limit, Registered, Capacities, Lines, Published, direction, capacityOf, bothAt, availableAt, borderSum, maximumLimit, availableLimit, ownLimits, borderLimit, borderLimits, limits}
 use Rattle.rules.specs.Lodging.{passedAt, judgedBy, limitRows}
 use Rattle.rules.proofs.ListLaws.{getD-pad}
 use Rattle.session.specs.Laid.{pad}
@@ -16,7 +16,7 @@ use Rattle.session.specs.Image.{unitAs, noticeAs}
 use Rattle.session.specs.Parts.{judgement}
 use Rattle.session.specs.declared.Unit.{Unit}
 use Rattle.session.specs.declared.Notice.{Notice}
-use Rattle.limits.specs.Limits.{noticeIn, registeredIn, judgedIn}
+use Rattle.limits.specs.Limits.{noticeIn, registeredIn, linesIn, judgedIn}
 use Rattle.limits.proofs.RowLaws.{lowest-same, limit-same}
 
 -- zeros behind change no hour
@@ -46,7 +46,10 @@ rows-own H own like load e (l ∷ ls) =
     ap₂ (λ (h : ℕ) (rs : List Row). record { number = l .number; hour = h; applies = not (eqb h 0) } ∷ rs)
     (lowest-same (passedAt own load l) (passedAt like load l) H (λ h a b. rw (e h a b))) (rows-own H own like load e ls)
 
-module _ (r : Registered) (cs : Capacities) where
+module _ (r : Registered) (ls : Lines) where
+  abbrev cs : Capacities
+  cs = ls .capacities
+
   abbrev here : Registered
   here = registeredIn (unitAs (r .unit)) (noticeAs (r .available))
 
@@ -70,24 +73,31 @@ module _ (r : Registered) (cs : Capacities) where
   border-as b h = rw (direction-as b true, direction-as b false, both-as h (capacityOf cs b true) (capacityOf cs b false))
 
   module _ (H : ℕ) (own : List ℕ) (load : ℕ → ℕ) where
+    abbrev Same : Limit → Limit → Type 0
+    Same l m = (l .number ≡ m .number) × ((h : ℕ) → l .at h ≡ m .at h)
+
     row-same : (l m : Limit) → l .number ≡ m .number → ((h : ℕ) → l .at h ≡ m .at h) → limitRow (l .number) H (passedAt own load l) ≡ limitRow (m .number) H (passedAt own load m)
     unfolding limitRow
     row-same l m e f = ap₂ (λ (n h : ℕ). record { number = n; hour = h; applies = not (eqb h 0) }) e (limit-same H own load l m (λ h x y. f h))
 
-    rows-as : (only : Bool) → limitRows H own load (judgedBy around here only) ≡ limitRows H own load (judgedBy cs r only)
-    unfolding limitRows judgedBy limits maximumLimit
+    -- limits that are the same one by one have the same rows
+    rows-same : {ls ms : List Limit} → Each Same ls ms → limitRows H own load ls ≡ limitRows H own load ms
+    unfolding limitRows
+    rows-same each0 = refl
+    rows-same (each {x = l} {y = m} e t) = ap₂ (λ (x : Row) (rows : List Row). x ∷ rows) (row-same l m (e .0) (e .1)) (rows-same t)
+
+    rows-as : (only : Bool) → limitRows H own load (judgedBy (linesIn (map noticeAs cs)) here only) ≡ limitRows H own load (judgedBy ls r only)
+    unfolding judgedBy limits ownLimits borderLimits maximumLimit availableLimit borderLimit
     rows-as true = refl
     rows-as false =
-        ap₂ (λ (x y : Row). limitRow 10 H (passedAt own load (maximumLimit r)) ∷ x ∷ y ∷ [])
-        (row-same (record { number = 11; at = λ h. some (availableAt here h) }) (record { number = 11; at = λ h. some (availableAt r h) }) refl (λ h. ap some (available-as h)))
-        (row-same (record { number = 12; at = λ h. borderSum around (r .unit .border) h }) (record { number = 12; at = λ h. borderSum cs (r .unit .border) h }) refl (λ h. border-as (r .unit .border) h))
+        rows-same (each (refl, λ h. refl) (each (refl, λ h. ap some (available-as h)) (each (refl, λ h. border-as (r .unit .border) h) each0)))
 
     pub judged-as : (u : Unit) (n : Notice) (ns : List Notice) (only : Bool) → u ≡ unitAs (r .unit) → n ≡ noticeAs (r .available) → ns ≡ map noticeAs cs
-        → judgedIn u n ns only H own load ≡ judgement (firstRow (limitRows H own load (judgedBy cs r only)))
+        → judgedIn u n ns only H own load ≡ judgement (firstRow (limitRows H own load (judgedBy ls r only)))
     unfolding judgedIn
     judged-as u n ns only e f g = rw (e, f, g) (ap (λ rows. judgement (firstRow rows)) (rows-as only))
 
     -- and by a load that is the same in every hour
     pub judged-by : (u : Unit) (n : Notice) (ns : List Notice) (only : Bool) (f : ℕ → ℕ) → u ≡ unitAs (r .unit) → n ≡ noticeAs (r .available) → ns ≡ map noticeAs cs
-        → ((h : ℕ) → 1 ≤ h → h ≤ H → load h ≡ f h) → judgedIn u n ns only H own load ≡ judgement (firstRow (limitRows H own f (judgedBy cs r only)))
-    judged-by u n ns only f e k g same = judged-as u n ns only e k g ∙ ap (λ rows. judgement (firstRow rows)) (rows-load H own load f same (judgedBy cs r only))
+        → ((h : ℕ) → 1 ≤ h → h ≤ H → load h ≡ f h) → judgedIn u n ns only H own load ≡ judgement (firstRow (limitRows H own f (judgedBy ls r only)))
+    judged-by u n ns only f e k g same = judged-as u n ns only e k g ∙ ap (λ rows. judgement (firstRow rows)) (rows-load H own load f same (judgedBy ls r only))

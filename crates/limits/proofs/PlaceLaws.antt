@@ -2,7 +2,7 @@
 use Prim.Native.Nat.{ℕ, zero, suc, _+_, _-_, _*_, _≤_, _<_}
 use mathlib.Core.Path.{_≡_, refl, ap, sym, subst, _∙_}
 use mathlib.Core.Bool.{Bool, true, false}
-use mathlib.Core.List.{List, [], _∷_, map}
+use mathlib.Core.List.{List, [], _∷_}
 use native.Mathlib.Omega.{arith}
 use lib.ListN.{length, getD, take}
 use lib.Seq.{getD-take, length-take-le}
@@ -16,7 +16,7 @@ use Rattle.session.specs.declared.Energies.{Energies}
 use Rattle.session.specs.declared.Unit.{Unit}
 use Rattle.session.specs.declared.Notice.{Notice}
 use Rattle.loads.specs.Loads.{marked, PlacesOf, energyIn, loadIn, RowAt, LoadsOf, RowsAt, energyAtPlace, loadBy}
-use Rattle.limits.specs.Limits.{noticeIn, registeredIn, judgedIn}
+use Rattle.limits.specs.Limits.{registeredIn, linesIn, judgedIn}
 use Rattle.limits.proofs.NoticeLaws.{rows-load, rows-own}
 
 -- a sum over the places of those that are marked is one over themselves
@@ -89,7 +89,7 @@ pub judged-same : (u : Unit) (notice : Notice) (cs : List Notice) (only : Bool) 
     → judgedIn u notice cs only H own f ≡ judgedIn u notice cs only H like g
 unfolding judgedIn
 judged-same u notice cs only H own like f g e k =
-    let ls = judgedBy (map noticeIn cs) (registeredIn u notice) only in
+    let ls = judgedBy (linesIn cs) (registeredIn u notice) only in
     ap (λ rows. judgement (firstRow rows)) (rows-own H own like f e ls ∙ rows-load H like f g k ls)
 
 -- the judgement by places is that by marks
@@ -101,7 +101,7 @@ module _ (u : Unit) (notice : Notice) (cs : List Notice) (only : Bool) (H : ℕ)
       ap (λ rows. judgement (firstRow rows))
       (rows-load H own (loadBy own loads ps) (loadIn own bs (take n es))
       (λ h i k. ap (λ (qs : List ℕ). loadBy own loads qs h) (e ∙ ap (λ m. marked bs (from 0 m)) (sym-length b)) ∙ load-places loads h own bs (take n es) i (omega arith) f)
-      (judgedBy (map noticeIn cs) (registeredIn u notice) only))
+      (judgedBy (linesIn cs) (registeredIn u notice) only))
     where
       sym-length : n ≤ length es → n ≡ length (take n es)
       sym-length b = omega (arith, length-take-le n es b)

@@ -10,14 +10,14 @@ use lib.ListN.{replicate, getD-replicate}
 use borrow.Author.Tests.{eq-eqb, ne-eqb, not-true, not-false}
 use Rattle.rules.specs.Lists.{first, from, lowest, hourly}
 use Rattle.rules.specs.Refusals.{limitRow, firstRow}
-use Rattle.rules.specs.Units.{Limit, passes, availableAt, borderSum, maximumLimit, limits}
+use Rattle.rules.specs.Units.{Limit, passes, availableAt, borderSum, maximumLimit, availableLimit, ownLimits, borderLimit, borderLimits, limits}
 use Rattle.rules.specs.Lodging.{passedAt, judgedBy, limitRows}
 use Rattle.rules.proofs.LowestLaws.{lowest-none}
 use Rattle.session.specs.declared.Unit.{Unit}
 use Rattle.session.specs.declared.Notice.{Notice}
 use Rattle.session.specs.declared.Judged.the-variants.{No, Clear}
 use Rattle.loads.specs.Loads.{laid}
-use Rattle.limits.specs.Limits.{noticeIn, registeredIn, lowestRow, judgedIn, borderAt}
+use Rattle.limits.specs.Limits.{noticeIn, registeredIn, linesIn, lowestRow, judgedIn, borderAt}
 use Rattle.limits.specs.declared.BorderLimit.{BorderLimit}
 use Rattle.loads.proofs.LoadLaws.{and-false}
 
@@ -59,10 +59,10 @@ module _ (H : ℕ) (own : List ℕ) (load : ℕ → ℕ) where
     l10 = maximumLimit (registeredIn u n)
 
     abbrev l11 : Limit
-    l11 = record { number = 11; at = λ h. some (availableAt (registeredIn u n) h) }
+    l11 = availableLimit (registeredIn u n)
 
     abbrev l12 : Limit
-    l12 = record { number = 12; at = λ h. borderSum (map noticeIn cs) (u .border) h }
+    l12 = borderLimit (linesIn cs) (registeredIn u n)
 
     maximum-hourly : (m h : ℕ) → 1 ≤ h → h ≤ H → m ≡ hourly (replicate 25 m) h
     unfolding hourly
@@ -78,7 +78,7 @@ module _ (H : ℕ) (own : List ℕ) (load : ℕ → ℕ) where
     available-hourly false es m h a b = maximum-hourly m h a b
 
     eleven-as : lowest (passedAt own load l11) H ≡ eleven
-    unfolding availableAt noticeIn
+    unfolding availableLimit availableAt noticeIn
     eleven-as = limit-same l11 (laid (cond (n .given) (n .energies) (replicate 25 (u .maximum)))) (λ h a b. ap some (available-hourly (n .given) (n .energies) (u .maximum) h a b))
 
     -- a default lodgement: "against 10 only"
@@ -87,7 +87,7 @@ module _ (H : ℕ) (own : List ℕ) (load : ℕ → ℕ) where
     judged-default = refl
 
     judged-normal : judgedIn u n cs false H own load ≡ lowestRow (lowest (passedAt own load l10) H) (lowest (passedAt own load l11) H) (lowest (passedAt own load l12) H)
-    unfolding judgedIn judgedBy limits limitRows limitRow maximumLimit lowestRow
+    unfolding judgedIn judgedBy limits ownLimits borderLimits limitRows limitRow maximumLimit availableLimit borderLimit lowestRow
     judged-normal = refl
 
     pub judge-default : (default : Bool) {x : ℕ} → default ≡ true → x ≡ ten → lowestRow x 0 0 ≡ judgedIn u n cs default H own load
@@ -95,11 +95,11 @@ module _ (H : ℕ) (own : List ℕ) (load : ℕ → ℕ) where
 
     module _ (b : BorderLimit) (is : (h : ℕ) → borderAt b h ≡ borderSum (map noticeIn cs) (u .border) h) where
       twelve-off : not (b .applies) ≡ true → lowest (passedAt own load l12) H ≡ 0
-      unfolding borderAt
+      unfolding borderAt borderLimit
       twelve-off t = limit-absent l12 (λ h. sym (is h) ∙ rw (not-true (b .applies) t))
 
       twelve-on : not (b .applies) ≡ false → lowest (passedAt own load l12) H ≡ lowest (passedAt own load (laid (b .energies))) H
-      unfolding borderAt
+      unfolding borderAt borderLimit
       twelve-on t = limit-same l12 (laid (b .energies)) (λ h x y. sym (is h) ∙ rw (not-false (b .applies) t))
 
       module _ (default : Bool) {x y : ℕ} (t : default ≡ false) (e : x ≡ ten) (f : y ≡ eleven) where

@@ -7,7 +7,7 @@ use lib.Dec.{eqb}
 use lib.ListN.{replicate}
 use Rattle.rules.specs.Lists.{hourly}
 use Rattle.rules.specs.Refusals.{Row, firstRow}
-use Rattle.rules.specs.Units.{Registered}
+use Rattle.rules.specs.Units.{Registered, Lines}
 use Rattle.rules.specs.Lodging.{judgedBy, limitRows}
 use Rattle.session.specs.Image.{unitIn}
 use Rattle.session.specs.Parts.{judgement}
@@ -23,9 +23,13 @@ noticeIn n = cond (n .given) (some (n .energies)) none
 abbrev pub registeredIn : Unit → Notice → Registered
 registeredIn u n = record { unit = unitIn u; available = noticeIn n }
 
+-- what the capacities that the session keeps say of the lines
+abbrev pub linesIn : List Notice → Lines
+linesIn cs = record { capacities = map noticeIn cs }
+
 -- The judgement: the first of the limits that is passed, with the lowest hour in which it is.
 unfoldable pub judgedIn : Unit → Notice → List Notice → Bool → ℕ → List ℕ → (ℕ → ℕ) → Judged
-judgedIn u n cs only H own load = judgement (firstRow (limitRows H own load (judgedBy (map noticeIn cs) (registeredIn u n) only)))
+judgedIn u n cs only H own load = judgement (firstRow (limitRows H own load (judgedBy (linesIn cs) (registeredIn u n) only)))
 
 -- the row of a limit by its hour, 0 where it is passed in none
 abbrev pub rowAt : ℕ → ℕ → Row

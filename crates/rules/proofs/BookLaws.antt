@@ -15,8 +15,9 @@ use Rattle.rules.specs.Hours.{Hours·all, Date, isDate, dateRow}
 use Rattle.rules.specs.Units.{TradingUnit, Registered, Published, Capacities, maxEnergy, domestic, badUnit, badNumber, badEnergies, badPublished, notOfHours, sameBorderSide, hasNumber, isRegistered, unitOf, nobody}
 use Rattle.rules.specs.Message.{Fields, energyWidth, names, decode, badForm, badMap, badFields}
 use Rattle.rules.specs.Lodging.{Key, Lodgement, keyOf, energyAt, sameKey, stands, without, namesBeyond, badKey}
-use Rattle.rules.specs.Book.{Book, hours, fresh}
-use Rattle.rules.specs.Closing.{Judged, isAccepted, closingOrder, judge, judgeEach, judgements, verdictAmong, acceptedAt}
+use Rattle.rules.specs.Book.{Book, hours, limitsOf, fresh}
+use Rattle.rules.specs.Judging.{isAccepted, verdictAmong}
+use Rattle.rules.specs.Closing.{judge, judgements, acceptedAt}
 use Rattle.rules.specs.Clearing.{hourOfDay, clearHour, figuresAt}
 use Rattle.rules.specs.DayBook.{Call, register, capacity, available, lodge, annul, close, clear, changeRow, unregistered, badHolder, isSecond, unitsFull, full, lodgeRows, rowsOf, withUnits, withCapacities, withStanding, withStage, notify, entry, applied, turned, turn, after, openedWith, opening}
 use Rattle.rules.specs.Sound.{OfDay, absent, energies, UnitsSound, HasUnit, Lodged, StandingSound, Sound, WellTyped}
@@ -438,15 +439,9 @@ after-closed b (c ∷ cs) h =
 
 module _ (b : Book) (x y : Bool) where
   -- the stage of a book changes nothing that is judged
-  judgeEach-stage : (before ls : List Lodgement) → judgeEach (withStage b x y) before ls ≡ judgeEach b before ls
-  unfolding judgeEach judge withStage hours
-  judgeEach-stage before [] = refl
-  judgeEach-stage before (l ∷ ls) = ap {B = List Judged} (λ js. record { lodgement = l; verdict = judge b before l } ∷ js) (judgeEach-stage (cond (isAccepted (judge b before l)) (l ∷ before) before) ls)
-
-  -- and so no verdict
   pub stage-judgements : judgements (withStage b x y) ≡ judgements b
-  unfolding judgements withStage
-  stage-judgements = judgeEach-stage [] (closingOrder (b .standing))
+  unfolding judgements judge withStage hours limitsOf
+  stage-judgements = refl
 
   -- and changes no figure
   stage-figures : (h : ℕ) → figuresAt (withStage b x y) h ≡ figuresAt b h

@@ -9,9 +9,9 @@ use lib.Dec.{ltb, eqb}
 use borrow.Author.Tests.{eqb-true}
 use Rattle.rules.specs.Lists.{All, none, more, keep, sum, sumOf, hourly}
 use Rattle.rules.specs.Hours.{Date}
-use Rattle.rules.specs.Units.{Registered, Capacities, capacityOf, ceiling, hasNumber, nobody, unitOf, isRegistered}
+use Rattle.rules.specs.Units.{Registered, Capacities, capacityOf, hasNumber, nobody, unitOf, isRegistered}
 use Rattle.rules.specs.Lodging.{Lodgement, energyAt}
-use Rattle.rules.specs.Book.{Book, hours}
+use Rattle.rules.specs.Book.{Book, hours, ceilingOf}
 use Rattle.rules.specs.Closing.{acceptedAt}
 use Rattle.rules.specs.Borders.{Directed}
 use Rattle.rules.specs.Clearing.{holderOf, offerAt, executionAt, published, borderCapacities, capacitiesAt, hourOfDay}
@@ -72,7 +72,7 @@ module _ (b : Book) (s : Sound b) where
       )
 
   -- "no unit's energy passes its ceiling"
-  pub ceilings-kept : (u h : ℕ) → 1 ≤ h → h ≤ hours b → matchedAt b u h + executedAt b u h ≤ ceiling (b .capacities) (unitOf (b .units) u) h
+  pub ceilings-kept : (u h : ℕ) → 1 ≤ h → h ≤ hours b → matchedAt b u h + executedAt b u h ≤ ceilingOf b u h
   unfolding matchedAt executedAt
   ceilings-kept u h low high =
       omega (arith, unit-energy (figures-cleared b h (s .standing .rising)) u, hour-energy u h, accepted-within b (s .standing .rising) u h low high)

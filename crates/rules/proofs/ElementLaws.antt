@@ -79,6 +79,11 @@ module _ {A : Type 0} {R : A → A → Type 0} where
   pairwise-weaken f empty = empty
   pairwise-weaken f (ahead {x} h t) = ahead (all-map (f x) h) (pairwise-weaken f t)
 
+  -- and with what holds of all
+  pub pairwise-with : {P : A → Type 0} {S : A → A → Type 0} {xs : List A} → ((x y : A) → P x → P y → R x y → S x y) → All P xs → Pairwise R xs → Pairwise S xs
+  pairwise-with f none empty = empty
+  pairwise-with f (more {x} p a) (ahead h t) = ahead (all-both (λ y q r. f x y p q r) a h) (pairwise-with f a t)
+
   module _ (turn : (x y : A) → R x y → R y x) where
     -- two parts of a list that share no element
     pub pairwise-apart : (p q : A → Bool) → ((x : A) → p x ≡ true → q x ≡ false) → {xs : List A} → Pairwise R xs → All (λ x. All (R x) (keep q xs)) (keep p xs)

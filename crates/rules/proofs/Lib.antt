@@ -6,8 +6,8 @@ pub mod LowestLaws
 pub mod HoursLaws
 pub mod SumLaws
 pub mod RefusalLaws
-pub mod LimitLaws
 pub mod CeilingLaws
+pub mod LimitLaws
 pub mod BitLaws
 pub mod MessageLaws
 pub mod ShareLaws
@@ -24,6 +24,7 @@ pub mod HourLaws
 pub mod SoundLaws
 pub mod BookLaws
 pub mod OrderLaws
+pub mod JudgingLaws
 pub mod ClosingLaws
 pub mod DemandLaws
 pub mod UnitLaws

@@ -11,7 +11,7 @@ use Rattle.rules.specs.Hours.{Date, dateRow}
 use Rattle.rules.specs.Units.{TradingUnit, Registered, Capacities, badUnit, badNumber, badEnergies, badPublished, notOfHours, sameBorderSide, hasNumber, isRegistered, unitOf}
 use Rattle.rules.specs.Message.{Fields, energyWidth, decode, badForm, badMap, badFields}
 use Rattle.rules.specs.Lodging.{Key, Lodgement, keyOf, stands, without, judgedAt, judgedBy, limitRows, namesBeyond, domesticExecution, badKey}
-use Rattle.rules.specs.Book.{Book, hours, fresh}
+use Rattle.rules.specs.Book.{Book, hours, linesOf, fresh}
 use Rattle.rules.specs.Clearing.{daySteps}
 
 -- "registering, notices, lodging, annulling, closing and clearing"
@@ -66,7 +66,7 @@ lodgeRows b bytes =
     ∷ row 6 (badHolder b (keyOf m))
     ∷ row 9 (full b (keyOf m))
     ∷ limitRows (hours b) (m .energies) (judgedAt (b .standing) m)
-    (judgedBy (b .capacities) (unitOf (b .units) (m .unit)) (m .default))
+    (judgedBy (linesOf b) (unitOf (b .units) (m .unit)) (m .default))
 
 unfoldable pub rowsOf : Book → Call → List Row
 rowsOf b (register u) =

@@ -2,17 +2,18 @@
 use Prim.Native.Nat.{ℕ, _+_, _-_, _≤_, _<_}
 use mathlib.Core.Path.{_≡_}
 use mathlib.Core.Logic.{_↔_}
-use mathlib.Core.Bool.{Bool, true, false, cond, _&&_, _||_, Bool·beq}
+use mathlib.Core.Bool.{Bool, true, false, cond, _&&_, Bool·beq}
 use mathlib.Core.List.{List, [], _∷_, _++_, map}
 use mathlib.Core.Option.{some}
-use lib.Dec.{ltb, eqb}
+use lib.Dec.{eqb}
 use lib.IntN.{ℤ, pos, _+ℤ_}
 use lib.Signed.{_≤ℤ_, _<ℤ_}
 use Rattle.rules.specs.Lists.{All, Each, keep, sum, sumOf, hourly}
-use Rattle.rules.specs.Units.{Registered, Limit, capacityOf, ceiling, limits, unitOf}
+use Rattle.rules.specs.Units.{Registered, capacityOf}
 use Rattle.rules.specs.Lodging.{Lodgement, energyAt, isHidden, passedAt}
-use Rattle.rules.specs.Book.{Book, hours}
-use Rattle.rules.specs.Closing.{Verdict, hidden, limit, isAccepted, judgements, verdictAmong, acceptedAt}
+use Rattle.rules.specs.Book.{Book, hours, limitsOf, ceilingOf}
+use Rattle.rules.specs.Judging.{Verdict, hidden, limit, isAccepted, turnBy, isBefore, verdictAmong}
+use Rattle.rules.specs.Closing.{closingTurns, judgements, acceptedAt}
 use Rattle.rules.specs.Share.{share}
 use Rattle.rules.specs.Match.{Offer}
 use Rattle.rules.specs.Borders.{Directed, Execution, runs, marketBalance, executionBalance, toward}
@@ -29,11 +30,11 @@ verdictOf b l = verdictAmong (judgements b) (l .number)
 
 -- "normal executions, default executions, offers"
 unfoldable pub turnOf : Lodgement → ℕ
-turnOf l = cond (l .key .execution) (cond (l .key .default) 1 0) 2
+turnOf l = turnBy closingTurns l
 
 -- "Unhidden lodgements are taken in this order: normal executions, default executions, offers; within each, latest number first"
 unfoldable pub takenBefore : Lodgement → Lodgement → Bool
-takenBefore k l = ltb (turnOf k) (turnOf l) || (eqb (turnOf k) (turnOf l) && ltb (l .number) (k .number))
+takenBefore k l = isBefore closingTurns (λ l. l .number) k l
 
 -- "that accepted before it on its unit": of those accepted at closing the ones of its unit that are taken before it
 unfoldable pub acceptedBefore : Book → Lodgement → List Lodgement
@@ -43,25 +44,28 @@ acceptedBefore b l = keep (λ k. eqb (k .key .unit) (l .key .unit) && takenBefor
 unfoldable pub energyWith : Book → Lodgement → ℕ → ℕ
 energyWith b l h = energyAt l h + sumOf (λ k. energyAt k h) (acceptedBefore b l)
 
--- "in an hour it names, its energy with that accepted before it on its unit passes the ceiling"
-pub record Passes (b : Book) (l : Lodgement) (h : ℕ) : Type 0 where
+-- in an hour of 1 to H that some energies name, a load passes a top
+pub record Over (H : ℕ) (energies : List ℕ) (load top : ℕ → ℕ) (h : ℕ) : Type 0 where
   pub first : 1 ≤ h
-  pub last : h ≤ hours b
-  pub named : 0 < energyAt l h
-  pub over : ceiling (b .capacities) (unitOf (b .units) (l .key .unit)) h < energyWith b l h
+  pub last : h ≤ H
+  pub named : 0 < hourly energies h
+  pub over : top h < load h
+
+-- "in an hour it names, its energy with that accepted before it on its unit passes the ceiling"
+abbrev pub Passes : Book → Lodgement → ℕ → Type 0
+Passes b l h = Over (hours b) (l .energies) (energyWith b l) (ceilingOf b (l .key .unit)) h
 
 -- "The lowest applicable number is given, and for 10 to 12 the lowest hour in which that limit is passed": of some limits
 -- n is the number of the first that is passed in an hour of 1 to H, and h the lowest such hour
-pub data Chosen (H : ℕ) (passed : Limit → ℕ → Bool) (n h : ℕ) : List Limit → Type 0 where
-  first-passed : {l : Limit} {ls : List Limit} → l .number ≡ n → 1 ≤ h → h ≤ H → passed l h ≡ true
-      → ((k : ℕ) → 1 ≤ k → k < h → passed l k ≡ false) → Chosen H passed n h (l ∷ ls)
-  later : {l : Limit} {ls : List Limit} → ((k : ℕ) → 1 ≤ k → k ≤ H → passed l k ≡ false)
-      → Chosen H passed n h ls → Chosen H passed n h (l ∷ ls)
+pub data Chosen {A : Type 0} (number : A → ℕ) (H : ℕ) (passed : A → ℕ → Bool) (n h : ℕ) : List A → Type 0 where
+  first-passed : {l : A} {ls : List A} → number l ≡ n → 1 ≤ h → h ≤ H → passed l h ≡ true
+      → ((k : ℕ) → 1 ≤ k → k < h → passed l k ≡ false) → Chosen number H passed n h (l ∷ ls)
+  later : {l : A} {ls : List A} → ((k : ℕ) → 1 ≤ k → k ≤ H → passed l k ≡ false)
+      → Chosen number H passed n h ls → Chosen number H passed n h (l ∷ ls)
 
 -- the limit and hour of a lodgement refused at closing
 abbrev pub ChosenAt : Book → Lodgement → ℕ → ℕ → Type 0
-ChosenAt b l n h =
-    Chosen (hours b) (passedAt (l .energies) (energyWith b l)) n h (limits (b .capacities) (unitOf (b .units) (l .key .unit)))
+ChosenAt b l n h = Chosen (λ L. L .number) (hours b) (passedAt (l .energies) (energyWith b l)) n h (limitsOf b (l .key .unit))
 
 -- What closing gives a standing lodgement.
 pub record Judgement (b : Book) (l : Lodgement) : Type 0 where
@@ -134,7 +138,7 @@ pub record Cleared (b : Book) (h : ℕ) : Type 0 where
   -- "Matched sales equal matched purchases"
   pub balanced : matchedOn false (figuresAt b h .offers) ≡ matchedOn true (figuresAt b h .offers)
   -- "and no unit's energy passes its ceiling": "A unit's energy is matched plus executed, after cuts."
-  pub ceilings : (u : ℕ) → matchedAt b u h + executedAt b u h ≤ ceiling (b .capacities) (unitOf (b .units) u) h
+  pub ceilings : (u : ℕ) → matchedAt b u h + executedAt b u h ≤ ceilingOf b u h
   -- no execution gains by the cut
   pub executions : Each CutDown (executionsAt b h) (figuresAt b h .executions)
   -- "Market plus bilateral balance at each border keeps within each published capacity", and what is cut there: at each of

@@ -13,6 +13,7 @@ use Rattle.rules.specs.Units.{Units·all}
 use Rattle.rules.specs.Message.{Fields, energyWidth, encode, read, write, Message·all}
 use Rattle.rules.specs.Lodging.{Lodging·all}
 use Rattle.rules.specs.Book.{Book, Book·all}
+use Rattle.rules.specs.Judging.{Judging·all}
 use Rattle.rules.specs.Closing.{Closing·all}
 use Rattle.rules.specs.Share.{share, Share·all}
 use Rattle.rules.specs.Match.{Match·all}
@@ -127,5 +128,5 @@ twelve =
     ∷ []
 
 pub twelve-hold : Hold twelve
-unfolding Lists·all Refusals·all Hours·all Units·all Message·all Lodging·all Book·all Closing·all Share·all Match·all Borders·all Split·all Withdrawal·all Executions·all Clearing·all Queries·all DayBook·all
+unfolding Lists·all Refusals·all Hours·all Units·all Message·all Lodging·all Book·all Judging·all Closing·all Share·all Match·all Borders·all Split·all Withdrawal·all Executions·all Clearing·all Queries·all DayBook·all
 twelve-hold = (refl, (refl, (refl, (refl, (refl, (refl, (refl, (refl, (refl, (refl, (refl, (refl, tt))))))))))))

@@ -5,6 +5,7 @@ pub mod Units
 pub mod Message
 pub mod Lodging
 pub mod Book
+pub mod Judging
 pub mod Closing
 pub mod Share
 pub mod Match

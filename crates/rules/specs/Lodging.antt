@@ -5,7 +5,7 @@ use mathlib.Core.List.{List, [], _∷_, map}
 use lib.Dec.{ltb, eqb}
 use Rattle.rules.specs.Lists.{keep, any, sumOf, from, hourly}
 use Rattle.rules.specs.Refusals.{Row, limitRow}
-use Rattle.rules.specs.Units.{TradingUnit, Registered, Limit, Capacities, limits, maximumLimit, passes, badNumber, domestic}
+use Rattle.rules.specs.Units.{TradingUnit, Registered, Limit, Lines, limits, maximumLimit, passes, badNumber, domestic}
 use Rattle.rules.specs.Message.{Fields, mapWidth, names, badContract}
 
 -- "A key is kind, default mark, unit and contract."
@@ -67,9 +67,9 @@ unfoldable pub judgedAt : List Lodgement → Fields → ℕ → ℕ
 judgedAt standing m h = hourly (m .energies) h + cond (m .default) 0 (sumOf (λ l. energyAt l h) (beside standing (keyOf m)))
 
 -- "against limits 10, 11, 12", a default one "against 10 only"
-unfoldable pub judgedBy : Capacities → Registered → Bool → List Limit
-judgedBy cs r true = maximumLimit r ∷ []
-judgedBy cs r false = limits cs r
+unfoldable pub judgedBy : Lines → Registered → Bool → List Limit
+judgedBy ls r true = maximumLimit r ∷ []
+judgedBy ls r false = limits ls r
 
 -- In an hour that is named, an energy passes a limit. (A named hour is one with energy: named energies are 1 to 99,999.)
 unfoldable pub passedAt : List ℕ → (ℕ → ℕ) → Limit → ℕ → Bool

@@ -1,7 +1,7 @@
 -- "Units and notices": units, capacity and unavailability notices, the limits and the ceiling.
 use Prim.Native.Nat.{ℕ, _+_, _*_, _-_, min}
 use mathlib.Core.Bool.{Bool, true, false, cond, not, _&&_, _||_, Bool·beq}
-use mathlib.Core.List.{List, [], _∷_, map}
+use mathlib.Core.List.{List, [], _∷_, _++_, map}
 use mathlib.Core.Option.{Option, some, none}
 use lib.Dec.{ltb, eqb}
 use lib.ListN.{length, getD}
@@ -49,6 +49,10 @@ Published = Option (List ℕ)
 -- "A capacity notice covers the 4 borders in 2 directions": export and import of border 1, of border 2, of 3, of 4
 abbrev pub Capacities : Type 0
 Capacities = List Published
+
+-- What the notices say of the lines at the borders.
+pub record Lines : Type 0 where
+  pub capacities : Capacities
 
 -- "At a border a sale is an import, a purchase an export": a direction is a Bool, true for export
 unfoldable pub direction : ℕ → Bool → ℕ
@@ -100,14 +104,25 @@ pub record Limit : Type 0 where
 unfoldable pub maximumLimit : Registered → Limit
 maximumLimit r = record { number = 10; at = λ h. some (r .unit .maximum) }
 
--- "its maximum (limit 10), its available energy (limit 11) and [..] the sum of the two capacities (limit 12)",
--- in the table's order
-unfoldable pub limits : Capacities → Registered → List Limit
-limits cs r =
-    maximumLimit r
-    ∷ record { number = 11; at = λ h. some (availableAt r h) }
-    ∷ record { number = 12; at = λ h. borderSum cs (r .unit .border) h }
-    ∷ []
+-- "its available energy (limit 11)"
+unfoldable pub availableLimit : Registered → Limit
+availableLimit r = record { number = 11; at = λ h. some (availableAt r h) }
+
+-- the limits that a unit has of its own
+unfoldable pub ownLimits : Registered → List Limit
+ownLimits r = maximumLimit r ∷ availableLimit r ∷ []
+
+-- "at a border with both directions published, the sum of the two capacities (limit 12)"
+unfoldable pub borderLimit : Lines → Registered → Limit
+borderLimit ls r = record { number = 12; at = λ h. borderSum (ls .capacities) (r .unit .border) h }
+
+-- those that it has by the lines at its border
+unfoldable pub borderLimits : Lines → Registered → List Limit
+borderLimits ls r = borderLimit ls r ∷ []
+
+-- a unit's limits, in the table's order
+unfoldable pub limits : Lines → Registered → List Limit
+limits ls r = ownLimits r ++ borderLimits ls r
 
 unfoldable pub passes : ℕ → Option ℕ → Bool
 passes e none = false
@@ -119,8 +134,8 @@ leastOf n (none ∷ ls) = leastOf n ls
 leastOf n (some l ∷ ls) = min l (leastOf n ls)
 
 -- "The ceiling of a unit in an hour is the least of" its limits there. ("Ceiling" is document 01's term.)
-unfoldable pub ceiling : Capacities → Registered → ℕ → ℕ
-ceiling cs r h = leastOf (r .unit .maximum) (map (λ l. l .at h) (limits cs r))
+unfoldable pub ceiling : Lines → Registered → ℕ → ℕ
+ceiling ls r h = leastOf (r .unit .maximum) (map (λ l. l .at h) (limits ls r))
 
 -- the entry of a unit number; of one that is not registered, a unit with nothing
 unfoldable pub hasNumber : ℕ → Registered → Bool
@@ -136,5 +151,5 @@ unfoldable pub isRegistered : List Registered → ℕ → Bool
 isRegistered us n = any (hasNumber n) us
 
 unfoldable pub Units·all : Unit {0}
-unfolding badNumber domestic badUnit sameBorderSide direction capacityOf notOfHours badEnergies badPublished availableAt bothAt borderSum maximumLimit limits passes leastOf ceiling hasNumber unitOf isRegistered
+unfolding badNumber domestic badUnit sameBorderSide direction capacityOf notOfHours badEnergies badPublished availableAt bothAt borderSum maximumLimit availableLimit ownLimits borderLimit borderLimits limits passes leastOf ceiling hasNumber unitOf isRegistered
 Units·all = tt

@@ -9,12 +9,11 @@ use native.Mathlib.Omega.{arith}
 use lib.Dec.{eqb, ltb}
 use lib.ListN.{length, getD, set, take, replicate, length-map, length-set, length-replicate, getD-replicate}
 use lib.Seq.{ext-getD, getD-take, getD-set-same, getD-set-other, length-take-le}
-use borrow.Author.Tests.{eqb-true, eqb-false, eq-eqb, ltb-true, ltb-false, le-ltb, lt-leb}
+use borrow.Author.Tests.{eqb-true, eqb-false, eq-eqb, ltb-true, ltb-false}
 use Rattle.rules.specs.Lists.{from, sum, sumOf}
 use Rattle.rules.specs.Lodging as L
 use Rattle.rules.specs.Book.{Book}
-use Rattle.rules.specs.Demands.{turnOf}
-use Rattle.rules.proofs.BoolLaws.{by-bool, both}
+use Rattle.rules.proofs.BoolLaws.{by-bool}
 use Rattle.rules.proofs.ListLaws.{hourly-suc}
 use Rattle.session.specs.Bare.{bareNotice, bareEnergies}
 use Rattle.session.specs.Image.{image, Sound, noUnit, noVerdict, noLodgement}
@@ -27,15 +26,16 @@ use Rattle.session.specs.declared.Judged.{Judged}
 use Rattle.session.specs.declared.Judged.the-variants.{Clear}
 use Rattle.session.specs.declared.Session.{Session}
 use Rattle.loads.specs.Loads.{marked, energyIn, loadIn}
-use Rattle.loads.proofs.LoadLaws.{and-false}
 use Rattle.loads.proofs.MarkLaws.{sum-mark, marked-nothing}
 use Rattle.limits.specs.Limits.{judgedIn}
 use Rattle.ceilings.specs.Ceilings.{ceilingAt, RowAt}
 use Rattle.ceilings.proofs.JudgedLaws.{Refuses, refuses, judged-under, judged-over}
 use Rattle.room.specs.Room.{leftAt, Fits, lacks}
 use Rattle.room.proofs.FitLaws.{held}
-use Rattle.validation.specs.Turns.{standingAt, isTaken, hasPassed, verdictSoFar, Reached, Loaded, JudgesAt, countsOn, countsAt, verdictBy}
+use Rattle.validation.specs.Turns.{verdictAt, turnAt, isTaken, Reached, Loaded, JudgesAt, countsOn, countsAt, verdictBy}
 use Rattle.validation.proofs.CountLaws.{length-from, places-at}
+use Rattle.validation.proofs.PlaceLaws.{by-not-yet}
+use Rattle.validation.proofs.TurnLaws.{taken-turn}
 use Rattle.validation.proofs.StandingLaws.{loaded-at}
 use Rattle.validation.proofs.JudgeLaws.{unit-placed, judge-given}
 use Rattle.turns.specs.Passes.{usedIn, Kept}
@@ -184,10 +184,7 @@ kept-start s none room w e f = record {
 
 -- a place that is taken has no verdict yet
 pub not-yet : (b : Book) (turn i : ℕ) (vs : List Verdict) → Reached b turn (i + 1) vs → isTaken b turn i ≡ true → getD vs i noVerdict .accepted ≡ false
-unfolding isTaken verdictSoFar hasPassed
-not-yet b turn i vs r t =
-    let e = eqb-true (turnOf (standingAt b i)) turn (both (eqb (turnOf (standingAt b i)) turn) (not (L.isHidden (b .standing) (standingAt b i))) t .0) in
-    ap (λ (v : Verdict). v .accepted) (r .at i) ∙ rw (le-ltb (turnOf (standingAt b i)) turn (omega arith), lt-leb (i + 1) i (omega arith), and-false (eqb (turnOf (standingAt b i)) turn) false refl)
+not-yet b turn i vs r t = ap (λ (v : Verdict). v .accepted) (by-not-yet (turnAt b) (verdictAt b) turn i vs r (taken-turn b turn i t))
 
 -- What the room says of a lodgement
 

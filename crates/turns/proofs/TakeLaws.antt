@@ -9,6 +9,7 @@ use Rattle.rules.specs.Lists.{any}
 use Rattle.rules.specs.Lodging as L
 use Rattle.rules.specs.Book.{Book}
 use Rattle.rules.specs.Demands.{turnOf}
+use Rattle.rules.proofs.ClosingLaws.{turn-is}
 use Rattle.session.specs.Image.{image, lodgementAs, noLodgement}
 use Rattle.session.specs.declared.Lodgement.{Lodgement}
 use Rattle.session.specs.declared.Session.{Session}
@@ -22,8 +23,8 @@ use Rattle.turns.specs.Passes.{turnIn, TakesAt}
 
 module _ (s : Session) (b : Book) (e : s ≡ image b) (i : ℕ) (h : i < s .standing) where
   turn-at : (d : Lodgement) → turnIn (getD (s .lodgements) i d .key) ≡ turnOf (standingAt b i)
-  unfolding turnIn turnOf
-  turn-at d = rw (lodgement-at s b e i h d)
+  unfolding turnIn
+  turn-at d = rw (lodgement-at s b e i h d, turn-is (standingAt b i))
 
   hidden-at : (d : Lodgement) → any (hiding (getD (s .lodgements) i d .key)) (take (s .standing) (s .lodgements)) ≡ L.isHidden (b .standing) (standingAt b i)
   unfolding L.isHidden

@@ -8,12 +8,12 @@ use native.Mathlib.Omega.{arith}
 use lib.Dec.{eqb}
 use lib.ListN.{length, getD, take, length-map, length-take}
 use lib.Seq.{ext-getD, getD-take}
-use borrow.Author.Tests.{eqb-true, not-true}
+use borrow.Author.Tests.{not-true}
 use Rattle.rules.specs.Lists.{keep, any, sumOf, from, hourly}
 use Rattle.rules.specs.Refusals.{Row, firstRow}
 use Rattle.rules.specs.Units as U
 use Rattle.rules.specs.Lodging as L
-use Rattle.rules.specs.Book.{Book, hours}
+use Rattle.rules.specs.Book.{Book, hours, linesOf, limitsOf}
 use Rattle.rules.specs.Closing as C
 use Rattle.rules.specs.Demands.{turnOf, takenBefore, verdictOf, acceptedBefore, energyWith}
 use Rattle.rules.proofs.BoolLaws.{both}
@@ -36,9 +36,9 @@ use Rattle.limits.specs.Limits.{judgedIn}
 use Rattle.limits.proofs.NoticeLaws.{judged-as}
 use Rattle.loads.proofs.MarkLaws.{load-keep}
 use Rattle.limits.proofs.PlaceLaws.{judged-places, judged-same}
-use Rattle.validation.specs.Turns.{beyond, standingAt, verdictAt, isTaken, verdictSoFar, Reached, Loaded, JudgesAt, countsOn, countsAt, verdictBy}
+use Rattle.validation.specs.Turns.{beyond, standingAt, verdictAt, turnAt, isTaken, verdictSoFar, Reached, Loaded, JudgesAt, countsOn, countsAt, verdictBy}
 use Rattle.validation.proofs.CountLaws.{length-from, places-at, counted-as}
-use Rattle.validation.proofs.TurnLaws.{passed-before, verdict-at}
+use Rattle.validation.proofs.TurnLaws.{closing-before, taken-turn, verdict-at}
 use Rattle.validation.proofs.StandingLaws.{stands, lodgement-at, energies-at, loaded-at}
 
 -- a judgement by the limits, as a verdict
@@ -52,9 +52,8 @@ module _ (s : Session) (b : Book) (sound : Sound b) (e : s ≡ image b) (vs : Li
   abbrev l : L.Lodgement
   l = standingAt b i
 
-  of-turn : turnOf l ≡ turn
-  unfolding isTaken
-  of-turn = eqb-true _ _ (both (eqb (turnOf l) turn) (not (L.isHidden (b .standing) l)) t .0)
+  of-turn : turnAt b i ≡ turn
+  of-turn = taken-turn b turn i t
 
   shown : L.isHidden (b .standing) l ≡ false
   unfolding isTaken
@@ -67,7 +66,7 @@ module _ (s : Session) (b : Book) (sound : Sound b) (e : s ≡ image b) (vs : Li
   counts-before : (j : ℕ) → j < length (b .standing) → countsAt (l .key .unit) vs (s .lodgements) j ≡ before (standingAt b j)
   unfolding countsAt countsOn verdictSoFar
   counts-before j k =
-      rw (r .at j, lodgement-at s b e j (omega (arith, standing-as s b e)) noLodgement, passed-before b (sound .ranges .standing .rising) turn i j (stands s b e i h) k of-turn, verdict-at b j k)
+      rw (r .at j, lodgement-at s b e j (omega (arith, standing-as s b e)) noLodgement, closing-before b (sound .ranges .standing .rising) turn i j (stands s b e i h) k of-turn, verdict-at b j k)
       (counted-as (takenBefore (standingAt b j) l) (verdictOf b (standingAt b j)) (eqb (standingAt b j .key .unit) (l .key .unit)))
 
   -- the marks of those that are counted
@@ -97,16 +96,16 @@ module _ (s : Session) (b : Book) (sound : Sound b) (e : s ≡ image b) (vs : Li
       ∙ ap (λ (ls : List L.Lodgement). hourly (l .energies) h + sumOf (λ k. hourly (k .energies) h) ls) accepted-before)
 
   -- the book's verdict, by the limits of its unit
-  verdict-is : verdictAt b i ≡ C.verdictOfRow (firstRow (L.limitRows (hours b) (l .energies) (energyWith b l) (U.limits (b .capacities) (U.unitOf (b .units) (l .key .unit)))))
+  verdict-is : verdictAt b i ≡ C.verdictOfRow (firstRow (L.limitRows (hours b) (l .energies) (energyWith b l) (limitsOf b (l .key .unit))))
   verdict-is = verdict-at b i (stands s b e i h) ∙ all-at i beyond (verdict-with b (sound .ranges .standing .rising)) (stands s b e i h) shown
 
   -- and the code's
   judged-is : (u : Unit) (n : Notice) (own : List ℕ) → u ≡ unitAs (U.unitOf (b .units) (l .key .unit) .unit) → n ≡ noticeAs (U.unitOf (b .units) (l .key .unit) .available) → own ≡ l .energies
       → verdictBy (judgedIn u n (s .capacities) false (s .hours) own (loadIn own marks (take (s .standing) (s .energies)))) ≡ verdictAs (verdictAt b i)
-  unfolding L.judgedBy
+  unfolding L.judgedBy limitsOf
   judged-is u n own eu en eo =
       rw (eo, load-with, ← hours-as s b e, verdict-is)
-      (ap verdictBy (judged-as (U.unitOf (b .units) (l .key .unit)) (b .capacities) (hours b) (l .energies) (energyWith b l) u n (s .capacities) false eu en (capacities-as s b e))
+      (ap verdictBy (judged-as (U.unitOf (b .units) (l .key .unit)) (linesOf b) (hours b) (l .energies) (energyWith b l) u n (s .capacities) false eu en (capacities-as s b e))
       ∙ told-verdict _)
 
 -- The code's ways out

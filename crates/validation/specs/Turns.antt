@@ -17,6 +17,20 @@ use Rattle.session.specs.declared.Session.{Session}
 use Rattle.session.specs.declared.Judged.{Judged}
 use Rattle.session.specs.declared.Judged.the-variants.{No, Clear}
 
+-- By turns, the last place first
+
+-- "latest number first": what stands at place i of a turn has passed the earlier turns, and of its own the places from i on
+unfoldable pub hasPassed : (ℕ → ℕ) → ℕ → ℕ → ℕ → Bool
+hasPassed turns turn i j = ltb (turns j) turn || (eqb (turns j) turn && leb i j)
+
+-- the verdict of place j there, none yet where it is not passed
+unfoldable pub verdictSoFar : (ℕ → ℕ) → (ℕ → C.Verdict) → ℕ → ℕ → ℕ → Verdict
+verdictSoFar turns given turn i j = cond (hasPassed turns turn i j) (verdictAs (given j)) noVerdict
+
+-- these verdicts are those there
+pub record ReachedBy (turns : ℕ → ℕ) (given : ℕ → C.Verdict) (turn i : ℕ) (vs : List Verdict) : Type 0 where
+  pub at : (j : ℕ) → getD vs j noVerdict ≡ verdictSoFar turns given turn i j
+
 -- The book's side
 
 -- a lodgement that is read beyond the standing ones
@@ -35,18 +49,13 @@ verdictAt b i = getD (C.verdicts b) i C.hidden
 unfoldable pub isTaken : Book → ℕ → ℕ → Bool
 isTaken b turn i = eqb (turnOf (standingAt b i)) turn && not (L.isHidden (b .standing) (standingAt b i))
 
--- "latest number first": a closing that stands at place i of a turn has passed the earlier turns, and of its own the
--- places from i on
-unfoldable pub hasPassed : ℕ → ℕ → ℕ → L.Lodgement → Bool
-hasPassed turn i j l = ltb (turnOf l) turn || (eqb (turnOf l) turn && leb i j)
-
--- the verdict of place j there, none yet where the closing has not passed it
-unfoldable pub verdictSoFar : Book → ℕ → ℕ → ℕ → Verdict
-verdictSoFar b turn i j = cond (hasPassed turn i j (standingAt b j)) (verdictAs (verdictAt b j)) noVerdict
+-- the turn of a place
+unfoldable pub turnAt : Book → ℕ → ℕ
+turnAt b i = turnOf (standingAt b i)
 
 -- these verdicts are those of a closing that stands at place i of a turn
-pub record Reached (b : Book) (turn i : ℕ) (vs : List Verdict) : Type 0 where
-  pub at : (j : ℕ) → getD vs j noVerdict ≡ verdictSoFar b turn i j
+abbrev pub Reached : Book → ℕ → ℕ → List Verdict → Type 0
+Reached b turn i vs = ReachedBy (turnAt b) (verdictAt b) turn i vs
 
 -- the array has the energies of every standing lodgement
 pub record Loaded (s : Session) (loads : List ℕ) : Type 0 where

@@ -10,14 +10,16 @@ use lib.ListN.{getD, take, length-map}
 use borrow.Author.Tests.{eqb-true, not-true, lt-ltb, le-ltb}
 use Rattle.rules.specs.Lists.{All, none, more, first}
 use Rattle.rules.specs.Refusals.{Row, row, limitRow, firstRow, unless, outcome}
-use Rattle.rules.specs.Units.{limits, maximumLimit}
+use Rattle.rules.specs.Units.{unitOf}
 use Rattle.rules.specs.Lodging as L
-use Rattle.rules.specs.Book.{Book}
+use Rattle.rules.specs.Book.{Book, linesOf, limitsOf}
+use Rattle.rules.specs.Judging.{judgeEach}
 use Rattle.rules.specs.Closing as C
 use Rattle.rules.specs.Queries as Q
 use Rattle.rules.specs.Queries.{isStanding}
 use Rattle.rules.proofs.BoolLaws.{by-bool, of-not}
-use Rattle.rules.proofs.ListLaws.{first-passes}
+use Rattle.rules.proofs.ListLaws.{first-passes, all-mapped}
+use Rattle.rules.proofs.CeilingLaws.{limits-numbered}
 use Rattle.session.specs.Bare.{bareVerdict}
 use Rattle.session.specs.Laid.{pad}
 use Rattle.session.specs.Image.{image, verdictsIn, verdictAs, noVerdict, lodgementAs}
@@ -45,21 +47,22 @@ unfolding C.verdictOfRow firstRow isNumbered
 rows-numbered none = refl
 rows-numbered (more {x} h t) = by-bool (x .applies) (λ e. rw (e, h)) (λ e. rw e (rows-numbered t))
 
--- limits are 10, 11 and 12
+-- limits have numbers of the table
 judge-numbered : (b : Book) (before : List L.Lodgement) (l : L.Lodgement) → isNumbered (C.judge b before l) ≡ true
-unfolding C.judge L.limitRows limitRow limits maximumLimit
-judge-numbered b before l = rows-numbered (more refl (more refl (more refl none)))
+unfolding C.judge L.limitRows limitRow limitsOf
+judge-numbered b before l = rows-numbered (all-mapped _ (limits-numbered (linesOf b) (unitOf (b .units) (l .key .unit))))
 
-each-numbered : (b : Book) (before ls : List L.Lodgement) (n : ℕ) → isNumbered (C.verdictAmong (C.judgeEach b before ls) n) ≡ true
-unfolding C.verdictAmong C.judgeEach isNumbered
-each-numbered b before [] n = refl
-each-numbered b before (l ∷ ls) n =
-    by-bool (eqb (l .number) n) (λ t. rw t (judge-numbered b before l))
-    (λ t. rw t (each-numbered b (cond (C.isAccepted (C.judge b before l)) (l ∷ before) before) ls n))
+each-numbered : {A : Type 0} (number : A → ℕ) (judge : List A → A → C.Verdict) → ((before : List A) (x : A) → isNumbered (judge before x) ≡ true)
+    → (before xs : List A) (n : ℕ) → isNumbered (C.verdictAmong (judgeEach number judge before xs) n) ≡ true
+unfolding C.verdictAmong judgeEach isNumbered
+each-numbered number judge f before [] n = refl
+each-numbered number judge f before (x ∷ xs) n =
+    by-bool (eqb (number x) n) (λ t. rw t (f before x))
+    (λ t. rw t (each-numbered number judge f (cond (C.isAccepted (judge before x)) (x ∷ before) before) xs n))
 
 pub among-numbered : (b : Book) (n : ℕ) → isNumbered (C.verdictAmong (C.judgements b) n) ≡ true
 unfolding C.judgements
-among-numbered b n = each-numbered b [] (C.closingOrder (b .standing)) n
+among-numbered b n = each-numbered (λ (l : L.Lodgement). l .number) (C.judge b) (judge-numbered b) [] (C.closingOrder (b .standing)) n
 
 -- so a verdict is told as it is
 pub told-as : (v : C.Verdict) → isNumbered v ≡ true → toldAs (verdictAs v) ≡ verdictTold v
