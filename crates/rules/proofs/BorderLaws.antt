@@ -13,7 +13,7 @@ use Rattle.rules.specs.Match.{Offer}
 use Rattle.rules.specs.Borders.{Directed, Execution, runs, flow}
 use Rattle.rules.specs.Executions.{bilateralExcess, cuts, allCuts, lessEach, cutAll}
 pub use Rattle.rules.specs.Demands.{CutDown, SomeCut, this, another, amountsOn, Kept}
-unfoldable pub use Rattle.rules.specs.Demands.{lost}
+unfoldable pub use Rattle.rules.specs.Demands.{deducted}
 use Rattle.rules.proofs.BoolLaws.{by-bool, not-both, of-not}
 use Rattle.rules.proofs.ElementLaws.{all-both, empty, ahead, Each, each0, each, each-refl}
 use Rattle.rules.proofs.ShareLaws.{Under, under0, under, each-sum, share-sum, share-under}
@@ -49,9 +49,9 @@ less-down (l ∷ ls) (x ∷ xs) = each (down x l) (less-down ls xs)
 all-left : (b : Bool) (n l : ℕ) → b ≡ false → l ≤ cond b n 0 → n - l ≡ n
 all-left b n l e h = omega (arith, rw e at h)
 
--- losses none of which is above the execution's energy
+-- deductions none of which is above the execution's energy
 module _ (q : Execution → Bool) where
-  -- the flow after the losses, and what was lost in it
+  -- the flow after the deductions, and what was deducted from it
   less-flow : (border : ℕ) (export : Bool) {ls : List ℕ} (xs : List Execution) → Under ls (masked q (λ x. x .energy) xs)
       → executionFlow border export (lessEach ls xs) + sum (passing (λ x. runs border export (x .holder)) ls xs) ≡ executionFlow border export xs
   unfolding flow keep sumOf sum lessEach passing
@@ -60,14 +60,14 @@ module _ (q : Execution → Bool) where
       by-bool (runs border export (x .holder))
       (λ e. rw e (omega (arith, cond-le (q x) (x .energy), less-flow border export xs t))) (λ e. rw e (omega (arith, less-flow border export xs t)))
 
-  -- what is lost in a direction is that direction's part of the losses
-  lost-passing : (c : Directed) {ls : List ℕ} (xs : List Execution) → Under ls (masked q (λ x. x .energy) xs) → lost c xs (lessEach ls xs) ≡ passing (on c) ls xs
-  unfolding lost lessEach passing
-  lost-passing c [] under0 = refl
-  lost-passing c (x ∷ xs) (under {a = l} h t) =
-      ap₂ (λ (n : ℕ) (r : List ℕ). cond (on c x) n 0 ∷ r) (omega (arith, cond-le (q x) (x .energy))) (lost-passing c xs t)
+  -- what is deducted in a direction is that direction's part of the deductions
+  deducted-passing : (c : Directed) {ls : List ℕ} (xs : List Execution) → Under ls (masked q (λ x. x .energy) xs) → deducted c xs (lessEach ls xs) ≡ passing (on c) ls xs
+  unfolding deducted lessEach passing
+  deducted-passing c [] under0 = refl
+  deducted-passing c (x ∷ xs) (under {a = l} h t) =
+      ap₂ (λ (n : ℕ) (r : List ℕ). cond (on c x) n 0 ∷ r) (omega (arith, cond-le (q x) (x .energy))) (deducted-passing c xs t)
 
-  -- where something is lost in a direction some execution is cut
+  -- where something is deducted in a direction some execution is cut
   some-of-sum : (c : Directed) {ls : List ℕ} (xs : List Execution) → Under ls (masked q (λ x. x .energy) xs) → 0 < sum (passing (on c) ls xs) → SomeCut c xs (lessEach ls xs)
   unfolding lessEach passing sum
   some-of-sum c [] under0 k = absurd (omega arith)
@@ -229,7 +229,7 @@ module _ (os : List Offer) (xs : List Execution) {cs : List Directed} (once : On
           );
           stands = λ h. rw (crossing-flows c os after) (sub-at _ _ _ (at-after (passes-excess c os xs .0 h)));
           enough = omega (arith, excess-le os xs c f, amounts-flow c xs);
-          shared = lost-passing (among cs) c xs (all-cuts-under os xs once fits) ∙ own;
+          shared = deducted-passing (among cs) c xs (all-cuts-under os xs once fits) ∙ own;
         }
 
   -- every published direction, where the market alone fits

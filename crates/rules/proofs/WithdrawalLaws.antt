@@ -8,7 +8,7 @@ use native.Mathlib.Nat.{le-trans, le-refl}
 use Rattle.rules.specs.Lists.{none, more, any, sum, sumOf}
 use Rattle.rules.specs.Match.{Offer, withEnergies, matchedOf, matchAll}
 use Rattle.rules.specs.Borders.{Directed, runs}
-use Rattle.rules.specs.Withdrawal.{runsIn, runsAmong, keepMatched, Group, inGroup, givesWay, amounts, losses, allLosses, remain, takeFrom, groupOf, step, stepBound}
+use Rattle.rules.specs.Withdrawal.{runsIn, runsAmong, keepMatched, Group, inGroup, givesWay, amounts, deductions, allDeductions, remain, takeFrom, groupOf, step, stepBound}
 use Rattle.rules.proofs.BoolLaws.{by-bool, both}
 use Rattle.rules.proofs.ListLaws.{all-map, all-mapped}
 use Rattle.rules.proofs.ElementLaws.{all-every, Some, here, there, some-map, empty, ahead, Each, each0, each, each-map, each-trans, each-pairwise}
@@ -70,27 +70,27 @@ gives-runs g d o h = both (runs (d .border) (d .export) (o .holder)) (inGroup g 
 
 module _ (g : Group) (os : List Offer) where
   -- no offer that gives way in a direction loses more than it has matched
-  pub losses-under : (d : Directed) → Under (losses g os d) (amounts g d os)
-  unfolding losses
-  losses-under d = share-under _ _ (omega arith)
+  pub deductions-under : (d : Directed) → Under (deductions g os d) (amounts g d os)
+  unfolding deductions
+  deductions-under d = share-under _ _ (omega arith)
 
   -- "the lesser of the excess and the matched [..] energy"
-  pub losses-sum : (d : Directed) → sum (losses g os d) ≡ min (d .energy) (sum (amounts g d os))
-  unfolding losses
-  losses-sum d = share-sum _ _ (omega arith)
+  pub deductions-sum : (d : Directed) → sum (deductions g os d) ≡ min (d .energy) (sum (amounts g d os))
+  unfolding deductions
+  deductions-sum d = share-sum _ _ (omega arith)
 
   -- in all directions together too no offer loses more than it has matched
-  pub all-under : {ds : List Directed} → Once ds → Under (allLosses g os ds) (masked (λ o. any (λ d. givesWay g d o) ds) (λ o. o .matched) os)
-  unfolding allLosses any amounts
+  pub all-under : {ds : List Directed} → Once ds → Under (allDeductions g os ds) (masked (λ o. any (λ d. givesWay g d o) ds) (λ o. o .matched) os)
+  unfolding allDeductions any amounts
   all-under empty = zeros-under os
   all-under (ahead {x = d} {xs = ds} a t) =
-      under-add (λ o. o .matched) (givesWay g d) (λ o. any (λ e. givesWay g e o) ds) (runs-none (λ o. o .holder) (givesWay g) (gives-runs g) a) os (losses-under d) (all-under t)
+      under-add (λ o. o .matched) (givesWay g d) (λ o. any (λ e. givesWay g e o) ds) (runs-none (λ o. o .holder) (givesWay g) (gives-runs g) a) os (deductions-under d) (all-under t)
 
-  -- a loss in one direction is a loss
-  all-some : {ds : List Directed} → Some (λ d. 0 < sum (losses g os d)) ds → 0 < sum (allLosses g os ds)
-  unfolding allLosses
-  all-some (here {x = d} {xs = ds} h) = omega (arith, each-sum (losses g os d) (allLosses g os ds))
-  all-some (there {x = d} {xs = ds} s) = omega (arith, each-sum (losses g os d) (allLosses g os ds), all-some s)
+  -- a deduction in one direction is a deduction
+  all-some : {ds : List Directed} → Some (λ d. 0 < sum (deductions g os d)) ds → 0 < sum (allDeductions g os ds)
+  unfolding allDeductions
+  all-some (here {x = d} {xs = ds} h) = omega (arith, each-sum (deductions g os d) (allDeductions g os ds))
+  all-some (there {x = d} {xs = ds} s) = omega (arith, each-sum (deductions g os d) (allDeductions g os ds), all-some s)
 
 -- what is left is at most what was offered
 left-le : (b : Bool) (l : ℕ) {m e : ℕ} → m ≤ e → cond b (m - l) e ≤ e
@@ -122,7 +122,7 @@ module _ (g : Group) {ds : List Directed} (once : Once ds) {os : List Offer} (w 
   pub take-less : Some (λ d. (0 < d .energy) × (0 < sum (amounts g d os))) ds → stepBound (takeFrom g ds os) < stepBound os
   unfolding takeFrom
   take-less s =
-      omega (arith, remain-total (λ o. any (λ d. givesWay g d o) ds) os (all-under g os once) w, all-some g os (some-map (λ d h. omega (arith, losses-sum g os d)) s))
+      omega (arith, remain-total (λ o. any (λ d. givesWay g d o) ds) os (all-under g os once) w, all-some g os (some-map (λ d h. omega (arith, deductions-sum g os d)) s))
 
 -- 5. "Match again."
 

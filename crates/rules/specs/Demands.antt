@@ -98,10 +98,10 @@ abbrev pub amountsOn : Directed → List Execution → List ℕ
 amountsOn c xs = map (λ x. cond (runs (c .border) (c .export) (x .holder)) (x .energy) 0) xs
 
 -- what each execution in a direction loses, 0 for the others
-unfoldable pub lost : Directed → List Execution → List Execution → List ℕ
-lost c [] ys = []
-lost c (x ∷ xs) [] = []
-lost c (x ∷ xs) (y ∷ ys) = cond (runs (c .border) (c .export) (x .holder)) (x .energy - y .energy) 0 ∷ lost c xs ys
+unfoldable pub deducted : Directed → List Execution → List Execution → List ℕ
+deducted c [] ys = []
+deducted c (x ∷ xs) [] = []
+deducted c (x ∷ xs) (y ∷ ys) = cond (runs (c .border) (c .export) (x .holder)) (x .energy - y .energy) 0 ∷ deducted c xs ys
 
 -- What holds at a border in a direction with a capacity, of the final offers, the executions, and the executions after cuts.
 pub record Kept (c : Directed) (os : List Offer) (before after : List Execution) : Type 0 where
@@ -113,7 +113,7 @@ pub record Kept (c : Directed) (os : List Offer) (before after : List Execution)
   pub stands : pos (c .energy) <ℤ crossing c os before → crossing c os after ≡ pos (c .energy)
   -- "by the papers' Share": R is at most G, and each loses what Share takes from it
   pub enough : bilateralExcess os before c ≤ sum (amountsOn c before)
-  pub shared : lost c before after ≡ share (bilateralExcess os before c) (amountsOn c before)
+  pub shared : deducted c before after ≡ share (bilateralExcess os before c) (amountsOn c before)
 
 -- the executions accepted at closing, in an hour, "with none cut"
 abbrev pub executionsAt : Book → ℕ → List Execution
