@@ -11,8 +11,9 @@ use borrow.Author.Tests.{ltb-true, ltb-false}
 use Rattle.rules.specs.Lists.{All, none, more, keep, sum, from, addEach}
 use Rattle.rules.specs.Share.{proRata, handOut, share}
 use Rattle.rules.specs.Match.{Offer}
-use Rattle.rules.specs.Borders.{Directed, Execution, runs}
+use Rattle.rules.specs.Borders.{Directed, Execution, runs, atBorder, keeps}
 use Rattle.rules.specs.Executions.{bilateralExcess, cuts, allCuts, lessEach, cutAll}
+use Rattle.rules.specs.Demands.{amountsOn}
 use Rattle.rules.proofs.BoolLaws.{by-bool}
 use Rattle.rules.proofs.ListLaws.{all-map, all-head, all-tail}
 use Rattle.rules.proofs.ShareLaws.{share-length}
@@ -31,7 +32,7 @@ use Rattle.borders.proofs.LimitLaws.{market-at, market-across, execution-at, ex
 use Rattle.deductions.specs.Deductions.{amountAt, amountsIn, deductionsIn, deductionsOver, deductionsFrom}
 use Rattle.cuts.specs.Cuts.{Enough, bothAt, wayAt, lessAt}
 
--- where the market alone fits, the excess is at most the executions' energy
+-- where the market alone fits, the excess is at most what the executions count for
 pub enough-fits : (os : List Offer) (xs : List Execution) {cs : List Directed} → All (Fits os xs) cs → All (Enough os xs) cs
 enough-fits os xs = all-map (λ c f. omega (arith, excess-le os xs c f, amounts-flow c xs))
 
@@ -63,12 +64,9 @@ add-length (k ∷ ks) [] h = absurd (omega arith)
 add-length (k ∷ ks) (l ∷ ls) h = ap (λ n. suc n) (add-length ks ls (omega arith))
 
 module _ (os : List Offer) (xs : List Execution) where
-  abbrev onWay : Directed → List ℕ
-  onWay c = map (λ y. cond (runs (c .border) (c .export) (y .holder)) (y .energy) 0) xs
-
   cuts-length : (c : Directed) → Enough os xs c → length (cuts os xs c) ≡ length xs
   unfolding cuts
-  cuts-length c k = share-length (bilateralExcess os xs c) (onWay c) k ∙ length-map xs _
+  cuts-length c k = share-length (bilateralExcess os xs c) (amountsOn c xs) k ∙ length-map xs _
 
   all-length : {cs : List Directed} → All (Enough os xs) cs → length (allCuts os xs cs) ≡ length xs
   unfolding allCuts
@@ -78,8 +76,8 @@ module _ (os : List Offer) (xs : List Execution) where
   cut-none : (c : Directed) {cs : List Directed} → bilateralExcess os xs c ≡ 0 → All (Enough os xs) cs → allCuts os xs (c ∷ cs) ≡ allCuts os xs cs
   unfolding allCuts cuts
   cut-none c {cs} z t =
-      rw z (ap (λ l. addEach l (allCuts os xs cs)) (share-none (onWay c))
-      ∙ add-none (onWay c) (allCuts os xs cs) (all-length t ∙ sym (length-map xs _)))
+      rw z (ap (λ l. addEach l (allCuts os xs cs)) (share-none (amountsOn c xs))
+      ∙ add-none (amountsOn c xs) (allCuts os xs cs) (all-length t ∙ sym (length-map xs _)))
 
 -- The rules' cuts
 
@@ -93,8 +91,8 @@ module _ (x : Executions) (os : List Offer) (flags : List Bool) (capacities mark
     (sums : (w : ℕ) → w < 10 → getD both w 0 ≡ getD market w 0 + getD executions w 0)
     (excess : (w : ℕ) → 2 ≤ w → w < 10 → getD over w 0 ≡ excessIn flags capacities both w) where
   -- the executions' energies in the direction at a place
-  amounts-said : (w : ℕ) → amountsIn ways energy (x .count) w ≡ onWay os (executionsOf x energy) (directed capacities w)
-  unfolding amountsIn amountAt executionsOf
+  amounts-said : (w : ℕ) → amountsIn ways energy (x .count) w ≡ amountsOn (directed capacities w) (executionsOf x energy)
+  unfolding amountsIn amountAt executionsOf atBorder
   amounts-said w =
       map-all (λ i. cond (eqb (getD ways i 0) w) (getD energy i 0) 0)
       (λ i. cond (runs (directed capacities w .border) (directed capacities w .export) (executionAt x energy i .holder)) (getD energy i 0) 0)
@@ -124,7 +122,7 @@ module _ (x : Executions) (os : List Offer) (flags : List Bool) (capacities mark
   deductions-said : (w r : ℕ) → r ≡ bilateralExcess os (executionsOf x energy) (directed capacities w) → Enough os (executionsOf x energy) (directed capacities w)
       → deductionsIn ways energy (x .count) r w ≡ cuts os (executionsOf x energy) (directed capacities w)
   unfolding deductionsIn cuts
-  deductions-said w r q k = rw (q, amounts-said w) (ap (λ r. share r (onWay os (executionsOf x energy) (directed capacities w))) (lesser k))
+  deductions-said w r q k = rw (q, amounts-said w) (ap (λ r. share r (amountsOn (directed capacities w) (executionsOf x energy))) (lesser k))
     where
       lesser : {a b : ℕ} → a ≤ b → min a b ≡ a
       lesser k = omega arith
@@ -152,7 +150,7 @@ module _ (x : Executions) (os : List Offer) (flags : List Bool) (capacities mark
 -- each execution without what it loses
 less-places : (x : Executions) (before after deducted : List ℕ) {is : List ℕ} → All (λ i. getD after i 0 ≡ getD before i 0 - getD deducted i 0) is
     → map (executionAt x after) is ≡ lessEach (map (λ j. getD deducted j 0) is) (map (executionAt x before) is)
-unfolding lessEach
+unfolding lessEach keeps
 less-places x before after deducted none = refl
 less-places x before after deducted (more {x = i} h t) =
     ap₂ (λ (n : ℕ) (l : List Execution). record { holder = executionAt x before i .holder; energy = n } ∷ l) h (less-places x before after deducted t)

@@ -133,7 +133,7 @@ cond-add true k l = refl
 cond-add false k l = refl
 
 -- an element outside the group loses nothing
-none-left : (b : Bool) (n : ℕ) {l : ℕ} → b ≡ false → l ≤ cond b n 0 → l ≡ 0
+pub none-left : (b : Bool) (n : ℕ) {l : ℕ} → b ≡ false → l ≤ cond b n 0 → l ≡ 0
 none-left b n e h = omega (arith, rw e at h)
 
 module _ {A : Type 0} (f : A → ℕ) where

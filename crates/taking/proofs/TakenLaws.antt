@@ -11,6 +11,7 @@ use borrow.Author.Tests.{ltb-true}
 use Rattle.rules.specs.Lists.{All, none, more, from, keep, any, sum, addEach}
 use Rattle.rules.specs.Share.{share}
 use Rattle.rules.specs.Match.{Offer, withEnergies}
+use Rattle.rules.specs.Borders.{atBorder, keeps}
 use Rattle.rules.specs.Withdrawal.{givesWay, amounts, deductions, allDeductions, remain, takeFrom}
 use Rattle.rules.proofs.BoolLaws.{by-bool}
 use Rattle.arrays.specs.Places.{vals, layOn}
@@ -39,7 +40,7 @@ given-laid h over g z l e =
 
 module _ (h : Offers) (over : List ℕ) (g : Group) (e m given : List ℕ) (d : GivenIn h over g given) where
   amounts-same : (w : ℕ) → 2 ≤ w → 0 < getD over w 0 → amountsIn given m (h .count) w ≡ amounts (groupIn g) (directed over w) (offersOf h e m)
-  unfolding amountsIn amountAt amounts offersOf
+  unfolding amountsIn amountAt amounts atBorder offersOf
   amounts-same w a b =
       map-both (λ i. cond (eqb (getD given i 0) w) (getD m i 0) 0) (λ o. cond (givesWay (groupIn g) (directed over w) o) (o .matched) 0) (offerAt h e m)
       (from-all _ 0 (h .count) (λ i k l. rw (d .each i (omega arith), gives-at over g (offerAt h e m i) w a b)))
@@ -59,7 +60,7 @@ module _ (h : Offers) (over : List ℕ) (g : Group) (e m given : List ℕ) (d : 
 
   remain-places : (p : Offer → Bool) (f : ℕ → ℕ) (is : List ℕ)
       → remain p (map f is) (map (offerAt h e m) is) ≡ map (λ i. withEnergies (cond (p (offerAt h e m i)) (getD m i 0 - f i) (getD e i 0)) (getD m i 0) (offerAt h e m i)) is
-  unfolding remain
+  unfolding remain keeps
   remain-places p f [] = refl
   remain-places p f (i ∷ is) = ap (λ (l : List Offer). withEnergies (cond (p (offerAt h e m i)) (getD m i 0 - f i) (getD e i 0)) (getD m i 0) (offerAt h e m i) ∷ l) (remain-places p f is)
 
