@@ -10,7 +10,7 @@ use lib.ListN.{getD, set, length}
 use lib.Seq.{getD-set-same, getD-set-other}
 use borrow.Author.Tests.{eqb-true, eqb-false, ne-eqb}
 use Rattle.rules.specs.Lists.{keep, sum, sumOf, from}
-use Rattle.rules.specs.Borders.{Execution, runs, flow}
+use Rattle.rules.specs.Borders.{Execution, runs, atBorder, flow}
 use Rattle.rules.proofs.BoolLaws.{by-bool}
 use Rattle.arrays.specs.Listing.{behind, Listed}
 use Rattle.arrays.proofs.PlaceLaws.{from-next, from-end, none-off, set-small}
@@ -96,7 +96,7 @@ kept-sum energy p at g h (i ∷ is) =
 pub execution-flows : (x : Executions) (energy : List ℕ) {f : List ℕ}
     → ByWay false (x .border) (x .purchase) (x .legacy) energy (x .count) f
     → ExecutionFlows f (executionsOf x energy)
-unfolding flowFrom flow executionsOf addsTo countedFor
+unfolding flowFrom flow atBorder executionsOf addsTo countedFor
 execution-flows x energy k b e l =
     k .sums (wayOf b e)
     ∙ ap (λ n. sumOf (addsTo false (x .border) (x .purchase) (x .legacy) energy (wayOf b e)) (from 0 n)) (none-off (x .count))

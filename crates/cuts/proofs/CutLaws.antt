@@ -11,8 +11,9 @@ use borrow.Author.Tests.{ltb-true, ltb-false}
 use Rattle.rules.specs.Lists.{All, none, more, keep, sum, from, addEach}
 use Rattle.rules.specs.Share.{proRata, handOut, share}
 use Rattle.rules.specs.Match.{Offer}
-use Rattle.rules.specs.Borders.{Directed, Execution, runs}
+use Rattle.rules.specs.Borders.{Directed, Execution, runs, atBorder, keeps}
 use Rattle.rules.specs.Executions.{bilateralExcess, cuts, allCuts, lessEach, cutAll}
+use Rattle.rules.specs.Demands.{amountsOn}
 use Rattle.rules.proofs.BoolLaws.{by-bool}
 use Rattle.rules.proofs.ListLaws.{all-map, all-head, all-tail}
 use Rattle.rules.proofs.ShareLaws.{share-length}
@@ -28,10 +29,10 @@ use Rattle.borders.specs.Limits.{acrossOf, excessIn}
 use Rattle.borders.specs.View.{executionAt, executionsOf}
 use Rattle.borders.proofs.WayLaws.{runs-directed, way-small}
 use Rattle.borders.proofs.LimitLaws.{market-at, market-across, execution-at, execution-across}
-use Rattle.losses.specs.Losses.{amountAt, amountsIn, lossesIn, lossesOver, lossesFrom}
+use Rattle.deductions.specs.Deductions.{amountAt, amountsIn, deductionsIn, deductionsOver, deductionsFrom}
 use Rattle.cuts.specs.Cuts.{Enough, bothAt, wayAt, lessAt}
 
--- where the market alone fits, the excess is at most the executions' energy
+-- where the market alone fits, the excess is at most what the executions count for
 pub enough-fits : (os : List Offer) (xs : List Execution) {cs : List Directed} → All (Fits os xs) cs → All (Enough os xs) cs
 enough-fits os xs = all-map (λ c f. omega (arith, excess-le os xs c f, amounts-flow c xs))
 
@@ -63,12 +64,9 @@ add-length (k ∷ ks) [] h = absurd (omega arith)
 add-length (k ∷ ks) (l ∷ ls) h = ap (λ n. suc n) (add-length ks ls (omega arith))
 
 module _ (os : List Offer) (xs : List Execution) where
-  abbrev onWay : Directed → List ℕ
-  onWay c = map (λ y. cond (runs (c .border) (c .export) (y .holder)) (y .energy) 0) xs
-
   cuts-length : (c : Directed) → Enough os xs c → length (cuts os xs c) ≡ length xs
   unfolding cuts
-  cuts-length c k = share-length (bilateralExcess os xs c) (onWay c) k ∙ length-map xs _
+  cuts-length c k = share-length (bilateralExcess os xs c) (amountsOn c xs) k ∙ length-map xs _
 
   all-length : {cs : List Directed} → All (Enough os xs) cs → length (allCuts os xs cs) ≡ length xs
   unfolding allCuts
@@ -78,8 +76,8 @@ module _ (os : List Offer) (xs : List Execution) where
   cut-none : (c : Directed) {cs : List Directed} → bilateralExcess os xs c ≡ 0 → All (Enough os xs) cs → allCuts os xs (c ∷ cs) ≡ allCuts os xs cs
   unfolding allCuts cuts
   cut-none c {cs} z t =
-      rw z (ap (λ l. addEach l (allCuts os xs cs)) (share-none (onWay c))
-      ∙ add-none (onWay c) (allCuts os xs cs) (all-length t ∙ sym (length-map xs _)))
+      rw z (ap (λ l. addEach l (allCuts os xs cs)) (share-none (amountsOn c xs))
+      ∙ add-none (amountsOn c xs) (allCuts os xs cs) (all-length t ∙ sym (length-map xs _)))
 
 -- The rules' cuts
 
@@ -93,8 +91,8 @@ module _ (x : Executions) (os : List Offer) (flags : List Bool) (capacities mark
     (sums : (w : ℕ) → w < 10 → getD both w 0 ≡ getD market w 0 + getD executions w 0)
     (excess : (w : ℕ) → 2 ≤ w → w < 10 → getD over w 0 ≡ excessIn flags capacities both w) where
   -- the executions' energies in the direction at a place
-  amounts-said : (w : ℕ) → amountsIn ways energy (x .count) w ≡ onWay os (executionsOf x energy) (directed capacities w)
-  unfolding amountsIn amountAt executionsOf
+  amounts-said : (w : ℕ) → amountsIn ways energy (x .count) w ≡ amountsOn (directed capacities w) (executionsOf x energy)
+  unfolding amountsIn amountAt executionsOf atBorder
   amounts-said w =
       map-all (λ i. cond (eqb (getD ways i 0) w) (getD energy i 0) 0)
       (λ i. cond (runs (directed capacities w .border) (directed capacities w .export) (executionAt x energy i .holder)) (getD energy i 0) 0)
@@ -121,59 +119,59 @@ module _ (x : Executions) (os : List Offer) (flags : List Bool) (capacities mark
   unfolding excessIn
   over-none w h k f = excess w h k ∙ rw f
 
-  losses-said : (w r : ℕ) → r ≡ bilateralExcess os (executionsOf x energy) (directed capacities w) → Enough os (executionsOf x energy) (directed capacities w)
-      → lossesIn ways energy (x .count) r w ≡ cuts os (executionsOf x energy) (directed capacities w)
-  unfolding lossesIn cuts
-  losses-said w r q k = rw (q, amounts-said w) (ap (λ r. share r (onWay os (executionsOf x energy) (directed capacities w))) (lesser k))
+  deductions-said : (w r : ℕ) → r ≡ bilateralExcess os (executionsOf x energy) (directed capacities w) → Enough os (executionsOf x energy) (directed capacities w)
+      → deductionsIn ways energy (x .count) r w ≡ cuts os (executionsOf x energy) (directed capacities w)
+  unfolding deductionsIn cuts
+  deductions-said w r q k = rw (q, amounts-said w) (ap (λ r. share r (amountsOn (directed capacities w) (executionsOf x energy))) (lesser k))
     where
       lesser : {a b : ℕ} → a ≤ b → min a b ≡ a
       lesser k = omega arith
 
-  abbrev Losses : List ℕ → Type 0
-  Losses ws = lossesOver over ways energy (x .count) ws ≡ allCuts os (executionsOf x energy) (map (directed capacities) (keep (λ w. getD flags w false) ws))
+  abbrev Deductions : List ℕ → Type 0
+  Deductions ws = deductionsOver over ways energy (x .count) ws ≡ allCuts os (executionsOf x energy) (map (directed capacities) (keep (λ w. getD flags w false) ws))
 
-  all-said : {ws : List ℕ} → All (λ w. (2 ≤ w) × (w < 10)) ws → All (Enough os (executionsOf x energy)) (map (directed capacities) (keep (λ w. getD flags w false) ws)) → Losses ws
-  unfolding lossesOver allCuts executionsOf keep
+  all-said : {ws : List ℕ} → All (λ w. (2 ≤ w) × (w < 10)) ws → All (Enough os (executionsOf x energy)) (map (directed capacities) (keep (λ w. getD flags w false) ws)) → Deductions ws
+  unfolding deductionsOver allCuts executionsOf keep
   all-said none k = sym (map-map (λ y. 0) (executionAt x energy) (from 0 (x .count)))
   all-said (more {x = w} h t) k =
       by-bool (getD flags w false)
       (λ f. let e = rw f at k in let r = all-said t (all-tail e) in
       by-bool (ltb 0 (getD over w 0))
-      (λ o. rw (f, o) (ap₂ addEach (losses-said w (getD over w 0) (over-said w (h .0) (h .1) f) (all-head e)) r))
+      (λ o. rw (f, o) (ap₂ addEach (deductions-said w (getD over w 0) (over-said w (h .0) (h .1) f) (all-head e)) r))
       (λ o. rw (f, o) (r ∙ sym (cut-none os (executionsOf x energy) (directed capacities w) (sym (over-said w (h .0) (h .1) f) ∙ omega (arith, ltb-false 0 (getD over w 0) o)) (all-tail e)))))
       (λ f. rw (f, over-none w (h .0) (h .1) f) (all-said t (rw f at k)))
 
-  -- the losses in all published directions
+  -- the deductions in all published directions
   published-said : All (Enough os (executionsOf x energy)) (publishedIn flags capacities)
-      → lossesFrom over ways energy (x .count) 2 ≡ allCuts os (executionsOf x energy) (publishedIn flags capacities)
-  unfolding lossesFrom publishedIn
+      → deductionsFrom over ways energy (x .count) 2 ≡ allCuts os (executionsOf x energy) (publishedIn flags capacities)
+  unfolding deductionsFrom publishedIn
   published-said k = all-said (from-all _ 2 8 (λ w h l. (h, omega arith))) k
 
 -- each execution without what it loses
-less-places : (x : Executions) (before after lost : List ℕ) {is : List ℕ} → All (λ i. getD after i 0 ≡ getD before i 0 - getD lost i 0) is
-    → map (executionAt x after) is ≡ lessEach (map (λ j. getD lost j 0) is) (map (executionAt x before) is)
-unfolding lessEach
-less-places x before after lost none = refl
-less-places x before after lost (more {x = i} h t) =
-    ap₂ (λ (n : ℕ) (l : List Execution). record { holder = executionAt x before i .holder; energy = n } ∷ l) h (less-places x before after lost t)
+less-places : (x : Executions) (before after deducted : List ℕ) {is : List ℕ} → All (λ i. getD after i 0 ≡ getD before i 0 - getD deducted i 0) is
+    → map (executionAt x after) is ≡ lessEach (map (λ j. getD deducted j 0) is) (map (executionAt x before) is)
+unfolding lessEach keeps
+less-places x before after deducted none = refl
+less-places x before after deducted (more {x = i} h t) =
+    ap₂ (λ (n : ℕ) (l : List Execution). record { holder = executionAt x before i .holder; energy = n } ∷ l) h (less-places x before after deducted t)
 
-cut-list : (x : Executions) (energy lost : List ℕ) → x .count ≤ length energy
-    → executionsOf x (layOn (lessAt lost) (x .count) 0 energy) ≡ lessEach (vals lost 0 (x .count)) (executionsOf x energy)
+cut-list : (x : Executions) (energy deducted : List ℕ) → x .count ≤ length energy
+    → executionsOf x (layOn (lessAt deducted) (x .count) 0 energy) ≡ lessEach (vals deducted 0 (x .count)) (executionsOf x energy)
 unfolding executionsOf vals lessAt
-cut-list x energy lost l =
-    less-places x energy (layOn (lessAt lost) (x .count) 0 energy) lost
-    (from-all _ 0 (x .count) (λ i a b. lay-at (lessAt lost) (x .count) 0 i energy a b (omega arith)))
-    ∙ ap (λ k. lessEach (map (λ j. getD lost j 0) (from 0 k)) (map (executionAt x energy) (from 0 (x .count)))) (sym (none-off (x .count)))
+cut-list x energy deducted l =
+    less-places x energy (layOn (lessAt deducted) (x .count) 0 energy) deducted
+    (from-all _ 0 (x .count) (λ i a b. lay-at (lessAt deducted) (x .count) 0 i energy a b (omega arith)))
+    ∙ ap (λ k. lessEach (map (λ j. getD deducted j 0) (from 0 k)) (map (executionAt x energy) (from 0 (x .count)))) (sym (none-off (x .count)))
 
-pub cut-said : (x : Executions) (os : List Offer) (flags : List Bool) (capacities market executions border : List ℕ) (purchase : List Bool) (energy both over ways lost : List ℕ) (n : ℕ)
+pub cut-said : (x : Executions) (os : List Offer) (flags : List Bool) (capacities market executions border : List ℕ) (purchase : List Bool) (energy both over ways deducted : List ℕ) (n : ℕ)
     → n ≤ 128 → n ≤ length energy → ways ≡ layOn (wayAt border purchase) n 0 (replicate 128 0) → both ≡ layOn (bothAt market executions) 10 0 (replicate 10 0)
-    → ((w : ℕ) → 2 ≤ w → w < 10 → getD over w 0 ≡ excessIn flags capacities both w) → vals lost 0 n ≡ lossesFrom over ways energy n 2
+    → ((w : ℕ) → 2 ≤ w → w < 10 → getD over w 0 ≡ excessIn flags capacities both w) → vals deducted 0 n ≡ deductionsFrom over ways energy n 2
     → x .count ≡ n → x .border ≡ border → x .purchase ≡ purchase
     → MarketFlows market os → ExecutionFlows executions (executionsOf x energy) → All (Enough os (executionsOf x energy)) (publishedIn flags capacities)
-    → executionsOf x (layOn (lessAt lost) n 0 energy) ≡ cutAll os (publishedIn flags capacities) (executionsOf x energy)
+    → executionsOf x (layOn (lessAt deducted) n 0 energy) ≡ cutAll os (publishedIn flags capacities) (executionsOf x energy)
 unfolding cutAll wayAt bothAt
-cut-said x os flags capacities market executions border purchase energy both over ways lost n few l ew eb eo e qn qb qp km kx k =
-    rw (← qn) (cut-list x energy lost (omega arith))
+cut-said x os flags capacities market executions border purchase energy both over ways deducted n few l ew eb eo e qn qb qp km kx k =
+    rw (← qn) (cut-list x energy deducted (omega arith))
     ∙ ap (λ (ls : List ℕ). lessEach ls (executionsOf x energy))
     ((rw (← qn) at e) ∙ published-said x os flags capacities market executions energy both over ways km kx
     (λ i h. rw (ew, qb, qp) (lay-at (wayAt border purchase) n 0 i (replicate 128 0) (omega arith) (omega arith) (rw (length-replicate {A = ℕ} 128 0) (omega arith))))
@@ -181,9 +179,9 @@ cut-said x os flags capacities market executions border purchase energy both ove
     eo k)
 
 -- no energy grows
-pub cut-down : (n : ℕ) (energy lost : List ℕ) → n ≤ length energy → (i : ℕ) → getD (layOn (lessAt lost) n 0 energy) i 0 ≤ getD energy i 0
+pub cut-down : (n : ℕ) (energy deducted : List ℕ) → n ≤ length energy → (i : ℕ) → getD (layOn (lessAt deducted) n 0 energy) i 0 ≤ getD energy i 0
 unfolding lessAt
-cut-down n energy lost l i =
+cut-down n energy deducted l i =
     by-bool (ltb i n)
-    (λ t. let h = ltb-true i n t in omega (arith, lay-at (lessAt lost) n 0 i energy (omega arith) (omega arith) (omega arith)))
-    (λ t. omega (arith, ltb-false i n t, lay-beyond (lessAt lost) n 0 i energy (omega (arith, ltb-false i n t))))
+    (λ t. let h = ltb-true i n t in omega (arith, lay-at (lessAt deducted) n 0 i energy (omega arith) (omega arith) (omega arith)))
+    (λ t. omega (arith, ltb-false i n t, lay-beyond (lessAt deducted) n 0 i energy (omega (arith, ltb-false i n t))))

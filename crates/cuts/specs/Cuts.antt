@@ -1,17 +1,18 @@
 -- What executions lose, from arrays.
 use Prim.Native.Nat.{ℕ, _+_, _-_, _≤_}
-use mathlib.Core.Bool.{Bool, false, cond}
-use mathlib.Core.List.{List, map}
+use mathlib.Core.Bool.{Bool, false}
+use mathlib.Core.List.{List}
 use lib.ListN.{getD}
 use Rattle.rules.specs.Lists.{sum}
 use Rattle.rules.specs.Match.{Offer}
-use Rattle.rules.specs.Borders.{Directed, Execution, runs}
+use Rattle.rules.specs.Borders.{Directed, Execution}
 use Rattle.rules.specs.Executions.{bilateralExcess}
+use Rattle.rules.specs.Demands.{amountsOn}
 use Rattle.borders.specs.Ways.{wayOf}
 
--- "R ≤ G": a direction's excess is at most the executions' energy in it
+-- "R ≤ G": a direction's excess is at most what the executions in it count for
 abbrev pub Enough : List Offer → List Execution → Directed → Type 0
-Enough os xs c = bilateralExcess os xs c ≤ sum (map (λ x. cond (runs (c .border) (c .export) (x .holder)) (x .energy) 0) xs)
+Enough os xs c = bilateralExcess os xs c ≤ sum (amountsOn c xs)
 
 -- market and executions together at a place
 unfoldable pub bothAt : List ℕ → List ℕ → ℕ → ℕ → ℕ

@@ -38,12 +38,12 @@ fn all_ways<'a>(ways: &mut [u32; 128], n: usize, border: &'a [u32; 128], purchas
 }
 
 // Each of the first n energies without what it loses.
-fn take_from(energy: &mut [u32; 128], lost: &[u32; 128], n: usize)
+fn take_from(energy: &mut [u32; 128], deducted: &[u32; 128], n: usize)
     requires { ⌜ n ≤ 128 ⌝ }
-    ensures { λ _. ⌜ now (energy .exit) ≡ layOn (lessAt (now (lost .entry))) n 0 (now (energy .entry)) ⌝ }
+    ensures { λ _. ⌜ now (energy .exit) ≡ layOn (lessAt (now (deducted .entry))) n 0 (now (energy .entry)) ⌝ }
 {
     for i in 0..n {
-        let e = arrays::less(energy[i], lost[i]);
+        let e = arrays::less(energy[i], deducted[i]);
         energy[i] = e;
     }
 }
@@ -73,7 +73,7 @@ pub fn cut<'a>(
     let over = borders::excesses(flags, capacities, &both);
     let mut ways = [0u32; 128];
     all_ways(&mut ways, n, border, purchase);
-    let mut lost = [0u32; 128];
-    losses::all_losses(&mut lost, n, &over, &ways, energy);
-    take_from(energy, &lost, n)
+    let mut deducted = [0u32; 128];
+    deductions::all_deductions(&mut deducted, n, &over, &ways, energy);
+    take_from(energy, &deducted, n)
 }

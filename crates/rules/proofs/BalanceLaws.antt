@@ -76,11 +76,11 @@ positive-less-less x i f g k =
 
 -- Flows and balances
 
--- the matched energy at a border in a direction
+-- what is matched at a border in a direction, as counted there
 abbrev pub marketFlow : ℕ → Bool → List Offer → ℕ
 marketFlow border export os = flow (λ o. o .holder) (λ o. o .matched) border export os
 
--- the executions' energy at a border in a direction
+-- what is executed there
 abbrev pub executionFlow : ℕ → Bool → List Execution → ℕ
 executionFlow border export xs = flow (λ x. x .holder) (λ x. x .energy) border export xs
 

@@ -5,21 +5,22 @@ use mathlib.Core.Path.{_≡_, refl, ap, ap₂, _∙_}
 use mathlib.Core.Bool.{Bool, true, false, cond, not, Bool·not-not}
 use mathlib.Core.List.{List, [], _∷_, map}
 use native.Mathlib.Omega.{arith}
-use native.Mathlib.Nat.{le-refl}
+use native.Mathlib.Nat.{le-refl, le-trans}
 use lib.Dec.{ltb}
 use borrow.Author.Tests.{ltb-true, ltb-false}
 use Rattle.rules.specs.Lists.{All, none, more, keep, any, sum, sumOf, addEach}
 use Rattle.rules.specs.Match.{Offer}
-use Rattle.rules.specs.Borders.{Directed, Execution, runs, flow}
+use Rattle.rules.specs.Borders.{Directed, Execution, runs, atBorder, keeps, flow}
 use Rattle.rules.specs.Executions.{bilateralExcess, cuts, allCuts, lessEach, cutAll}
 pub use Rattle.rules.specs.Demands.{CutDown, SomeCut, this, another, amountsOn, Kept}
-unfoldable pub use Rattle.rules.specs.Demands.{lost}
+unfoldable pub use Rattle.rules.specs.Demands.{deducted}
 use Rattle.rules.proofs.BoolLaws.{by-bool, not-both, of-not}
 use Rattle.rules.proofs.ElementLaws.{all-both, empty, ahead, Each, each0, each, each-refl}
 use Rattle.rules.proofs.ShareLaws.{Under, under0, under, each-sum, share-sum, share-under}
-use Rattle.rules.proofs.SumLaws.{sum-zeros, cond-le, masked, zeros-under, masked-sum, under-add, passing, passing-self, passing-none, passing-add, passing-le, add-zeros}
+use Rattle.rules.proofs.SumLaws.{sum-zeros, cond-le, masked, none-left, zeros-under, masked-sum, under-add, passing, passing-self, passing-none, passing-add, passing-le, add-zeros}
 use Rattle.rules.proofs.BalanceLaws.{marketFlow, executionFlow, crossing-flows, bilateral-flows, passes-excess, sub-le, sub-at}
 use Rattle.rules.proofs.DirectionLaws.{sameDirection, same-parts, Once, runs-one, runs-none}
+use Rattle.rules.proofs.CrossingLaws.{kept-at, kept-less, kept-le, kept-all, kept-some}
 
 -- What a cut leaves
 
@@ -31,12 +32,17 @@ on c x = runs (c .border) (c .export) (x .holder)
 abbrev among : List Directed → Execution → Bool
 among cs x = any (λ c. runs (c .border) (c .export) (x .holder)) cs
 
+-- what an execution counts for at its border
+abbrev counted : Execution → ℕ
+counted x = atBorder (x .holder) (x .energy)
+
+-- what is left of it when k of that is taken
+abbrev left : Execution → ℕ → ℕ
+left x k = keeps (x .holder) (x .energy) k
+
 -- one execution after a cut
-down : (x : Execution) (l : ℕ) → CutDown x (record { holder = x .holder; energy = x .energy - l })
-down x l = record { holder = refl; energy = sub-le-self (x .energy) l }
-  where
-    sub-le-self : (n l : ℕ) → n - l ≤ n
-    sub-le-self n l = omega arith
+down : (x : Execution) (k : ℕ) → CutDown x (record { holder = x .holder; energy = left x k })
+down x k = record { holder = refl; energy = kept-le (x .holder) (x .energy) k }
 
 -- an execution's energy after cuts is at most its energy
 pub less-down : (ls : List ℕ) (xs : List Execution) → Each CutDown xs (lessEach ls xs)
@@ -45,49 +51,54 @@ less-down ls [] = each0
 less-down [] (x ∷ xs) = each-refl (λ x. record { holder = refl; energy = le-refl (x .energy) }) (x ∷ xs)
 less-down (l ∷ ls) (x ∷ xs) = each (down x l) (less-down ls xs)
 
--- who is in none of the directions loses nothing
-all-left : (b : Bool) (n l : ℕ) → b ≡ false → l ≤ cond b n 0 → n - l ≡ n
-all-left b n l e h = omega (arith, rw e at h)
-
--- losses none of which is above the execution's energy
+-- deductions none of which is above what the execution counts for
 module _ (q : Execution → Bool) where
-  -- the flow after the losses, and what was lost in it
-  less-flow : (border : ℕ) (export : Bool) {ls : List ℕ} (xs : List Execution) → Under ls (masked q (λ x. x .energy) xs)
+  -- so each can be taken
+  within : (x : Execution) {k : ℕ} → k ≤ cond (q x) (counted x) 0 → k ≤ counted x
+  within x h = le-trans h (cond-le (q x) (counted x))
+
+  -- who is in none of the directions loses nothing
+  all-left : (x : Execution) (k : ℕ) → q x ≡ false → k ≤ cond (q x) (counted x) 0 → left x k ≡ x .energy
+  all-left x k e h = ap (left x) (none-left (q x) (counted x) e h) ∙ kept-all (x .holder) (x .energy)
+
+  -- the flow after the deductions, and what was deducted from it
+  less-flow : (border : ℕ) (export : Bool) {ls : List ℕ} (xs : List Execution) → Under ls (masked q counted xs)
       → executionFlow border export (lessEach ls xs) + sum (passing (λ x. runs border export (x .holder)) ls xs) ≡ executionFlow border export xs
   unfolding flow keep sumOf sum lessEach passing
   less-flow border export [] under0 = refl
-  less-flow border export (x ∷ xs) (under h t) =
+  less-flow border export (x ∷ xs) (under {a = k} h t) =
       by-bool (runs border export (x .holder))
-      (λ e. rw e (omega (arith, cond-le (q x) (x .energy), less-flow border export xs t))) (λ e. rw e (omega (arith, less-flow border export xs t)))
+      (λ e. rw e (omega (arith, within x h, kept-at (x .holder) (x .energy) k, less-flow border export xs t)))
+      (λ e. rw e (omega (arith, less-flow border export xs t)))
 
-  -- what is lost in a direction is that direction's part of the losses
-  lost-passing : (c : Directed) {ls : List ℕ} (xs : List Execution) → Under ls (masked q (λ x. x .energy) xs) → lost c xs (lessEach ls xs) ≡ passing (on c) ls xs
-  unfolding lost lessEach passing
-  lost-passing c [] under0 = refl
-  lost-passing c (x ∷ xs) (under {a = l} h t) =
-      ap₂ (λ (n : ℕ) (r : List ℕ). cond (on c x) n 0 ∷ r) (omega (arith, cond-le (q x) (x .energy))) (lost-passing c xs t)
+  -- what is deducted in a direction is that direction's part of the deductions
+  deducted-passing : (c : Directed) {ls : List ℕ} (xs : List Execution) → Under ls (masked q counted xs) → deducted c xs (lessEach ls xs) ≡ passing (on c) ls xs
+  unfolding deducted lessEach passing
+  deducted-passing c [] under0 = refl
+  deducted-passing c (x ∷ xs) (under {a = k} h t) =
+      ap₂ (λ (n : ℕ) (r : List ℕ). cond (on c x) n 0 ∷ r) (omega (arith, within x h, kept-at (x .holder) (x .energy) k)) (deducted-passing c xs t)
 
-  -- where something is lost in a direction some execution is cut
-  some-of-sum : (c : Directed) {ls : List ℕ} (xs : List Execution) → Under ls (masked q (λ x. x .energy) xs) → 0 < sum (passing (on c) ls xs) → SomeCut c xs (lessEach ls xs)
+  -- where something is deducted in a direction some execution is cut
+  some-of-sum : (c : Directed) {ls : List ℕ} (xs : List Execution) → Under ls (masked q counted xs) → 0 < sum (passing (on c) ls xs) → SomeCut c xs (lessEach ls xs)
   unfolding lessEach passing sum
   some-of-sum c [] under0 k = absurd (omega arith)
-  some-of-sum c (x ∷ xs) (under {a = l} h t) k =
+  some-of-sum c (x ∷ xs) (under {a = k} h t) s =
       by-bool (on c x)
-      (λ e. by-bool (ltb 0 l) (λ p. this e (omega (arith, cond-le (q x) (x .energy), ltb-true 0 l p)))
-      (λ p. another (some-of-sum c xs t (omega (arith, rw e at k, ltb-false 0 l p)))))
-      (λ e. another (some-of-sum c xs t (omega (arith, rw e at k))))
+      (λ e. by-bool (ltb 0 k) (λ p. this e (omega (arith, kept-less (x .holder) (x .energy) k (within x h), ltb-true 0 k p)))
+      (λ p. another (some-of-sum c xs t (omega (arith, rw e at s, ltb-false 0 k p)))))
+      (λ e. another (some-of-sum c xs t (omega (arith, rw e at s))))
 
   -- and the other way
-  sum-of-some : (c : Directed) {ls : List ℕ} (xs : List Execution) → Under ls (masked q (λ x. x .energy) xs) → SomeCut c xs (lessEach ls xs) → 0 < sum (passing (on c) ls xs)
+  sum-of-some : (c : Directed) {ls : List ℕ} (xs : List Execution) → Under ls (masked q counted xs) → SomeCut c xs (lessEach ls xs) → 0 < sum (passing (on c) ls xs)
   unfolding lessEach passing sum
-  sum-of-some c (x ∷ xs) (under {a = l} h t) (this r k) = rw r (omega arith)
+  sum-of-some c (x ∷ xs) (under {a = k} h t) (this r l) = rw r (omega (arith, kept-some (x .holder) (x .energy) k l))
   sum-of-some c (x ∷ xs) (under h t) (another s) = omega (arith, sum-of-some c xs t s)
 
   -- who is in none of the directions keeps all
-  less-other : {ls : List ℕ} (xs : List Execution) → Under ls (masked q (λ x. x .energy) xs) → Each (λ x y. q x ≡ false → y .energy ≡ x .energy) xs (lessEach ls xs)
+  less-other : {ls : List ℕ} (xs : List Execution) → Under ls (masked q counted xs) → Each (λ x y. q x ≡ false → y .energy ≡ x .energy) xs (lessEach ls xs)
   unfolding lessEach
   less-other [] under0 = each0
-  less-other (x ∷ xs) (under {a = l} h t) = each (λ e. all-left (q x) (x .energy) l e h) (less-other xs t)
+  less-other (x ∷ xs) (under {a = k} h t) = each (λ e. all-left x k e h) (less-other xs t)
 
 -- The cuts
 
@@ -96,13 +107,13 @@ unfoldable pub Fits : List Offer → List Execution → Directed → Type 0
 Fits os xs c =
     marketFlow (c .border) (c .export) os ≤ marketFlow (c .border) (not (c .export)) os + executionFlow (c .border) (not (c .export)) xs + c .energy
 
--- the amounts in a direction sum to the executions' energy in it
+-- the amounts in a direction sum to what the executions count for in it
 pub amounts-flow : (c : Directed) (xs : List Execution) → sum (amountsOn c xs) ≡ executionFlow (c .border) (c .export) xs
 unfolding flow
-amounts-flow c xs = masked-sum (λ x. x .energy) (on c) xs
+amounts-flow c xs = masked-sum counted (on c) xs
 
 module _ (os : List Offer) (xs : List Execution) where
-  -- "R ≤ G": the excess is at most the executions' energy in that direction
+  -- "R ≤ G": the excess is at most what the executions in that direction count for
   pub excess-le : (c : Directed) → Fits os xs c → bilateralExcess os xs c ≤ executionFlow (c .border) (c .export) xs
   unfolding Fits
   excess-le c f = omega (arith, bilateral-flows os xs c)
@@ -118,20 +129,20 @@ module _ (os : List Offer) (xs : List Execution) where
   cuts-sum c f = share-sum _ _ (omega (arith, excess-le c f, amounts-flow c xs))
 
   -- in all directions together too no execution loses more than it has
-  all-cuts-under : {cs : List Directed} → Once cs → All (Fits os xs) cs → Under (allCuts os xs cs) (masked (among cs) (λ x. x .energy) xs)
+  all-cuts-under : {cs : List Directed} → Once cs → All (Fits os xs) cs → Under (allCuts os xs cs) (masked (among cs) counted xs)
   unfolding allCuts any
   all-cuts-under empty none = zeros-under xs
   all-cuts-under (ahead {x = c} {xs = cs} a t) (more f fs) =
-      under-add (λ x. x .energy) (on c) (among cs) (runs-none (λ x. x .holder) on (λ d x h. h) a) xs (cuts-under c f) (all-cuts-under t fs)
+      under-add counted (on c) (among cs) (runs-none (λ x. x .holder) on (λ d x h. h) a) xs (cuts-under c f) (all-cuts-under t fs)
 
   -- in a direction each loses what Share takes there: directions that stand behind take nothing there
   own-cuts : (c : Directed) {cs : List Directed} → All (λ d. sameDirection c d ≡ false) cs → Once cs → Fits os xs c → All (Fits os xs) cs
       → passing (on c) (addEach (cuts os xs c) (allCuts os xs cs)) xs ≡ cuts os xs c
   own-cuts c {cs} a t f fs =
       passing-add (on c) (cuts os xs c) (allCuts os xs cs) xs
-      ∙ ap₂ addEach (passing-self (λ x. x .energy) (on c) xs (cuts-under c f))
-      (passing-none (λ x. x .energy) (on c) (among cs) (λ x h. of-not (on c x) (λ e. not-both h (behind a x e))) xs (all-cuts-under t fs))
-      ∙ add-zeros (λ x. x .energy) (on c) xs (cuts-under c f) .0
+      ∙ ap₂ addEach (passing-self counted (on c) xs (cuts-under c f))
+      (passing-none counted (on c) (among cs) (λ x h. of-not (on c x) (λ e. not-both h (behind a x e))) xs (all-cuts-under t fs))
+      ∙ add-zeros counted (on c) xs (cuts-under c f) .0
     where
       behind : {cs : List Directed} → All (λ d. sameDirection c d ≡ false) cs → (x : Execution) → on c x ≡ true → among cs x ≡ false
       behind = runs-none (λ x. x .holder) on (λ d x h. h)
@@ -141,7 +152,7 @@ module _ (os : List Offer) (xs : List Execution) where
       → passing (on d) (addEach (cuts os xs c) ls) xs ≡ addEach (map (λ x. 0) xs) (passing (on d) ls xs)
   other-cuts c d ls n f =
       passing-add (on d) (cuts os xs c) ls xs
-      ∙ ap (λ (k : List ℕ). addEach k (passing (on d) ls xs)) (passing-none (λ x. x .energy) (on d) (on c) (λ x h. runs-one c d (x .holder) n h) xs (cuts-under c f))
+      ∙ ap (λ (k : List ℕ). addEach k (passing (on d) ls xs)) (passing-none counted (on d) (on c) (λ x h. runs-one c d (x .holder) n h) xs (cuts-under c f))
 
   -- so in each direction the executions lose what Share takes there
   passing-cuts : {cs : List Directed} → Once cs → All (Fits os xs) cs → All (λ c. passing (on c) (allCuts os xs cs) xs ≡ cuts os xs c) cs
@@ -149,7 +160,7 @@ module _ (os : List Offer) (xs : List Execution) where
   passing-cuts empty none = none
   passing-cuts (ahead {x = c} {xs = cs} a t) (more f fs) =
       more (own-cuts c a t f fs)
-      (all-both {P = λ d. (sameDirection c d ≡ false) × Fits os xs d} (λ d n e. other-cuts c d (allCuts os xs cs) (n .0) f ∙ ap (addEach (map (λ x. 0) xs)) e ∙ add-zeros (λ x. x .energy) (on d) xs (cuts-under d (n .1)) .1)
+      (all-both {P = λ d. (sameDirection c d ≡ false) × Fits os xs d} (λ d n e. other-cuts c d (allCuts os xs cs) (n .0) f ∙ ap (addEach (map (λ x. 0) xs)) e ∙ add-zeros counted (on d) xs (cuts-under d (n .1)) .1)
       (all-both (λ d n g. (n, g)) a fs) (passing-cuts t fs))
 
   -- by how far the flows in a direction pass those against it
@@ -229,7 +240,7 @@ module _ (os : List Offer) (xs : List Execution) {cs : List Directed} (once : On
           );
           stands = λ h. rw (crossing-flows c os after) (sub-at _ _ _ (at-after (passes-excess c os xs .0 h)));
           enough = omega (arith, excess-le os xs c f, amounts-flow c xs);
-          shared = lost-passing (among cs) c xs (all-cuts-under os xs once fits) ∙ own;
+          shared = deducted-passing (among cs) c xs (all-cuts-under os xs once fits) ∙ own;
         }
 
   -- every published direction, where the market alone fits

@@ -11,7 +11,7 @@ use lib.Signed.{_≤ℤ_}
 use borrow.Author.Tests.{ltb-true, ltb-false}
 use Rattle.rules.specs.Lists.{All, none, more, keep, sum, sumOf}
 use Rattle.rules.specs.Match.{Offer, withEnergies, volume, matchAll}
-use Rattle.rules.specs.Borders.{Directed, runs, flow, marketBalance, toward}
+use Rattle.rules.specs.Borders.{Directed, runs, atBorder, flow, marketBalance, toward}
 use Rattle.rules.specs.Withdrawal.{excessOf, overruns, keepMatched, groupOf, takeFrom, step, Withdrawn, repeat, stepBound, withdraw}
 use Rattle.rules.proofs.BoolLaws.{by-bool}
 use Rattle.rules.proofs.ListLaws.{all-map}
@@ -51,7 +51,7 @@ kept-flow : (ds : List Directed) (border : ℕ) (export : Bool) (os : List Offer
 unfolding flow keep sumOf sum keepMatched withEnergies
 kept-flow ds border export [] = refl
 kept-flow ds border export (o ∷ os) =
-    by-bool (runs border export (o .holder)) (λ e. rw e (ap (λ n. o .matched + n) (kept-flow ds border export os))) (λ e. rw e (kept-flow ds border export os))
+    by-bool (runs border export (o .holder)) (λ e. rw e (ap (λ n. atBorder (o .holder) (o .matched) + n) (kept-flow ds border export os))) (λ e. rw e (kept-flow ds border export os))
 
 -- a step takes at least one tenth from what is offered
 step-less : (d : Directed) (ds : List Directed) (os : List Offer) → Once (d ∷ ds) → Within os

@@ -15,6 +15,7 @@ pub mod SplitLaws
 pub mod MatchLaws
 pub mod BalanceLaws
 pub mod DirectionLaws
+pub mod CrossingLaws
 pub mod WithdrawalLaws
 pub mod ProgressLaws
 pub mod EndLaws

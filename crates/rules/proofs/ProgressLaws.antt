@@ -15,6 +15,7 @@ use Rattle.rules.specs.Withdrawal.{runsIn, runsAmong, pricesOver, furthe
 use Rattle.rules.proofs.BoolLaws.{by-bool, not-both, both, of-beq}
 use Rattle.rules.proofs.ElementLaws.{all-both, Some, here, there, some-map, some-all, any-true}
 use Rattle.rules.proofs.BalanceLaws.{marketFlow}
+use Rattle.rules.proofs.CrossingLaws.{at-le, at-some}
 
 -- The extreme price is that of an offer
 
@@ -68,7 +69,7 @@ Amount g ds os = Some (λ d. 0 < sum (amounts g d os)) ds
 -- a matched offer of the group that runs in one of the directions
 amount-of : (g : Group) (ds : List Directed) {os : List Offer} → Some (λ o. (0 < o .matched) × (inGroup g o ≡ true) × (runsAmong ds o ≡ true)) os → Amount g ds os
 unfolding amounts givesWay runsAmong sum
-amount-of g ds (here {x = o} h) = some-map (λ d r. let k : runsIn d o ≡ true = r in rw (k, h .1) (omega arith)) (any-true (λ d. runsIn d o) ds (h .2))
+amount-of g ds (here {x = o} h) = some-map (λ d r. let k : runsIn d o ≡ true = r in rw (k, h .1) (omega (arith, at-some (o .holder) (h .0)))) (any-true (λ d. runsIn d o) ds (h .2))
 amount-of g ds (there s) = some-map (λ d r. omega arith) (amount-of g ds s)
 
 -- "matched, non-legacy offers there in the direction passed", of one side
@@ -94,7 +95,7 @@ flow-of border export [] h = absurd (omega arith)
 flow-of border export (o ∷ os) h =
     by-bool (runs border export (o .holder))
     (λ e. by-bool (ltb 0 (o .matched)) (λ k. here (e, ltb-true 0 (o .matched) k))
-    (λ k. there (flow-of border export os (omega (arith, rw e at h, ltb-false 0 (o .matched) k)))))
+    (λ k. there (flow-of border export os (omega (arith, rw e at h, at-le (o .holder) (o .matched), ltb-false 0 (o .matched) k)))))
     (λ e. there (flow-of border export os (rw e at h)))
 
 -- 4. "With neither price": what is matched in a direction passed is legacy

@@ -85,7 +85,7 @@ leftover-le R (suc G) ms h e =
     le-of-mul-le-mul-left {k = suc G} (omega (arith, floors-low R (suc G) (omega arith) ms, ap (λ x. R * x) e)) (omega arith) in
     omega arith
 
--- "To take R": the losses sum to R
+-- "To take R": the deductions sum to R
 pub share-sum : (R : ℕ) (ms : List ℕ) → R ≤ sum ms → sum (share R ms) ≡ R
 unfolding share
 share-sum R ms h =
@@ -104,7 +104,7 @@ module _ (f : ℕ → ℕ) (within : (m : ℕ) → f m ≤ m) where
 strict : (R G : ℕ) (ms : List ℕ) → G ≡ sum ms → R ≤ G → 0 < R - sum (map (proRata R G) ms) → R < G
 strict R G ms e h k = ⊎-elim (λ q. omega (arith, rw q at k, floors-all G (omega arith) ms)) (λ q. q) (eq-or-lt-of-le h)
 
--- no loss is above its amount
+-- no deduction is above its amount
 pub share-under : (R : ℕ) (ms : List ℕ) → R ≤ sum ms → Under (share R ms) ms
 unfolding share
 share-under R ms h =

@@ -1,4 +1,4 @@
--- Laws of sums, and of lists of losses laid over a list: `masked` amounts, and the losses of those that pass a test.
+-- Laws of sums, and of lists of deductions laid over a list: `masked` amounts, and the deductions of those that pass a test.
 use Prim.Native.Nat.{ℕ, _+_, _≤_, zero-le}
 use mathlib.Core.Path.{_≡_, refl, ap, ap₂}
 use mathlib.Core.Bool.{Bool, true, false, cond, not, _||_}
@@ -105,13 +105,13 @@ module _ {A : Type 0} (f : A → ℕ) where
       two-conds true n = omega arith
       two-conds false n = omega arith
 
--- Losses
+-- Deductions
 
 -- the amounts of those that pass a test, 0 for the others
 abbrev pub masked : {A : Type 0} → (A → Bool) → (A → ℕ) → List A → List ℕ
 masked p f xs = map (λ x. cond (p x) (f x) 0) xs
 
--- of some losses those of the elements that pass a test, 0 for the others
+-- of some deductions those of the elements that pass a test, 0 for the others
 unfoldable pub passing : {A : Type 0} → (A → Bool) → List ℕ → List A → List ℕ
 passing p [] xs = []
 passing p (l ∷ ls) [] = []
@@ -127,13 +127,13 @@ cond-both : (a b : Bool) (n : ℕ) {k l : ℕ} → (a ≡ true → b ≡ false) 
 cond-both true b n f h k = omega (arith, rw (f refl) at k)
 cond-both false b n f h k = omega arith
 
--- two losses of an element
+-- two deductions of an element
 cond-add : (b : Bool) (k l : ℕ) → cond b (k + l) 0 ≡ cond b k 0 + cond b l 0
 cond-add true k l = refl
 cond-add false k l = refl
 
 -- an element outside the group loses nothing
-none-left : (b : Bool) (n : ℕ) {l : ℕ} → b ≡ false → l ≤ cond b n 0 → l ≡ 0
+pub none-left : (b : Bool) (n : ℕ) {l : ℕ} → b ≡ false → l ≤ cond b n 0 → l ≡ 0
 none-left b n e h = omega (arith, rw e at h)
 
 module _ {A : Type 0} (f : A → ℕ) where
@@ -143,14 +143,14 @@ module _ {A : Type 0} (f : A → ℕ) where
   masked-sum p [] = refl
   masked-sum p (x ∷ xs) = by-bool (p x) (λ e. rw e (omega (arith, masked-sum p xs))) (λ e. rw e (omega (arith, masked-sum p xs)))
 
-  -- losses of two groups that share no element
+  -- deductions of two groups that share no element
   pub under-add : (p q : A → Bool) → ((x : A) → p x ≡ true → q x ≡ false) → {ks ls : List ℕ} (xs : List A)
       → Under ks (masked p f xs) → Under ls (masked q f xs) → Under (addEach ks ls) (masked (λ x. p x || q x) f xs)
   unfolding addEach
   under-add p q a [] under0 under0 = under0
   under-add p q a (x ∷ xs) (under h t) (under k u) = under (cond-both (p x) (q x) (f x) (a x) h k) (under-add p q a xs t u)
 
-  -- losses of a group are all of that group
+  -- deductions of a group are all of that group
   pub passing-self : (p : A → Bool) {ls : List ℕ} (xs : List A) → Under ls (masked p f xs) → passing p ls xs ≡ ls
   unfolding passing
   passing-self p [] under0 = refl
@@ -171,7 +171,7 @@ module _ {A : Type 0} (f : A → ℕ) where
       cond-zero true = refl
       cond-zero false = refl
 
-  -- nothing lost besides changes no loss
+  -- nothing deducted besides changes no deduction
   pub add-zeros : (p : A → Bool) {ls : List ℕ} (xs : List A) → Under ls (masked p f xs)
       → (addEach ls (map (λ x. 0) xs) ≡ ls) × (addEach (map (λ x. 0) xs) ls ≡ ls)
   unfolding addEach
@@ -180,7 +180,7 @@ module _ {A : Type 0} (f : A → ℕ) where
       let k = add-zeros p xs t in
       (ap₂ (λ (n : ℕ) (r : List ℕ). n ∷ r) (omega arith) (k .0), ap₂ (λ (n : ℕ) (r : List ℕ). n ∷ r) (omega arith) (k .1))
 
--- losses of some are no more than all
+-- deductions of some are no more than all
 pub passing-le : {A : Type 0} (p : A → Bool) (ls : List ℕ) (xs : List A) → sum (passing p ls xs) ≤ sum ls
 unfolding passing sum
 passing-le p [] xs = zero-le
@@ -188,7 +188,7 @@ passing-le p (l ∷ ls) [] = zero-le
 passing-le p (l ∷ ls) (x ∷ xs) =
     by-bool (p x) (λ e. rw e (omega (arith, passing-le p ls xs))) (λ e. rw e (omega (arith, passing-le p ls xs)))
 
--- losses added, then sorted out
+-- deductions added, then sorted out
 pub passing-add : {A : Type 0} (p : A → Bool) (ks ls : List ℕ) (xs : List A) → passing p (addEach ks ls) xs ≡ addEach (passing p ks xs) (passing p ls xs)
 unfolding passing addEach
 passing-add p [] ls xs = refl

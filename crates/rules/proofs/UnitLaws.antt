@@ -13,7 +13,7 @@ use Rattle.rules.specs.Lodging.{Lodgement, energyAt}
 use Rattle.rules.specs.Book.{Book}
 use Rattle.rules.specs.Closing.{acceptedAt}
 use Rattle.rules.specs.Match.{Holder}
-use Rattle.rules.specs.Borders.{Directed, Execution, runs, flow}
+use Rattle.rules.specs.Borders.{Directed, Execution, runs}
 use Rattle.rules.specs.Clearing.{holderOf, offerAt, executionAt, hourOfDay, figuresAt}
 use Rattle.rules.specs.Queries.{matchedAt, executedAt}
 use Rattle.rules.specs.Sound.{Sound}
@@ -239,25 +239,25 @@ module _ (b : Book) (s : Sound b) where
       ≡ sumOf (λ r. matchedAt b (r .unit .number) h) (keep (λ r. Bool·beq (r .unit .purchase) true) (b .units))
   units-balanced h = units-matched false h ∙ figures-cleared b h (s .standing .rising) .balanced ∙ sym (units-matched true h)
 
-  -- what the units of a border and side have matched is what the market has there in that direction
+  -- what the units of a border and side have matched is what is matched of the offers that run there in that direction
   pub units-market : (border : ℕ) (export : Bool) (h : ℕ)
       → sumOf (λ r. matchedAt b (r .unit .number) h) (keep (λ r. eqb (r .unit .border) border && Bool·beq (r .unit .purchase) export) (b .units))
-      ≡ flow (λ o. o .holder) (λ o. o .matched) border export (figuresAt b h .offers)
-  unfolding matchedAt flow
+      ≡ sumOf (λ o. o .matched) (keep (λ o. runs border export (o .holder)) (figuresAt b h .offers))
+  unfolding matchedAt
   units-market border export h = sum-held (λ o. o .holder) (λ o. o .matched) _ (runs border export) (runs-agrees border export) (offers-held h)
 
-  -- and what they have executed is what the executions have there
+  -- and what they have executed is what the executions that run there have
   pub units-executed : (border : ℕ) (export : Bool) (h : ℕ)
       → sumOf (λ r. executedAt b (r .unit .number) h) (keep (λ r. eqb (r .unit .border) border && Bool·beq (r .unit .purchase) export) (b .units))
-      ≡ flow (λ x. x .holder) (λ x. x .energy) border export (figuresAt b h .executions)
-  unfolding executedAt flow
+      ≡ sumOf (λ x. x .energy) (keep (λ x. runs border export (x .holder)) (figuresAt b h .executions))
+  unfolding executedAt
   units-executed border export h = sum-held (λ x. x .holder) (λ x. x .energy) _ (runs border export) (runs-agrees border export) (cut-held h)
 
   -- "with none cut" too
   pub units-accepted : (border : ℕ) (export : Bool) (h : ℕ)
       → sumOf (λ r. acceptedExecuted b (r .unit .number) h) (keep (λ r. eqb (r .unit .border) border && Bool·beq (r .unit .purchase) export) (b .units))
-      ≡ flow (λ x. x .holder) (λ x. x .energy) border export (executionsAt b h)
-  unfolding acceptedExecuted flow
+      ≡ sumOf (λ x. x .energy) (keep (λ x. runs border export (x .holder)) (executionsAt b h))
+  unfolding acceptedExecuted
   units-accepted border export h = sum-held (λ x. x .holder) (λ x. x .energy) _ (runs border export) (runs-agrees border export) (executions-held h)
 
   -- "Some execution there in a direction is cut" exactly when a unit of that border and side has less executed than accepted

@@ -1,5 +1,5 @@
 -- A withdrawal step: no offer offers more after it, holders and prices stay, and what it takes is gone from what is offered.
-use Prim.Native.Nat.{ℕ, _+_, _-_, _≤_, _<_, min, zero-le}
+use Prim.Native.Nat.{ℕ, _+_, _≤_, _<_, min, zero-le}
 use mathlib.Core.Path.{_≡_, refl, _∙_}
 use mathlib.Core.Bool.{Bool, true, false, cond, not, _&&_}
 use mathlib.Core.List.{List, [], _∷_, map}
@@ -7,8 +7,8 @@ use native.Mathlib.Omega.{arith}
 use native.Mathlib.Nat.{le-trans, le-refl}
 use Rattle.rules.specs.Lists.{none, more, any, sum, sumOf}
 use Rattle.rules.specs.Match.{Offer, withEnergies, matchedOf, matchAll}
-use Rattle.rules.specs.Borders.{Directed, runs}
-use Rattle.rules.specs.Withdrawal.{runsIn, runsAmong, keepMatched, Group, inGroup, givesWay, amounts, losses, allLosses, remain, takeFrom, groupOf, step, stepBound}
+use Rattle.rules.specs.Borders.{Directed, runs, atBorder, keeps}
+use Rattle.rules.specs.Withdrawal.{runsIn, runsAmong, keepMatched, Group, inGroup, givesWay, amounts, deductions, allDeductions, remain, takeFrom, groupOf, step, stepBound}
 use Rattle.rules.proofs.BoolLaws.{by-bool, both}
 use Rattle.rules.proofs.ListLaws.{all-map, all-mapped}
 use Rattle.rules.proofs.ElementLaws.{all-every, Some, here, there, some-map, empty, ahead, Each, each0, each, each-map, each-trans, each-pairwise}
@@ -16,6 +16,7 @@ use Rattle.rules.proofs.ShareLaws.{Under, under0, under, each-sum, shar
 use Rattle.rules.proofs.SumLaws.{masked, zeros-under, under-add}
 use Rattle.rules.proofs.MatchLaws.{Rising, Within}
 use Rattle.rules.proofs.DirectionLaws.{Once, runs-none}
+use Rattle.rules.proofs.CrossingLaws.{kept-less, kept-le}
 
 -- An offer against what it was before: the same holder and price, and it offers no more.
 pub record Lowered (before after : Offer) : Type 0 where
@@ -45,23 +46,27 @@ lowered-total (each h t) = omega (arith, h .offered, lowered-total t)
 -- 1. "keep only what is matched"
 
 -- what is kept is between what is matched and what was offered
-kept-le : (b : Bool) {m e : ℕ} → m ≤ e → (m ≤ cond b m e) × (cond b m e ≤ e)
-kept-le true {m} h = (le-refl m, h)
-kept-le false {e} h = (h, le-refl e)
+kept-between : (b : Bool) {m e : ℕ} → m ≤ e → (m ≤ cond b m e) × (cond b m e ≤ e)
+kept-between true {m} h = (le-refl m, h)
+kept-between false {e} h = (h, le-refl e)
 
 module _ (ds : List Directed) where
   -- then no offer offers more
   pub kept-lowered : {os : List Offer} → Within os → Each Lowered os (map (keepMatched ds) os)
   unfolding keepMatched withEnergies
   kept-lowered w =
-      each-map (keepMatched ds) (all-map (λ o h. record { holder = refl; price = refl; offered = kept-le (runsAmong ds o && not (o .holder .legacy)) h .1 }) w)
+      each-map (keepMatched ds) (all-map (λ o h. record { holder = refl; price = refl; offered = kept-between (runsAmong ds o && not (o .holder .legacy)) h .1 }) w)
 
   -- and each still offers what it has matched
   pub kept-within : {os : List Offer} → Within os → Within (map (keepMatched ds) os)
   unfolding keepMatched withEnergies
-  kept-within w = all-mapped (keepMatched ds) (all-map (λ o h. kept-le (runsAmong ds o && not (o .holder .legacy)) h .0) w)
+  kept-within w = all-mapped (keepMatched ds) (all-map (λ o h. kept-between (runsAmong ds o && not (o .holder .legacy)) h .0) w)
 
 -- 3. and 4. "is taken by Share"
+
+-- what an offer's matched energy counts for at its border
+abbrev counted : Offer → ℕ
+counted o = atBorder (o .holder) (o .matched)
 
 -- who gives way in a direction runs in it
 gives-runs : (g : Group) (d : Directed) (o : Offer) → givesWay g d o ≡ true → runs (d .border) (d .export) (o .holder) ≡ true
@@ -69,48 +74,49 @@ unfolding givesWay runsIn
 gives-runs g d o h = both (runs (d .border) (d .export) (o .holder)) (inGroup g o) h .0
 
 module _ (g : Group) (os : List Offer) where
-  -- no offer that gives way in a direction loses more than it has matched
-  pub losses-under : (d : Directed) → Under (losses g os d) (amounts g d os)
-  unfolding losses
-  losses-under d = share-under _ _ (omega arith)
+  -- no offer that gives way in a direction loses more than its matched energy counts for
+  pub deductions-under : (d : Directed) → Under (deductions g os d) (amounts g d os)
+  unfolding deductions
+  deductions-under d = share-under _ _ (omega arith)
 
   -- "the lesser of the excess and the matched [..] energy"
-  pub losses-sum : (d : Directed) → sum (losses g os d) ≡ min (d .energy) (sum (amounts g d os))
-  unfolding losses
-  losses-sum d = share-sum _ _ (omega arith)
+  pub deductions-sum : (d : Directed) → sum (deductions g os d) ≡ min (d .energy) (sum (amounts g d os))
+  unfolding deductions
+  deductions-sum d = share-sum _ _ (omega arith)
 
-  -- in all directions together too no offer loses more than it has matched
-  pub all-under : {ds : List Directed} → Once ds → Under (allLosses g os ds) (masked (λ o. any (λ d. givesWay g d o) ds) (λ o. o .matched) os)
-  unfolding allLosses any amounts
+  -- in all directions together too no offer loses more than that
+  pub all-under : {ds : List Directed} → Once ds → Under (allDeductions g os ds) (masked (λ o. any (λ d. givesWay g d o) ds) counted os)
+  unfolding allDeductions any amounts
   all-under empty = zeros-under os
   all-under (ahead {x = d} {xs = ds} a t) =
-      under-add (λ o. o .matched) (givesWay g d) (λ o. any (λ e. givesWay g e o) ds) (runs-none (λ o. o .holder) (givesWay g) (gives-runs g) a) os (losses-under d) (all-under t)
+      under-add counted (givesWay g d) (λ o. any (λ e. givesWay g e o) ds) (runs-none (λ o. o .holder) (givesWay g) (gives-runs g) a) os (deductions-under d) (all-under t)
 
-  -- a loss in one direction is a loss
-  all-some : {ds : List Directed} → Some (λ d. 0 < sum (losses g os d)) ds → 0 < sum (allLosses g os ds)
-  unfolding allLosses
-  all-some (here {x = d} {xs = ds} h) = omega (arith, each-sum (losses g os d) (allLosses g os ds))
-  all-some (there {x = d} {xs = ds} s) = omega (arith, each-sum (losses g os d) (allLosses g os ds), all-some s)
+  -- a deduction in one direction is a deduction
+  all-some : {ds : List Directed} → Some (λ d. 0 < sum (deductions g os d)) ds → 0 < sum (allDeductions g os ds)
+  unfolding allDeductions
+  all-some (here {x = d} {xs = ds} h) = omega (arith, each-sum (deductions g os d) (allDeductions g os ds))
+  all-some (there {x = d} {xs = ds} s) = omega (arith, each-sum (deductions g os d) (allDeductions g os ds), all-some s)
 
 -- what is left is at most what was offered
-left-le : (b : Bool) (l : ℕ) {m e : ℕ} → m ≤ e → cond b (m - l) e ≤ e
-left-le true l h = omega arith
-left-le false l {e} h = le-refl e
+left-le : (o : Offer) (b : Bool) (k : ℕ) → o .matched ≤ o .offered → cond b (keeps (o .holder) (o .matched) k) (o .offered) ≤ o .offered
+left-le o true k h = le-trans (kept-le (o .holder) (o .matched) k) h
+left-le o false k h = le-refl (o .offered)
 
 module _ (p : Offer → Bool) where
   -- "what remains offered is matched less taken": all that is taken is gone from what is offered
-  remain-total : {ls : List ℕ} (os : List Offer) → Under ls (masked p (λ o. o .matched) os) → Within os → stepBound (remain p ls os) + sum ls ≤ stepBound os
+  remain-total : {ls : List ℕ} (os : List Offer) → Under ls (masked p counted os) → Within os → stepBound (remain p ls os) + sum ls ≤ stepBound os
   unfolding stepBound sumOf sum remain withEnergies
   remain-total [] under0 none = zero-le
-  remain-total (o ∷ os) (under h u) (more w v) =
-      by-bool (p o) (λ e. rw e (omega (arith, rw e at h, remain-total os u v))) (λ e. rw e (omega (arith, rw e at h, remain-total os u v)))
+  remain-total (o ∷ os) (under {a = k} h u) (more w v) =
+      by-bool (p o) (λ e. rw e (omega (arith, kept-less (o .holder) (o .matched) k (rw e at h), remain-total os u v)))
+      (λ e. rw e (omega (arith, rw e at h, remain-total os u v)))
 
   -- and no offer offers more
-  remain-lowered : {ls : List ℕ} (os : List Offer) → Under ls (masked p (λ o. o .matched) os) → Within os → Each Lowered os (remain p ls os)
+  remain-lowered : {ls : List ℕ} (os : List Offer) → Under ls (masked p counted os) → Within os → Each Lowered os (remain p ls os)
   unfolding remain withEnergies
   remain-lowered [] under0 none = each0
-  remain-lowered (o ∷ os) (under {a = l} h u) (more w v) =
-      each (record { holder = refl; price = refl; offered = left-le (p o) l w }) (remain-lowered os u v)
+  remain-lowered (o ∷ os) (under {a = k} h u) (more w v) =
+      each (record { holder = refl; price = refl; offered = left-le o (p o) k w }) (remain-lowered os u v)
 
 module _ (g : Group) {ds : List Directed} (once : Once ds) {os : List Offer} (w : Within os) where
   -- after the taking no offer offers more
@@ -122,7 +128,7 @@ module _ (g : Group) {ds : List Directed} (once : Once ds) {os : List Offer} (w 
   pub take-less : Some (λ d. (0 < d .energy) × (0 < sum (amounts g d os))) ds → stepBound (takeFrom g ds os) < stepBound os
   unfolding takeFrom
   take-less s =
-      omega (arith, remain-total (λ o. any (λ d. givesWay g d o) ds) os (all-under g os once) w, all-some g os (some-map (λ d h. omega (arith, losses-sum g os d)) s))
+      omega (arith, remain-total (λ o. any (λ d. givesWay g d o) ds) os (all-under g os once) w, all-some g os (some-map (λ d h. omega (arith, deductions-sum g os d)) s))
 
 -- 5. "Match again."
 

@@ -1,5 +1,5 @@
 -- Energy at a border: directions, flows, balances.
-use Prim.Native.Nat.{ℕ}
+use Prim.Native.Nat.{ℕ, _-_}
 use mathlib.Core.Bool.{Bool, true, false, _&&_, Bool·beq}
 use mathlib.Core.List.{List}
 use lib.Dec.{eqb}
@@ -22,9 +22,17 @@ pub record Execution : Type 0 where
 unfoldable pub runs : ℕ → Bool → Holder → Bool
 runs border export x = eqb (x .border) border && Bool·beq (x .purchase) export
 
--- the energy of a list that runs at a border in a direction
+-- what an energy of a holder counts for at its border
+unfoldable pub atBorder : Holder → ℕ → ℕ
+atBorder x e = e
+
+-- what is left of an energy when k of what it counts for is taken
+unfoldable pub keeps : Holder → ℕ → ℕ → ℕ
+keeps x e k = e - k
+
+-- what the energies of a list that run at a border in a direction count for there
 unfoldable pub flow : {A : Type 0} → (A → Holder) → (A → ℕ) → ℕ → Bool → List A → ℕ
-flow holder energy border export xs = sumOf energy (keep (λ x. runs border export (holder x)) xs)
+flow holder energy border export xs = sumOf (λ x. atBorder (holder x) (energy x)) (keep (λ x. runs border export (holder x)) xs)
 
 -- "exports less imports"
 unfoldable pub balance : {A : Type 0} → (A → Holder) → (A → ℕ) → ℕ → List A → ℤ
@@ -47,5 +55,5 @@ positive (pos n) = n
 positive (negsuc n) = 0
 
 unfoldable pub Borders·all : Unit {0}
-unfolding runs flow balance marketBalance executionBalance toward positive
+unfolding runs atBorder keeps flow balance marketBalance executionBalance toward positive
 Borders·all = tt

@@ -16,7 +16,7 @@ use Rattle.rules.specs.Judging.{Verdict, hidden, limit, isAccepted, turn
 use Rattle.rules.specs.Closing.{closingTurns, judgements, acceptedAt}
 use Rattle.rules.specs.Share.{share}
 use Rattle.rules.specs.Match.{Offer}
-use Rattle.rules.specs.Borders.{Directed, Execution, runs, marketBalance, executionBalance, toward}
+use Rattle.rules.specs.Borders.{Directed, Execution, runs, atBorder, marketBalance, executionBalance, toward}
 use Rattle.rules.specs.Executions.{bilateralExcess}
 use Rattle.rules.specs.Clearing.{hourOfDay, figuresAt}
 use Rattle.rules.specs.Queries.{matchedAt, executedAt}
@@ -97,15 +97,16 @@ pub data SomeCut (c : Directed) : List Execution → List Execution → Type 0 w
   this : {x y : Execution} {xs ys : List Execution} → runs (c .border) (c .export) (x .holder) ≡ true → y .energy < x .energy → SomeCut c (x ∷ xs) (y ∷ ys)
   another : {x y : Execution} {xs ys : List Execution} → SomeCut c xs ys → SomeCut c (x ∷ xs) (y ∷ ys)
 
--- the executions' energies in a direction, 0 for the others
+-- the executions' energies in a direction, as counted at the border, 0 for the others
 abbrev pub amountsOn : Directed → List Execution → List ℕ
-amountsOn c xs = map (λ x. cond (runs (c .border) (c .export) (x .holder)) (x .energy) 0) xs
+amountsOn c xs = map (λ x. cond (runs (c .border) (c .export) (x .holder)) (atBorder (x .holder) (x .energy)) 0) xs
 
--- what each execution in a direction loses, 0 for the others
-unfoldable pub lost : Directed → List Execution → List Execution → List ℕ
-lost c [] ys = []
-lost c (x ∷ xs) [] = []
-lost c (x ∷ xs) (y ∷ ys) = cond (runs (c .border) (c .export) (x .holder)) (x .energy - y .energy) 0 ∷ lost c xs ys
+-- what each execution in a direction loses of what it counted for there, 0 for the others
+unfoldable pub deducted : Directed → List Execution → List Execution → List ℕ
+deducted c [] ys = []
+deducted c (x ∷ xs) [] = []
+deducted c (x ∷ xs) (y ∷ ys) =
+    cond (runs (c .border) (c .export) (x .holder)) (atBorder (x .holder) (x .energy) - atBorder (y .holder) (y .energy)) 0 ∷ deducted c xs ys
 
 -- What holds at a border in a direction with a capacity, of the final offers, the executions, and the executions after cuts.
 pub record Kept (c : Directed) (os : List Offer) (before after : List Execution) : Type 0 where
@@ -117,7 +118,7 @@ pub record Kept (c : Directed) (os : List Offer) (before after : List Execution)
   pub stands : pos (c .energy) <ℤ crossing c os before → crossing c os after ≡ pos (c .energy)
   -- "by the papers' Share": R is at most G, and each loses what Share takes from it
   pub enough : bilateralExcess os before c ≤ sum (amountsOn c before)
-  pub shared : lost c before after ≡ share (bilateralExcess os before c) (amountsOn c before)
+  pub shared : deducted c before after ≡ share (bilateralExcess os before c) (amountsOn c before)
 
 -- the executions accepted at closing, in an hour, "with none cut"
 abbrev pub executionsAt : Book → ℕ → List Execution

@@ -1,5 +1,5 @@
 -- "Withdrawal step", and its repetition.
-use Prim.Native.Nat.{ℕ, zero, suc, _-_, min, max}
+use Prim.Native.Nat.{ℕ, zero, suc, min, max}
 use mathlib.Core.Bool.{Bool, true, false, cond, not, _&&_, Bool·beq}
 use mathlib.Core.List.{List, [], _∷_, map}
 use mathlib.Core.Option.{Option, some, none}
@@ -8,7 +8,7 @@ use lib.IntN.{pos, _-ℤ_}
 use Rattle.rules.specs.Lists.{keep, any, sum, sumOf, addEach}
 use Rattle.rules.specs.Share.{share}
 use Rattle.rules.specs.Match.{Offer, withEnergies, matchAll}
-use Rattle.rules.specs.Borders.{Directed, runs, marketBalance, toward, positive}
+use Rattle.rules.specs.Borders.{Directed, runs, atBorder, keeps, marketBalance, toward, positive}
 
 -- how far a market balance passes its maximum, 0 where it does not: "the overrun being the excess"
 unfoldable pub excessOf : List Offer → Directed → Directed
@@ -78,29 +78,30 @@ inGroup legacyOffers o = o .holder .legacy
 unfoldable pub givesWay : Group → Directed → Offer → Bool
 givesWay g d o = runsIn d o && inGroup g o
 
--- the matched energy of the offers that give way in a direction, 0 for the others
+-- the matched energy of the offers that give way in a direction, as counted at the border, 0 for the others
 unfoldable pub amounts : Group → Directed → List Offer → List ℕ
-amounts g d os = map (λ o. cond (givesWay g d o) (o .matched) 0) os
+amounts g d os = map (λ o. cond (givesWay g d o) (atBorder (o .holder) (o .matched)) 0) os
 
 -- 3. "On each border over in that direction, the lesser of the excess and the matched non-legacy energy at that price is
 -- taken by Share"; 4. "each border's excess is taken likewise from its legacy offers in that direction". Offers stand by
 -- rising lodging number.
-unfoldable pub losses : Group → List Offer → Directed → List ℕ
-losses g os d = share (min (d .energy) (sum (amounts g d os))) (amounts g d os)
+unfoldable pub deductions : Group → List Offer → Directed → List ℕ
+deductions g os d = share (min (d .energy) (sum (amounts g d os))) (amounts g d os)
 
 -- what each loses in all directions; an offer runs in one
-unfoldable pub allLosses : Group → List Offer → List Directed → List ℕ
-allLosses g os [] = map (λ o. 0) os
-allLosses g os (d ∷ ds) = addEach (losses g os d) (allLosses g os ds)
+unfoldable pub allDeductions : Group → List Offer → List Directed → List ℕ
+allDeductions g os [] = map (λ o. 0) os
+allDeductions g os (d ∷ ds) = addEach (deductions g os d) (allDeductions g os ds)
 
 -- "what remains offered is matched less taken"
 unfoldable pub remain : (Offer → Bool) → List ℕ → List Offer → List Offer
-remain gives ls [] = []
+remain gives ks [] = []
 remain gives [] (o ∷ os) = o ∷ os
-remain gives (l ∷ ls) (o ∷ os) = withEnergies (cond (gives o) (o .matched - l) (o .offered)) (o .matched) o ∷ remain gives ls os
+remain gives (k ∷ ks) (o ∷ os) =
+    withEnergies (cond (gives o) (keeps (o .holder) (o .matched) k) (o .offered)) (o .matched) o ∷ remain gives ks os
 
 unfoldable pub takeFrom : Group → List Directed → List Offer → List Offer
-takeFrom g ds os = remain (λ o. any (λ d. givesWay g d o) ds) (allLosses g os ds) os
+takeFrom g ds os = remain (λ o. any (λ d. givesWay g d o) ds) (allDeductions g os ds) os
 
 -- one step, of the directions passed. 5. "Match again."
 unfoldable pub step : List Directed → List Offer → List Offer
@@ -131,5 +132,5 @@ unfoldable pub withdraw : List Directed → List Offer → Withdrawn
 withdraw ms first = repeat (stepBound first) ms first 0
 
 unfoldable pub Withdrawal·all : Unit {0}
-unfolding excessOf overruns runsIn runsAmong keepMatched pricesOver further extreme purchasesBelow salesAbove choose groupOf inGroup givesWay amounts losses allLosses remain takeFrom step repeat stepBound withdraw
+unfolding excessOf overruns runsIn runsAmong keepMatched pricesOver further extreme purchasesBelow salesAbove choose groupOf inGroup givesWay amounts deductions allDeductions remain takeFrom step repeat stepBound withdraw
 Withdrawal·all = tt

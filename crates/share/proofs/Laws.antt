@@ -15,9 +15,9 @@ use Rattle.arrays.proofs.SliceLaws.{behind, part-rest, past-rest, vals-at, vals
 use Rattle.share.specs.Next.{next}
 
 -- "G 0 loses nothing"
-pub none-lost : (r g m : ℕ) → g ≡ 0 → 0 ≡ proRata r g m
+pub none-deducted : (r g m : ℕ) → g ≡ 0 → 0 ≡ proRata r g m
 unfolding proRata
-none-lost r g m z = rw z (sym (div-zero (r * m)))
+none-deducted r g m z = rw z (sym (div-zero (r * m)))
 
 -- and so does an amount of 0
 pub none-held : (r g m : ℕ) → m ≡ 0 → 0 ≡ proRata r g m
@@ -25,9 +25,9 @@ unfolding proRata
 none-held r g m z = let o : r * 0 ≡ 0 = omega arith in rw (z, o) (sym (zero-div g))
 
 -- "R × m / G rounded down"
-pub lost : (r g m : ℕ) {x : ℕ} → x ≡ (r * m + 0) / g → x ≡ proRata r g m
+pub deducted : (r g m : ℕ) {x : ℕ} → x ≡ (r * m + 0) / g → x ≡ proRata r g m
 unfolding proRata
-lost r g m e = let o : r * m + 0 ≡ r * m = omega arith in rw (e, o)
+deducted r g m e = let o : r * m + 0 ≡ r * m = omega arith in rw (e, o)
 
 -- the search for the next place, at each place of the amounts
 found : (m : ℕ) (ms : List ℕ) → 0 < m → next (m ∷ ms) ≡ 0
@@ -47,7 +47,7 @@ module _ (a : List ℕ) (i : ℕ) where
   unfolding next
   next-end h = rw (drop-of-length-le a h)
 
--- a loss that gets no unit
+-- a deduction that gets no unit
 kept : (x : ℕ) {l ls : List ℕ} → l ≡ ls → x ∷ l ≡ (x + 0) ∷ ls
 kept x e = let o : x + 0 ≡ x = omega arith in rw (o, e)
 
@@ -70,7 +70,7 @@ hand-next k [] (m ∷ ms) e h = absurd (omega arith)
 hand-next k (x ∷ l) (zero ∷ ms) e h = kept x (hand-next k l ms (omega arith) (omega arith))
 hand-next k (x ∷ l) (suc m ∷ ms) e h = refl
 
--- the same of the slices as the code has them: losses l and amounts ms, of which the lowest above 0 stands at i
+-- the same of the slices as the code has them: deductions l and amounts ms, of which the lowest above 0 stands at i
 module _ (l ms : List ℕ) (i : ℕ) (e : length l ≡ length ms) (h : i < length ms) where
   pub rest-length : (v : ℕ) → length (take (length (set l i v) - (i + 1)) (drop (i + 1) (set l i v))) ≡ length (take (length ms - (i + 1)) (drop (i + 1) ms))
   rest-length v = rw (behind l i v, part-rest (i + 1) ms, add-one, length-drop (suc i) l, length-drop (suc i) ms, e)
@@ -100,7 +100,7 @@ module _ (l ms : List ℕ) (i : ℕ) (e : length l ≡ length ms) (h : i < lengt
       )
       (hand-next k l ms e (omega arith))
 
--- the pro rata losses l, and the leftover handed out over them
+-- the pro rata deductions l, and the leftover handed out over them
 pub share-said : (r : ℕ) (ms : List ℕ) {g s : ℕ} {l x : List ℕ} → g ≡ sum ms → s ≡ sum (map (proRata r g) ms) → l ≡ map (proRata r g) ms
     → x ≡ addEach l (handOut (r - s) ms) → x ≡ share r ms
 unfolding share
@@ -114,10 +114,10 @@ share-laid n r l a h k e =
     let s : length (share r (take n a)) ≡ n = share-length r (take n a) (rw v at k) ∙ length-take-le n a h in
     rw (e, v) (front-vals n (share r (take n a)) l s, front-kept n (share r (take n a)) l s)
 
--- what a caller takes from the contract: the losses l of the first n amounts a come to r, and none is above its amount
+-- what a caller takes from the contract: the deductions l of the first n amounts a come to r, and none is above its amount
 module _ (n r : ℕ) (l a : List ℕ) (h : r ≤ sum (vals a 0 n)) (e : vals l 0 n ≡ share r (vals a 0 n)) where
-  pub losses-sum : sum (vals l 0 n) ≡ r
-  losses-sum = rw e (share-sum r (vals a 0 n) h)
+  pub deductions-sum : sum (vals l 0 n) ≡ r
+  deductions-sum = rw e (share-sum r (vals a 0 n) h)
 
-  pub losses-le : (j : ℕ) → j < n → getD l j 0 ≤ getD a j 0
-  losses-le j k = rw (← vals-at l n j k, ← vals-at a n j k, e) (share-le r (vals a 0 n) h j)
+  pub deductions-le : (j : ℕ) → j < n → getD l j 0 ≤ getD a j 0
+  deductions-le j k = rw (← vals-at l n j k, ← vals-at a n j k, e) (share-le r (vals a 0 n) h j)

@@ -22,15 +22,15 @@ fn pro_rata(r: u32, g: u32, m: u32) -> u32
     arrays::portion(r, m, 0, g)
 }
 
-// The pro rata losses, and their sum.
-fn floors(losses: &mut [u32], amounts: &[u32], r: u32, g: u32) -> u32
-    requires { ⌜ (length (now losses) ≡ length (now amounts)) × (r ≤ g) × (g ≡ sum (now amounts)) ⌝ }
-    ensures { λ s. ⌜ (s ≡ sum (map (proRata r g) (now (amounts .entry)))) × (now (losses .exit) ≡ map (proRata r g) (now (amounts .entry))) ⌝ }
+// The pro rata deductions, and their sum.
+fn floors(deductions: &mut [u32], amounts: &[u32], r: u32, g: u32) -> u32
+    requires { ⌜ (length (now deductions) ≡ length (now amounts)) × (r ≤ g) × (g ≡ sum (now amounts)) ⌝ }
+    ensures { λ s. ⌜ (s ≡ sum (map (proRata r g) (now (amounts .entry)))) × (now (deductions .exit) ≡ map (proRata r g) (now (amounts .entry))) ⌝ }
 {
     let mut s: u32 = 0;
     for i in 0..amounts.len() {
         let x = pro_rata(r, g, amounts[i]);
-        losses[i] = x;
+        deductions[i] = x;
         s += x;
     }
     s
@@ -50,9 +50,9 @@ fn next_place(amounts: &[u32]) -> usize
 
 // "the leftover units go out one each to the lowest lodging numbers with m above 0, and each hand-out leaves the rest to
 // the same rule over the higher numbers".
-fn hand_out(losses: &mut [u32], amounts: &[u32], left: u32)
-    requires { ⌜ (length (now losses) ≡ length (now amounts)) × ((i : ℕ) → getD (now losses) i 0 < 4294967295) ⌝ }
-    ensures { λ _. ⌜ now (losses .exit) ≡ addEach (now (losses .entry)) (handOut left (now (amounts .entry))) ⌝ }
+fn hand_out(deductions: &mut [u32], amounts: &[u32], left: u32)
+    requires { ⌜ (length (now deductions) ≡ length (now amounts)) × ((i : ℕ) → getD (now deductions) i 0 < 4294967295) ⌝ }
+    ensures { λ _. ⌜ now (deductions .exit) ≡ addEach (now (deductions .entry)) (handOut left (now (amounts .entry))) ⌝ }
 {
     if left == 0 {
         return;
@@ -61,31 +61,31 @@ fn hand_out(losses: &mut [u32], amounts: &[u32], left: u32)
     if amounts.len() <= i {
         return;
     }
-    losses[i] += 1;
-    hand_out(&mut losses[i + 1..], &amounts[i + 1..], left - 1)
+    deductions[i] += 1;
+    hand_out(&mut deductions[i + 1..], &amounts[i + 1..], left - 1)
 }
 
 // Share over all the amounts, whose sum is g.
-fn share_all(losses: &mut [u32], amounts: &[u32], r: u32, g: u32)
-    requires { ⌜ (length (now losses) ≡ length (now amounts)) × (r ≤ g) × (g ≡ sum (now amounts)) × ((i : ℕ) → getD (now amounts) i 0 ≤ 99999) ⌝ }
-    ensures { λ _. ⌜ now (losses .exit) ≡ shareOf r (now (amounts .entry)) ⌝ }
+fn share_all(deductions: &mut [u32], amounts: &[u32], r: u32, g: u32)
+    requires { ⌜ (length (now deductions) ≡ length (now amounts)) × (r ≤ g) × (g ≡ sum (now amounts)) × ((i : ℕ) → getD (now amounts) i 0 ≤ 99999) ⌝ }
+    ensures { λ _. ⌜ now (deductions .exit) ≡ shareOf r (now (amounts .entry)) ⌝ }
 {
-    let s = floors(losses, amounts, r, g);
-    hand_out(losses, amounts, r - s)
+    let s = floors(deductions, amounts, r, g);
+    hand_out(deductions, amounts, r - s)
 }
 
 // Share over the first n amounts, whose sum is g.
-fn share_first(losses: &mut [u32], amounts: &[u32], n: usize, r: u32, g: u32)
-    requires { ⌜ (n ≤ length (now losses)) × (n ≤ length (now amounts)) × (r ≤ g) × (g ≡ sum (take n (now amounts))) × ((i : ℕ) → getD (now amounts) i 0 ≤ 99999) ⌝ }
-    ensures { λ _. ⌜ now (losses .exit) ≡ shareOf r (take n (now (amounts .entry))) ++ drop n (now (losses .entry)) ⌝ }
+fn share_first(deductions: &mut [u32], amounts: &[u32], n: usize, r: u32, g: u32)
+    requires { ⌜ (n ≤ length (now deductions)) × (n ≤ length (now amounts)) × (r ≤ g) × (g ≡ sum (take n (now amounts))) × ((i : ℕ) → getD (now amounts) i 0 ≤ 99999) ⌝ }
+    ensures { λ _. ⌜ now (deductions .exit) ≡ shareOf r (take n (now (amounts .entry))) ++ drop n (now (deductions .entry)) ⌝ }
 {
-    share_all(&mut losses[..n], &amounts[..n], r, g)
+    share_all(&mut deductions[..n], &amounts[..n], r, g)
 }
 
-// To take r from the first n amounts, whose sum is g: what each of them loses. The losses behind them stay as they were.
-pub fn share(losses: &mut [u32; 128], amounts: &[u32; 128], n: usize, r: u32, g: u32)
+// To take r from the first n amounts, whose sum is g: what each of them loses. The deductions behind them stay as they were.
+pub fn share(deductions: &mut [u32; 128], amounts: &[u32; 128], n: usize, r: u32, g: u32)
     requires { ⌜ (n ≤ 128) × ((i : ℕ) → getD (now amounts) i 0 ≤ 99999) × (r ≤ g) × (g ≡ sum (vals (now amounts) 0 n)) ⌝ }
-    ensures { λ _. ⌜ (vals (now (losses .exit)) 0 n ≡ shareOf r (vals (now (amounts .entry)) 0 n)) × ((i : ℕ) → n ≤ i → getD (now (losses .exit)) i 0 ≡ getD (now (losses .entry)) i 0) ⌝ }
+    ensures { λ _. ⌜ (vals (now (deductions .exit)) 0 n ≡ shareOf r (vals (now (amounts .entry)) 0 n)) × ((i : ℕ) → n ≤ i → getD (now (deductions .exit)) i 0 ≡ getD (now (deductions .entry)) i 0) ⌝ }
 {
-    share_first(losses, amounts, n, r, g)
+    share_first(deductions, amounts, n, r, g)
 }

@@ -11,7 +11,8 @@ use borrow.Author.Tests.{ltb-true}
 use Rattle.rules.specs.Lists.{All, none, more, from, keep, any, sum, addEach}
 use Rattle.rules.specs.Share.{share}
 use Rattle.rules.specs.Match.{Offer, withEnergies}
-use Rattle.rules.specs.Withdrawal.{givesWay, amounts, losses, allLosses, remain, takeFrom}
+use Rattle.rules.specs.Borders.{atBorder, keeps}
+use Rattle.rules.specs.Withdrawal.{givesWay, amounts, deductions, allDeductions, remain, takeFrom}
 use Rattle.rules.proofs.BoolLaws.{by-bool}
 use Rattle.arrays.specs.Places.{vals, layOn}
 use Rattle.arrays.proofs.PlaceLaws.{none-off, from-all, map-all, map-both, lay-at, lay-length}
@@ -19,7 +20,7 @@ use Rattle.arrays.proofs.LayLaws.{lay-beyond}
 use Rattle.matching.specs.declared.Offers.{Offers}
 use Rattle.matching.specs.View.{offerAt, offersOf}
 use Rattle.borders.specs.Ways.{directed, overIn}
-use Rattle.losses.specs.Losses.{amountAt, amountsIn, lossesIn, lossesOver, lossesFrom}
+use Rattle.deductions.specs.Deductions.{amountAt, amountsIn, deductionsIn, deductionsOver, deductionsFrom}
 use Rattle.overrun.specs.Lent.{Lent}
 use Rattle.overrun.proofs.LentLaws.{lent-over}
 use Rattle.overrun.specs.declared.Group.{Group}
@@ -39,27 +40,27 @@ given-laid h over g z l e =
 
 module _ (h : Offers) (over : List ℕ) (g : Group) (e m given : List ℕ) (d : GivenIn h over g given) where
   amounts-same : (w : ℕ) → 2 ≤ w → 0 < getD over w 0 → amountsIn given m (h .count) w ≡ amounts (groupIn g) (directed over w) (offersOf h e m)
-  unfolding amountsIn amountAt amounts offersOf
+  unfolding amountsIn amountAt amounts atBorder offersOf
   amounts-same w a b =
       map-both (λ i. cond (eqb (getD given i 0) w) (getD m i 0) 0) (λ o. cond (givesWay (groupIn g) (directed over w) o) (o .matched) 0) (offerAt h e m)
       (from-all _ 0 (h .count) (λ i k l. rw (d .each i (omega arith), gives-at over g (offerAt h e m i) w a b)))
 
   over-same : {ws : List ℕ} → All (λ w. 2 ≤ w) ws
-      → lossesOver over given m (h .count) ws ≡ allLosses (groupIn g) (offersOf h e m) (map (directed over) (keep (λ w. ltb 0 (getD over w 0)) ws))
-  unfolding lossesOver lossesIn allLosses losses keep directed offersOf
+      → deductionsOver over given m (h .count) ws ≡ allDeductions (groupIn g) (offersOf h e m) (map (directed over) (keep (λ w. ltb 0 (getD over w 0)) ws))
+  unfolding deductionsOver deductionsIn allDeductions deductions keep directed offersOf
   over-same none = map-both (λ i. 0) (λ o. 0) (offerAt h e m) (from-all _ 0 (h .count) (λ i k l. refl))
   over-same (more {x = w} a t) =
       by-bool (ltb 0 (getD over w 0))
       (λ k. rw k (ap₂ addEach (ap (λ x. share (min (getD over w 0) (sum x)) x) (amounts-same w a (ltb-true 0 (getD over w 0) k))) (over-same t)))
       (λ k. rw k (over-same t))
 
-  pub losses-said : lossesFrom over given m (h .count) 2 ≡ allLosses (groupIn g) (offersOf h e m) (overIn over)
-  unfolding lossesFrom overIn
-  losses-said = over-same (from-all _ 2 8 (λ j k l. k))
+  pub deductions-said : deductionsFrom over given m (h .count) 2 ≡ allDeductions (groupIn g) (offersOf h e m) (overIn over)
+  unfolding deductionsFrom overIn
+  deductions-said = over-same (from-all _ 2 8 (λ j k l. k))
 
   remain-places : (p : Offer → Bool) (f : ℕ → ℕ) (is : List ℕ)
       → remain p (map f is) (map (offerAt h e m) is) ≡ map (λ i. withEnergies (cond (p (offerAt h e m i)) (getD m i 0 - f i) (getD e i 0)) (getD m i 0) (offerAt h e m i)) is
-  unfolding remain
+  unfolding remain keeps
   remain-places p f [] = refl
   remain-places p f (i ∷ is) = ap (λ (l : List Offer). withEnergies (cond (p (offerAt h e m i)) (getD m i 0 - f i) (getD e i 0)) (getD m i 0) (offerAt h e m i) ∷ l) (remain-places p f is)
 
@@ -69,7 +70,7 @@ module _ (h : Offers) (over : List ℕ) (g : Group) (e m given : List ℕ) (d : 
 
   -- "what remains offered is matched less taken"
   pub remain-offers : (ls : List ℕ) → h .count ≤ length e → ((i : ℕ) → i < h .count → getD (h .border) i 0 < 5)
-      → vals ls 0 (h .count) ≡ lossesFrom over given m (h .count) 2
+      → vals ls 0 (h .count) ≡ deductionsFrom over given m (h .count) 2
       → offersOf h (layOn (leftAt given m ls) (h .count) 0 e) m ≡ takeFrom (groupIn g) (overIn over) (offersOf h e m)
   unfolding takeFrom offersOf leftAt withEnergies
   remain-offers ls l b v =
@@ -79,7 +80,7 @@ module _ (h : Offers) (over : List ℕ) (g : Group) (e m given : List ℕ) (d : 
       (lay-at (leftAt given m ls) (h .count) 0 i e (omega arith) (omega arith) (omega arith)
       ∙ rw (d .each i (omega arith), gives-none over g (offerAt h e m i) (b i (omega arith)))
       (cond-swap (any (λ x. givesWay (groupIn g) x (offerAt h e m i)) (overIn over)) (getD e i 0) (getD m i 0 - getD ls i 0)))))
-      ∙ sym (ap (λ (x : List ℕ). remain (λ o. any (λ d. givesWay (groupIn g) d o) (overIn over)) x (offersOf h e m)) (sym losses-said ∙ sym v ∙ vals-places ls (h .count))
+      ∙ sym (ap (λ (x : List ℕ). remain (λ o. any (λ d. givesWay (groupIn g) d o) (overIn over)) x (offersOf h e m)) (sym deductions-said ∙ sym v ∙ vals-places ls (h .count))
       ∙ remain-places (λ o. any (λ d. givesWay (groupIn g) d o) (overIn over)) (λ i. getD ls i 0) (from 0 (h .count)))
 
 -- Of lent arrays
@@ -97,19 +98,19 @@ left-le : (b : Bool) (l : ℕ) {m x : ℕ} → m ≤ x → cond b x (m - l) ≤ 
 left-le true l {x} h = le-refl x
 left-le false l h = omega arith
 
-pub left-lower : (given m losses : List ℕ) (i x : ℕ) → getD m i 0 ≤ x → leftAt given m losses i x ≤ x
+pub left-lower : (given m deductions : List ℕ) (i x : ℕ) → getD m i 0 ≤ x → leftAt given m deductions i x ≤ x
 unfolding leftAt
-left-lower given m losses i x h = left-le (eqb (getD given i 0) 0) (getD losses i 0) h
+left-lower given m deductions i x h = left-le (eqb (getD given i 0) 0) (getD deductions i 0) h
 
 module _ (over : List ℕ) (m : List ℕ) (n : ℕ) (border : List ℕ) (purchase legacy : List Bool) (price : List ℕ) (inner : (i : ℕ) → i < n → getD border i 0 < 5) where
   -- 3. and 4.
-  pub taken-said : (h : Offers) (g : Group) (e given losses : List ℕ) {after : List ℕ} → n ≤ 128 → n ≤ length e → Lent h n border purchase legacy price
+  pub taken-said : (h : Offers) (g : Group) (e given deductions : List ℕ) {after : List ℕ} → n ≤ 128 → n ≤ length e → Lent h n border purchase legacy price
       → given ≡ layOn (givenAt over g border purchase legacy price) n 0 (replicate 128 0)
-      → vals losses 0 n ≡ lossesFrom over given m n 2 → after ≡ layOn (leftAt given m losses) n 0 e
+      → vals deductions 0 n ≡ deductionsFrom over given m n 2 → after ≡ layOn (leftAt given m deductions) n 0 e
       → offersOf h after m ≡ takeFrom (groupIn g) (overIn over) (offersOf h e m)
-  taken-said h g e given losses few l t eg el q =
+  taken-said h g e given deductions few l t eg el q =
       rw q (lent-over t
       (λ n b s k p. n ≤ 128 → n ≤ length e → ((i : ℕ) → i < n → getD b i 0 < 5) → given ≡ layOn (givenAt over g b s k p) n 0 (replicate 128 0)
-      → vals losses 0 n ≡ lossesFrom over given m n 2 → offersOf h (layOn (leftAt given m losses) n 0 e) m ≡ takeFrom (groupIn g) (overIn over) (offersOf h e m))
-      (λ few l b eg el. remain-offers h over g e m given (given-laid h over g (replicate 128 0) (rw (length-replicate {A = ℕ} 128 0) few) eg) losses l b el)
+      → vals deductions 0 n ≡ deductionsFrom over given m n 2 → offersOf h (layOn (leftAt given m deductions) n 0 e) m ≡ takeFrom (groupIn g) (overIn over) (offersOf h e m))
+      (λ few l b eg el. remain-offers h over g e m given (given-laid h over g (replicate 128 0) (rw (length-replicate {A = ℕ} 128 0) few) eg) deductions l b el)
       few l inner eg el)

@@ -26,7 +26,7 @@ givenAt over g border purchase legacy price i x =
 
 -- "what remains offered is matched less taken"
 unfoldable pub leftAt : List ℕ → List ℕ → List ℕ → ℕ → ℕ → ℕ
-leftAt given matched losses i e = cond (eqb (getD given i 0) 0) e (getD matched i 0 - getD losses i 0)
+leftAt given matched deductions i e = cond (eqb (getD given i 0) 0) e (getD matched i 0 - getD deductions i 0)
 
 -- by place, the direction in which each offer of an hour gives way, 0 for none
 pub record GivenIn (h : Offers) (over : List ℕ) (g : Group) (ways : List ℕ) : Type 0 where

@@ -72,13 +72,13 @@ fn all_given<'a>(
 }
 
 // What remains offered of an offer.
-fn left(way: u32, m: u32, loss: u32, e: u32) -> u32
-    ensures { λ r. ⌜ r ≡ cond (eqb way 0) e (m - loss) ⌝ }
+fn left(way: u32, m: u32, deduction: u32, e: u32) -> u32
+    ensures { λ r. ⌜ r ≡ cond (eqb way 0) e (m - deduction) ⌝ }
 {
     if way == 0 {
         return e;
     }
-    arrays::less(m, loss)
+    arrays::less(m, deduction)
 }
 
 // "what remains offered is matched less taken"
@@ -87,14 +87,14 @@ fn remain(
     n: usize,
     ways: &[u32; 128],
     matched: &[u32; 128],
-    losses: &[u32; 128],
+    deductions: &[u32; 128],
 )
     requires { ⌜ n ≤ 128 ⌝ }
-    ensures { λ _. ⌜ now (offered .exit) ≡ layOn (leftAt (now (ways .entry)) (now (matched .entry)) (now (losses .entry))) n 0 (now (offered .entry)) ⌝ }
+    ensures { λ _. ⌜ now (offered .exit) ≡ layOn (leftAt (now (ways .entry)) (now (matched .entry)) (now (deductions .entry))) n 0 (now (offered .entry)) ⌝ }
 {
     for i in 0..n {
         let e = offered[i];
-        let k = left(ways[i], matched[i], losses[i], e);
+        let k = left(ways[i], matched[i], deductions[i], e);
         offered[i] = k;
     }
 }
@@ -120,7 +120,7 @@ pub fn take_from<'a>(
 {
     let mut ways = [0u32; 128];
     all_given(&mut ways, n, at, over, g, border, purchase, legacy, price);
-    let mut losses = [0u32; 128];
-    losses::all_losses(&mut losses, n, over, &ways, matched);
-    remain(offered, n, &ways, matched, &losses)
+    let mut deductions = [0u32; 128];
+    deductions::all_deductions(&mut deductions, n, over, &ways, matched);
+    remain(offered, n, &ways, matched, &deductions)
 }

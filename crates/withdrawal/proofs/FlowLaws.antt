@@ -7,7 +7,7 @@ use lib.Dec.{eqb}
 use lib.ListN.{getD}
 use Rattle.rules.specs.Lists.{keep, sumOf, from}
 use Rattle.rules.specs.Match.{Offer}
-use Rattle.rules.specs.Borders.{runs, flow}
+use Rattle.rules.specs.Borders.{runs, atBorder, flow}
 use Rattle.rules.specs.Split.{legacyFlow}
 use Rattle.rules.proofs.BoolLaws.{by-bool}
 use Rattle.arrays.proofs.PlaceLaws.{none-off}
@@ -35,7 +35,7 @@ legacy-counted false false e = refl
 
 module _ (h : Offers) (offered matched : List ℕ) where
   way-flow : (b : ℕ) (e : Bool) → flowFrom false (h .border) (h .purchase) (h .legacy) matched 0 (h .count) (wayOf b e) ≡ flow (λ o. o .holder) (λ o. o .matched) b e (offersOf h offered matched)
-  unfolding flowFrom flow offersOf addsTo countedFor
+  unfolding flowFrom flow atBorder offersOf addsTo countedFor
   way-flow b e =
       ap (λ n. sumOf (addsTo false (h .border) (h .purchase) (h .legacy) matched (wayOf b e)) (from 0 n)) (none-off (h .count))
       ∙ kept-sum (λ (o : Offer). o .matched) (λ o. runs b e (o .holder)) (offerAt h offered matched)
@@ -55,7 +55,7 @@ module _ (h : Offers) (offered matched : List ℕ) {f : List ℕ} where
   -- the matched legacy flows
   pub legacy-flows : ByWay true (h .border) (h .purchase) (h .legacy) matched (h .count) f
       → LegacyFlows f (offersOf h offered matched)
-  unfolding flowFrom flow legacyFlow offersOf addsTo
+  unfolding flowFrom flow atBorder legacyFlow offersOf addsTo
   legacy-flows k b e l =
       k .sums (wayOf b e)
       ∙ ap (λ n. sumOf (addsTo true (h .border) (h .purchase) (h .legacy) matched (wayOf b e)) (from 0 n)) (none-off (h .count))

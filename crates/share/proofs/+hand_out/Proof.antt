@@ -30,15 +30,15 @@ module _ (t : ℕ) where
   returns : lts.Need-returns (claims t) (at t) hand-out.Post
   returns c =
       let s = c .before .before .before in
-      hand-none (s .args .left) (s .args .losses .now) (s .args .amounts .now) (s .pre .1 .0) (λ p. absurd (omega arith))
+      hand-none (s .args .left) (s .args .deductions .now) (s .args .amounts .now) (s .pre .1 .0) (λ p. absurd (omega arith))
 
   returns-2 : lts.Need-returns-2 (claims t) (at t) hand-out.Post
   returns-2 c =
       let s = c .before .before .before .before .before in
-      hand-none (s .args .left) (s .args .losses .now) (s .args .amounts .now) (s .pre .1 .0) (λ p. omega (arith, c .before .next-place .ensures))
+      hand-none (s .args .left) (s .args .deductions .now) (s .args .amounts .now) (s .pre .1 .0) (λ p. omega (arith, c .before .next-place .ensures))
 
-  add-losses : lts.Need-add-losses (claims t) (at t) hand-out.Post
-  add-losses c = omega (arith, c .before .before .before .before .before .before .pre .1 .1 (c .before .before .next-place .result))
+  add-deductions : lts.Need-add-deductions (claims t) (at t) hand-out.Post
+  add-deductions c = omega (arith, c .before .before .before .before .before .before .pre .1 .1 (c .before .before .next-place .result))
 
   sub-hand-out : lts.Need-sub-hand-out (claims t) (at t) hand-out.Post
   sub-hand-out c = simp length-set (omega arith)
@@ -49,19 +49,19 @@ module _ (t : ℕ) where
   hand-out-requires : lts.Need-hand-out-requires (claims t) (at t) hand-out.Post
   hand-out-requires c κs =
       let s = c .before .before .before .before .before .before .before .before in
-      let l = s .args .losses .now in
+      let l = s .args .deductions .now in
       let i = c .before .before .before .before .next-place .result in
       let m = s .args .amounts .now in
       (omega arith, (rest-length l m i (s .pre .1 .0) (omega arith) (getD l i 0 + 1), rest-small l m i (s .pre .1 .0) (omega arith) (getD l i 0 + 1) 4294967295 (s .pre .1 .1)))
 
   same-length : lts.Need-same-length (claims t) (at t) hand-out.Post
-  same-length c = c .before .losses .given .1 ∙ simp length-set
+  same-length c = c .before .deductions .given .1 ∙ simp length-set
 
   returns-3 : lts.Need-returns-3 (claims t) (at t) hand-out.Post
   returns-3 c =
       let s = c .before .before .before .before .before .before .before .before .before .before .before in
       let i = c .before .before .before .before .before .before .before .next-place in
-      one-out (s .args .losses .now) (s .args .amounts .now) (i .result) (s .pre .1 .0) (omega arith) (s .args .left) _ (i .ensures) (omega arith) (c .before .before .hand-out .ensures)
+      one-out (s .args .deductions .now) (s .args .amounts .now) (i .result) (s .pre .1 .0) (omega arith) (s .args .left) _ (i .ensures) (omega arith) (c .before .before .hand-out .ensures)
 
 pub +hand-out-spec : {M : Type 1} → statement M
 +hand-out-spec =
@@ -74,7 +74,7 @@ pub +hand-out-spec : {M : Type 1} → statement M
     (returns-2 t)
     (λ c. search needs)
     (λ c. search needs)
-    (add-losses t)
+    (add-deductions t)
     (λ c. search needs)
     (λ c. search needs)
     (λ c. search needs)

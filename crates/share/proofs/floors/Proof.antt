@@ -1,4 +1,4 @@
--- The invariant: the losses passed are pro rata, and their sum with what is left to add is the whole sum.
+-- The invariant: the deductions passed are pro rata, and their sum with what is left to add is the whole sum.
 use Prim.Native.Nat.{_+_, _-_, _≤_}
 use mathlib.Core.Path.{_≡_, sym, _∙_}
 use mathlib.Core.List.{map}
@@ -14,12 +14,12 @@ use Rattle.share.proofs.floors.Statement.{statement}
 use Rattle.share.proofs.floors.Tie as tie
 
 abbrev Inv-loop : tie.InvT-loop
-Inv-loop losses₀ amounts r g s₀ i₀ i-end losses s i =
-    (i ≤ length amounts) × (length losses ≡ length amounts) × (s + sum (map (proRata r g) (drop i amounts)) ≡ sum (map (proRata r g) amounts))
-    × (take i losses ≡ map (proRata r g) (take i amounts))
+Inv-loop deductions₀ amounts r g s₀ i₀ i-end deductions s i =
+    (i ≤ length amounts) × (length deductions ≡ length amounts) × (s + sum (map (proRata r g) (drop i amounts)) ≡ sum (map (proRata r g) amounts))
+    × (take i deductions ≡ map (proRata r g) (take i amounts))
 
 abbrev μ-loop : tie.MeasureT-loop
-μ-loop losses₀ amounts r g s₀ i₀ i-end losses s i = length amounts - i
+μ-loop deductions₀ amounts r g s₀ i₀ i-end deductions s i = length amounts - i
 
 loop-holds : tie.Need-loop-holds Inv-loop μ-loop
 loop-holds c = search needs
@@ -37,9 +37,9 @@ loop-again c =
     let a = c .before .before .before .before .before .before .args in
     let f = proRata (a .r) (a .g) in (
       omega arith,
-      omega (arith, length-set (l .losses) (l .i) (c .pro-rata .result)),
+      omega (arith, length-set (l .deductions) (l .i) (c .pro-rata .result)),
       omega (arith, left-sum f (a .amounts .now) (l .i) (omega arith)),
-      rw (c .pro-rata .ensures) (passed-next f (a .amounts .now) (l .losses) (l .i) (omega arith) (omega arith) (l .inv .3)),
+      rw (c .pro-rata .ensures) (passed-next f (a .amounts .now) (l .deductions) (l .i) (omega arith) (omega arith) (l .inv .3)),
     )
 
 returns : tie.Need-returns Inv-loop μ-loop
@@ -48,7 +48,7 @@ returns c =
     let a = c .before .before .before .before .args in
     let f = proRata (a .r) (a .g) in (
       omega (arith, left-sum-end f (a .amounts .now) (l .i) (omega arith)),
-      sym (take-all (l .i) (l .losses) (omega arith)) ∙ l .inv .3 ∙ rw (take-all (l .i) (a .amounts .now) (omega arith)),
+      sym (take-all (l .i) (l .deductions) (omega arith)) ∙ l .inv .3 ∙ rw (take-all (l .i) (a .amounts .now) (omega arith)),
     )
 
 pub floors-spec : {M : Type 1} → statement M

@@ -16,7 +16,7 @@ returns : tie.Need-returns
 returns c =
     let s = c .before .before .before .pre in
     let a = c .before .before .before .args in
-    share-laid (a .n) (a .r) (a .losses .now) (a .amounts .now) (omega arith) (omega (arith, s .2, s .3)) (c .share-first .ensures)
+    share-laid (a .n) (a .r) (a .deductions .now) (a .amounts .now) (omega arith) (omega (arith, s .2, s .3)) (c .share-first .ensures)
 
 pub share-spec : {M : Type 1} → statement M
 share-spec = tie.close (tie.spec share-first-requires returns)

@@ -17,13 +17,13 @@ slice-aggregate-share-all-2 c = sym (length-take-le _ _ (c .before .before .befo
 share-all-requires : tie.Need-share-all-requires
 share-all-requires c κs =
     let s = c .before .before .before .before in
-    let e = length-take-le (s .args .n) (s .args .losses .now) (s .pre .0) ∙ sym (length-take-le (s .args .n) (s .args .amounts .now) (s .pre .1)) in
+    let e = length-take-le (s .args .n) (s .args .deductions .now) (s .pre .0) ∙ sym (length-take-le (s .args .n) (s .args .amounts .now) (s .pre .1)) in
     (e, s .pre .2, s .pre .3, take-small 99999 (s .args .n) (s .args .amounts .now) (s .pre .4))
 
 returns : tie.Need-returns
 returns c =
     let a = c .before .before .before .before .before .before .before .args in
-    ap (λ (x : List ℕ). x ++ drop (a .n) (a .losses .now)) (c .before .before .share-all .ensures)
+    ap (λ (x : List ℕ). x ++ drop (a .n) (a .deductions .now)) (c .before .before .share-all .ensures)
 
 pub share-first-spec : {M : Type 1} → statement M
 share-first-spec =

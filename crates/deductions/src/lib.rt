@@ -6,7 +6,7 @@ ghost use Prim.Native.Nat.{ℕ, _*_, _≤_};
 ghost use lib.ListN.{length, getD};
 ghost use Rattle.rules.specs.Units.{maxEnergy};
 ghost use Rattle.arrays.specs.Places.{vals, layOn};
-ghost use Rattle.losses.specs.Losses.{amountAt, lossesIn, lossesFrom, moreAt};
+ghost use Rattle.deductions.specs.Deductions.{amountAt, deductionsIn, deductionsFrom, moreAt};
 
 // The energy of a holder that gives way in direction w.
 fn amount(w: u32, way: u32, m: u32) -> u32
@@ -30,36 +30,36 @@ fn amounts_in(amounts: &mut [u32; 128], n: usize, w: u32, ways: &[u32; 128], mat
 }
 
 // What each loses in direction w: "the lesser of the excess and the matched [..] energy [..] is taken by Share".
-fn losses_in(
-    losses: &mut [u32; 128],
+fn deductions_in(
+    deductions: &mut [u32; 128],
     n: usize,
     excess: u32,
     w: u32,
     ways: &[u32; 128],
     matched: &[u32; 128],
 )
-    requires { ⌜ (n ≤ 128) × ((i : ℕ) → getD (now matched) i 0 ≤ maxEnergy) × ((i : ℕ) → getD (now losses) i 0 ≤ maxEnergy) ⌝ }
-    ensures { λ _. ⌜ (vals (now (losses .exit)) 0 n ≡ lossesIn (now (ways .entry)) (now (matched .entry)) n excess w) × ((i : ℕ) → getD (now (losses .exit)) i 0 ≤ maxEnergy) ⌝ }
+    requires { ⌜ (n ≤ 128) × ((i : ℕ) → getD (now matched) i 0 ≤ maxEnergy) × ((i : ℕ) → getD (now deductions) i 0 ≤ maxEnergy) ⌝ }
+    ensures { λ _. ⌜ (vals (now (deductions .exit)) 0 n ≡ deductionsIn (now (ways .entry)) (now (matched .entry)) n excess w) × ((i : ℕ) → getD (now (deductions .exit)) i 0 ≤ maxEnergy) ⌝ }
 {
     let mut amounts = [0u32; 128];
     amounts_in(&mut amounts, n, w, ways, matched);
     let g = arrays::total(&amounts, n);
     let r = arrays::lower(excess, g);
-    share::share(losses, &amounts, n, r, g)
+    share::share(deductions, &amounts, n, r, g)
 }
 
-// Losses added to others, place by place.
-fn add(sums: &mut [u32; 128], n: usize, losses: &[u32; 128])
-    requires { ⌜ (n ≤ 128) × ((i : ℕ) → getD (now losses) i 0 ≤ maxEnergy) × ((i : ℕ) → getD (now sums) i 0 ≤ 9 * maxEnergy) ⌝ }
-    ensures { λ _. ⌜ now (sums .exit) ≡ layOn (moreAt (now (losses .entry))) n 0 (now (sums .entry)) ⌝ }
+// Deductions added to others, place by place.
+fn add(sums: &mut [u32; 128], n: usize, deductions: &[u32; 128])
+    requires { ⌜ (n ≤ 128) × ((i : ℕ) → getD (now deductions) i 0 ≤ maxEnergy) × ((i : ℕ) → getD (now sums) i 0 ≤ 9 * maxEnergy) ⌝ }
+    ensures { λ _. ⌜ now (sums .exit) ≡ layOn (moreAt (now (deductions .entry))) n 0 (now (sums .entry)) ⌝ }
 {
     for i in 0..n {
-        sums[i] += losses[i];
+        sums[i] += deductions[i];
     }
 }
 
 // What each loses in all directions, of their excesses; the directions are added from the last to the first, as the rules do.
-pub fn all_losses(
+pub fn all_deductions(
     sums: &mut [u32; 128],
     n: usize,
     over: &[u32; 10],
@@ -67,16 +67,16 @@ pub fn all_losses(
     matched: &[u32; 128],
 )
     requires { ⌜ (n ≤ 128) × ((i : ℕ) → getD (now matched) i 0 ≤ maxEnergy) × ((i : ℕ) → getD (now sums) i 0 ≤ 0) × (length (now sums) ≡ 128) ⌝ }
-    ensures { λ _. ⌜ vals (now (sums .exit)) 0 n ≡ lossesFrom (now (over .entry)) (now (ways .entry)) (now (matched .entry)) n 2 ⌝ }
+    ensures { λ _. ⌜ vals (now (sums .exit)) 0 n ≡ deductionsFrom (now (over .entry)) (now (ways .entry)) (now (matched .entry)) n 2 ⌝ }
 {
     let mut w: usize = 10;
     while 2 < w {
         w -= 1;
         let excess = over[w];
         if 0 < excess {
-            let mut losses = [0u32; 128];
-            losses_in(&mut losses, n, excess, w as u32, ways, matched);
-            add(sums, n, &losses);
+            let mut deductions = [0u32; 128];
+            deductions_in(&mut deductions, n, excess, w as u32, ways, matched);
+            add(sums, n, &deductions);
         }
     }
 }

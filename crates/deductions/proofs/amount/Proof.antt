@@ -1,6 +1,6 @@
 use borrow.Author.Tests.{eq-eqb, ne-eqb}
-use Rattle.losses.proofs.amount.Statement.{statement}
-use Rattle.losses.proofs.amount.Tie as tie
+use Rattle.deductions.proofs.amount.Statement.{statement}
+use Rattle.deductions.proofs.amount.Tie as tie
 
 returns : tie.Need-returns
 returns c = rw (eq-eqb _ _ (c .if1 .taken))

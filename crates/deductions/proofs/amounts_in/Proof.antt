@@ -1,10 +1,10 @@
 use Prim.Native.Nat.{_-_}
 use native.Mathlib.Omega.{arith}
-use Rattle.losses.specs.Losses.{amountAt}
+use Rattle.deductions.specs.Deductions.{amountAt}
 use Rattle.arrays.proofs.LayLaws.{Laying, laying-start, laying-next, laying-end}
 use borrow.Author.Needs.{needs}
-use Rattle.losses.proofs.amounts_in.Statement.{statement}
-use Rattle.losses.proofs.amounts_in.Tie as tie
+use Rattle.deductions.proofs.amounts_in.Statement.{statement}
+use Rattle.deductions.proofs.amounts_in.Tie as tie
 
 abbrev Inv-loop : tie.InvT-loop
 Inv-loop amounts₀ n w ways matched i₀ amounts i = Laying (amountAt w ways matched) n amounts₀ amounts i

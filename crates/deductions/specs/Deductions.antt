@@ -15,19 +15,19 @@ unfoldable pub amountsIn : List ℕ → List ℕ → ℕ → ℕ → List ℕ
 amountsIn given matched n w = map (λ i. amountAt w given matched i 0) (from 0 n)
 
 -- "the lesser of the excess and the matched [..] energy [..] is taken by Share"
-unfoldable pub lossesIn : List ℕ → List ℕ → ℕ → ℕ → ℕ → List ℕ
-lossesIn given matched n excess w = share (min excess (sum (amountsIn given matched n w))) (amountsIn given matched n w)
+unfoldable pub deductionsIn : List ℕ → List ℕ → ℕ → ℕ → ℕ → List ℕ
+deductionsIn given matched n excess w = share (min excess (sum (amountsIn given matched n w))) (amountsIn given matched n w)
 
--- a loss more
+-- a deduction more
 unfoldable pub moreAt : List ℕ → ℕ → ℕ → ℕ
-moreAt losses i x = x + getD losses i 0
+moreAt deductions i x = x + getD deductions i 0
 
 -- what each loses in the directions passed among some
-unfoldable pub lossesOver : List ℕ → List ℕ → List ℕ → ℕ → List ℕ → List ℕ
-lossesOver over given matched n [] = map (λ i. 0) (from 0 n)
-lossesOver over given matched n (w ∷ ws) =
-    cond (ltb 0 (getD over w 0)) (addEach (lossesIn given matched n (getD over w 0) w) (lossesOver over given matched n ws)) (lossesOver over given matched n ws)
+unfoldable pub deductionsOver : List ℕ → List ℕ → List ℕ → ℕ → List ℕ → List ℕ
+deductionsOver over given matched n [] = map (λ i. 0) (from 0 n)
+deductionsOver over given matched n (w ∷ ws) =
+    cond (ltb 0 (getD over w 0)) (addEach (deductionsIn given matched n (getD over w 0) w) (deductionsOver over given matched n ws)) (deductionsOver over given matched n ws)
 
 -- in those from place w on
-unfoldable pub lossesFrom : List ℕ → List ℕ → List ℕ → ℕ → ℕ → List ℕ
-lossesFrom over given matched n w = lossesOver over given matched n (from w (10 - w))
+unfoldable pub deductionsFrom : List ℕ → List ℕ → List ℕ → ℕ → ℕ → List ℕ
+deductionsFrom over given matched n w = deductionsOver over given matched n (from w (10 - w))

@@ -15,7 +15,7 @@ use Rattle.arrays.specs.Places.{vals, layOn}
 use Rattle.arrays.proofs.PlaceLaws.{none-off, from-next, from-all, map-all, lay-at, lay-vals, lay-small, zeros}
 use Rattle.arrays.proofs.SliceLaws.{vals-at}
 use Rattle.arrays.proofs.LayLaws.{lay-beyond}
-use Rattle.losses.specs.Losses.{amountAt, amountsIn, lossesIn, moreAt, lossesOver, lossesFrom}
+use Rattle.deductions.specs.Deductions.{amountAt, amountsIn, deductionsIn, moreAt, deductionsOver, deductionsFrom}
 
 -- In one direction
 
@@ -37,15 +37,15 @@ module _ (w n : ℕ) (given m : List ℕ) where
       ∙ ap (λ d. map (λ i. cond (eqb (getD given i 0) w) (getD m i 0) 0) (from 0 d)) (none-off n))
 
   -- "the lesser of the excess and the matched energy is taken by Share"
-  pub losses-laid : (x : List ℕ) (excess : ℕ) {a : List ℕ} {g r : ℕ} → n ≤ 128 → a ≡ layOn (amountAt w given m) n 0 (replicate 128 0)
-      → g ≡ sum (vals a 0 n) → r ≡ min excess g → vals x 0 n ≡ share r (vals a 0 n) → vals x 0 n ≡ lossesIn given m n excess w
-  unfolding lossesIn
-  losses-laid x excess l e eg er ex = ex ∙ rw (er, eg, amounts-laid l e)
+  pub deductions-laid : (x : List ℕ) (excess : ℕ) {a : List ℕ} {g r : ℕ} → n ≤ 128 → a ≡ layOn (amountAt w given m) n 0 (replicate 128 0)
+      → g ≡ sum (vals a 0 n) → r ≡ min excess g → vals x 0 n ≡ share r (vals a 0 n) → vals x 0 n ≡ deductionsIn given m n excess w
+  unfolding deductionsIn
+  deductions-laid x excess l e eg er ex = ex ∙ rw (er, eg, amounts-laid l e)
 
--- no loss is above its amount
-pub losses-small : (n b : ℕ) (x y a : List ℕ) {r : ℕ} → r ≤ sum (vals a 0 n) → vals x 0 n ≡ share r (vals a 0 n) → ((i : ℕ) → n ≤ i → getD x i 0 ≡ getD y i 0)
+-- no deduction is above its amount
+pub deductions-small : (n b : ℕ) (x y a : List ℕ) {r : ℕ} → r ≤ sum (vals a 0 n) → vals x 0 n ≡ share r (vals a 0 n) → ((i : ℕ) → n ≤ i → getD x i 0 ≡ getD y i 0)
     → ((i : ℕ) → getD a i 0 ≤ b) → ((i : ℕ) → getD y i 0 ≤ b) → (i : ℕ) → getD x i 0 ≤ b
-losses-small n b x y a {r} h e k f g i =
+deductions-small n b x y a {r} h e k f g i =
     by-bool (ltb i n)
     (λ t. let j = ltb-true i n t in omega (arith, vals-at x n i j, vals-at a n i j, ap (λ (l : List ℕ). getD l i 0) e, share-le r (vals a 0 n) h i, f i))
     (λ t. omega (arith, k i (ltb-false i n t), g i))
@@ -70,23 +70,23 @@ more-small b c n x s f g l e i =
 
 module _ (over given m : List ℕ) (n : ℕ) where
   -- in none
-  pub losses-start : (s : List ℕ) → ((i : ℕ) → getD s i 0 ≤ 0) → vals s 0 n ≡ lossesFrom over given m n 10
-  unfolding vals lossesFrom lossesOver from
-  losses-start s z =
+  pub deductions-start : (s : List ℕ) → ((i : ℕ) → getD s i 0 ≤ 0) → vals s 0 n ≡ deductionsFrom over given m n 10
+  unfolding vals deductionsFrom deductionsOver from
+  deductions-start s z =
       map-all (λ j. getD s j 0) (λ j. 0) (from-all _ 0 (n - 0) (λ j h k. omega (arith, z j)))
       ∙ ap (λ d. map (λ (j : ℕ). 0) (from 0 d)) (none-off n)
 
   -- with one direction more
-  pub losses-more : (v w : ℕ) (x s : List ℕ) {t : List ℕ} → v ≡ w - 1 → 2 < w → w ≤ 10 → n ≤ length s → 0 < getD over v 0
-      → vals x 0 n ≡ lossesIn given m n (getD over v 0) v → vals s 0 n ≡ lossesFrom over given m n w → t ≡ layOn (moreAt x) n 0 s → vals t 0 n ≡ lossesFrom over given m n v
-  unfolding lossesFrom lossesOver
-  losses-more v w x s q a b l k ex es et =
+  pub deductions-more : (v w : ℕ) (x s : List ℕ) {t : List ℕ} → v ≡ w - 1 → 2 < w → w ≤ 10 → n ≤ length s → 0 < getD over v 0
+      → vals x 0 n ≡ deductionsIn given m n (getD over v 0) v → vals s 0 n ≡ deductionsFrom over given m n w → t ≡ layOn (moreAt x) n 0 s → vals t 0 n ≡ deductionsFrom over given m n v
+  unfolding deductionsFrom deductionsOver
+  deductions-more v w x s q a b l k ex es et =
       let o : w ≡ v + 1 = omega arith in
-      rw et (more-vals n x s l ∙ rw (from-next 10 v (omega arith), lt-ltb 0 (getD over v 0) k) (ap₂ addEach ex (es ∙ ap (λ i. lossesOver over given m n (from i (10 - i))) o)))
+      rw et (more-vals n x s l ∙ rw (from-next 10 v (omega arith), lt-ltb 0 (getD over v 0) k) (ap₂ addEach ex (es ∙ ap (λ i. deductionsOver over given m n (from i (10 - i))) o)))
 
-  pub losses-same : (v w : ℕ) (s : List ℕ) → v ≡ w - 1 → 2 < w → w ≤ 10 → getD over v 0 ≤ 0
-      → vals s 0 n ≡ lossesFrom over given m n w → vals s 0 n ≡ lossesFrom over given m n v
-  unfolding lossesFrom lossesOver
-  losses-same v w s q a b k es =
+  pub deductions-same : (v w : ℕ) (s : List ℕ) → v ≡ w - 1 → 2 < w → w ≤ 10 → getD over v 0 ≤ 0
+      → vals s 0 n ≡ deductionsFrom over given m n w → vals s 0 n ≡ deductionsFrom over given m n v
+  unfolding deductionsFrom deductionsOver
+  deductions-same v w s q a b k es =
       let o : w ≡ v + 1 = omega arith in
-      rw (from-next 10 v (omega arith), le-ltb 0 (getD over v 0) k) (es ∙ ap (λ i. lossesOver over given m n (from i (10 - i))) o)
+      rw (from-next 10 v (omega arith), le-ltb 0 (getD over v 0) k) (es ∙ ap (λ i. deductionsOver over given m n (from i (10 - i))) o)

@@ -2,17 +2,17 @@ use Prim.Native.Nat.{ℕ, _-_, _≤_}
 use mathlib.Core.Path.{refl}
 use lib.ListN.{getD}
 use native.Mathlib.Omega.{arith}
-use Rattle.losses.specs.Losses.{moreAt}
+use Rattle.deductions.specs.Deductions.{moreAt}
 use Rattle.arrays.proofs.LayLaws.{Laying, laying-start, laying-next, laying-end, set-behind}
 use borrow.Author.Needs.{needs}
-use Rattle.losses.proofs.add.Statement.{statement}
-use Rattle.losses.proofs.add.Tie as tie
+use Rattle.deductions.proofs.add.Statement.{statement}
+use Rattle.deductions.proofs.add.Tie as tie
 
 abbrev Inv-loop : tie.InvT-loop
-Inv-loop sums₀ n losses i₀ sums i = Laying (moreAt losses) n sums₀ sums i × ((j : ℕ) → i ≤ j → getD sums j 0 ≤ 899991)
+Inv-loop sums₀ n deductions i₀ sums i = Laying (moreAt deductions) n sums₀ sums i × ((j : ℕ) → i ≤ j → getD sums j 0 ≤ 899991)
 
 abbrev μ-loop : tie.MeasureT-loop
-μ-loop sums₀ n losses i₀ sums i = n - i
+μ-loop sums₀ n deductions i₀ sums i = n - i
 
 add-sums : tie.Need-add-sums Inv-loop μ-loop
 add-sums c = let l = c .before .before .before .loop in omega (arith, l .inv .1 (l .i) (omega arith), c .before .before .before .before .pre .1 (l .i))
