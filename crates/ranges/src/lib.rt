@@ -1,4 +1,5 @@
 // What single values of a message are refused for: 4 and 5 of the table (document 01, "The lodging message").
+use rules::MAX_ENERGY;
 ghost use mathlib.Core.Path.{_≡_};
 ghost use mathlib.Core.Bool.{_||_};
 ghost use Rattle.rules.specs.Units.{badNumber};
@@ -6,8 +7,6 @@ ghost use Rattle.rules.specs.Message.{badMap, badContract, topPrice};
 ghost use Rattle.ranges.specs.Slots.{badSlot};
 
 const MAX_NUMBER: u32 = 65535;
-
-const MAX_ENERGY: u32 = 99999;
 
 const MAX_PRICE: u32 = 18030;
 
