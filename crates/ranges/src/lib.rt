@@ -1,5 +1,4 @@
 // What single values of a message are refused for: 4 and 5 of the table (document 01, "The lodging message").
-use rules::MAX_ENERGY;
 ghost use mathlib.Core.Path.{_≡_};
 ghost use mathlib.Core.Bool.{_||_};
 ghost use Rattle.rules.specs.Units.{badNumber};
@@ -60,15 +59,15 @@ fn top_price(execution: bool) -> u32
     MAX_PRICE
 }
 
-// An hour's energy or price is outside its range.
-pub fn bad_slot(execution: bool, set: bool, energy: u32, price: u32) -> bool
-    ensures { λ r. ⌜ r ≡ badSlot execution set energy price ⌝ }
+// An hour's energy or price is outside its range, an energy being at most `top`.
+pub fn bad_slot(top: u32, execution: bool, set: bool, energy: u32, price: u32) -> bool
+    ensures { λ r. ⌜ r ≡ badSlot top execution set energy price ⌝ }
 {
     if set {
         if energy == 0 {
             return true;
         }
-        if MAX_ENERGY < energy {
+        if top < energy {
             return true;
         }
         return top_price(execution) < price;
