@@ -122,32 +122,32 @@ module _ (s : Session) (m : Fields) where
 
 -- Rows 4, 5, 6, 9 and the limits
 
-module _ (s : Session) (m : Fields) where
+module _ (s : Session) (top : ℕ) (m : Fields) where
   abbrev bad4 : Bool
   bad4 = badMap (m .map) || L.namesBeyond (s .hours) (m .map)
 
-  pub fields-4 : bad4 ≡ true → JudgesFields s (fieldsIn m) (No 4 0)
+  pub fields-4 : bad4 ≡ true → JudgesFields s top (fieldsIn m) (No 4 0)
   unfolding fieldRows row firstRow
   fields-4 h b e = rw (hours-as s b e, h)
 
-  pub fields-5 : bad4 ≡ false → badFields (fieldsIn m) ≡ true → JudgesFields s (fieldsIn m) (No 5 0)
+  pub fields-5 : bad4 ≡ false → badFields top (fieldsIn m) ≡ true → JudgesFields s top (fieldsIn m) (No 5 0)
   unfolding fieldRows row firstRow
   fields-5 h k b e = rw (hours-as s b e, h, k)
 
-  module _ (k : Key) (q : k ≡ keyFor m) (h : bad4 ≡ false) (f : badFields (fieldsIn m) ≡ false) (t : Bool) (u : (b : Book) → s ≡ image b → t ≡ D.badHolder b (keyIn k)) where
+  module _ (k : Key) (q : k ≡ keyFor m) (h : bad4 ≡ false) (f : badFields top (fieldsIn m) ≡ false) (t : Bool) (u : (b : Book) → s ≡ image b → t ≡ D.badHolder b (keyIn k)) where
     held : (b : Book) → s ≡ image b → D.badHolder b (keyIn (keyFor m)) ≡ t
     held b e = ap (λ x. D.badHolder b (keyIn x)) (sym q) ∙ sym (u b e)
 
-    pub fields-6 : t ≡ true → JudgesFields s (fieldsIn m) (No 6 0)
+    pub fields-6 : t ≡ true → JudgesFields s top (fieldsIn m) (No 6 0)
     unfolding fieldRows row firstRow L.keyOf
     fields-6 x b e = rw (hours-as s b e, h, f, held b e, x)
 
     module _ (p : ℕ) (at : p ≡ keyPlace s (keyFor m)) where
-      pub fields-9 : t ≡ false → isFull s (keyFor m) p at ≡ true → JudgesFields s (fieldsIn m) (No 9 0)
+      pub fields-9 : t ≡ false → isFull s (keyFor m) p at ≡ true → JudgesFields s top (fieldsIn m) (No 9 0)
       unfolding fieldRows row firstRow L.keyOf
       fields-9 x y b e = rw (hours-as s b e, h, f, held b e, x, full-as s (keyFor m) p at b e, y)
 
-      pub fields-limits : t ≡ false → isFull s (keyFor m) p at ≡ false → (j : Judged) → JudgesLimits s (fieldsIn m) j → JudgesFields s (fieldsIn m) j
+      pub fields-limits : t ≡ false → isFull s (keyFor m) p at ≡ false → (j : Judged) → JudgesLimits s (fieldsIn m) j → JudgesFields s top (fieldsIn m) j
       unfolding fieldRows row firstRow L.keyOf
       fields-limits x y j l b e = rw (hours-as s b e, h, f, held b e, x, full-as s (keyFor m) p at b e, y) (l b e)
 

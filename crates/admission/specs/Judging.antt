@@ -38,14 +38,14 @@ fullAt n last p = (leb 128 n && leb n p) || leb 65535 last
 unfoldable pub lastRows : Book → Fields → List Row
 lastRows b m = limitRows (hours b) (m .energies) (judgedAt (b .standing) m) (judgedBy (linesOf b) (U.unitOf (b .units) (m .unit)) (m .default))
 
--- the table's rows after 3
-unfoldable pub fieldRows : Book → Fields → List Row
-fieldRows b m =
-    row 4 (badMap (m .map) || namesBeyond (hours b) (m .map)) ∷ row 5 (badFields m) ∷ row 6 (badHolder b (keyOf m)) ∷ row 9 (full b (keyOf m)) ∷ lastRows b m
+-- the table's rows after 3, energies up to `top`
+unfoldable pub fieldRows : Book → ℕ → Fields → List Row
+fieldRows b top m =
+    row 4 (badMap (m .map) || namesBeyond (hours b) (m .map)) ∷ row 5 (badFields top m) ∷ row 6 (badHolder b (keyOf m)) ∷ row 9 (full b (keyOf m)) ∷ lastRows b m
 
 -- a judgement of a message's fields
-abbrev pub JudgesFields : Session → Fields → Judged → Type 0
-JudgesFields s m j = (b : Book) → s ≡ image b → j ≡ judgement (firstRow (fieldRows b m))
+abbrev pub JudgesFields : Session → ℕ → Fields → Judged → Type 0
+JudgesFields s top m j = (b : Book) → s ≡ image b → j ≡ judgement (firstRow (fieldRows b top m))
 
 abbrev pub JudgesLimits : Session → Fields → Judged → Type 0
 JudgesLimits s m j = (b : Book) → s ≡ image b → j ≡ judgement (firstRow (lastRows b m))

@@ -130,13 +130,13 @@ fn judge_limits(s: Session, p: Pending, x: Excerpt) -> Judged
 // The refusal that applies to a message's fields, in the table's order.
 pub fn judge_fields(s: Session, p: Pending, x: Excerpt) -> Judged
     requires { ⌜ Awaits s p × Excerpts s (p .holder) (p .beside) x ⌝ }
-    ensures { λ r. ⌜ JudgesFields s (fieldsIn (p .fields)) r × (r ≡ Judged.Clear → Room s (keyFor (p .fields))) ⌝ }
+    ensures { λ r. ⌜ JudgesFields s (p .top) (fieldsIn (p .fields)) r × (r ≡ Judged.Clear → Room s (keyFor (p .fields))) ⌝ }
 {
     let m = p.fields;
     if bad_hours(s.hours, m.map) {
         return Judged::No(HOUR, 0);
     }
-    if bad_fields(m) {
+    if bad_fields(m, p.top) {
         return Judged::No(RANGE, 0);
     }
     let key = key_of(m);

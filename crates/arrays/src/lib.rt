@@ -5,6 +5,7 @@ ghost use mathlib.Core.List.{List, _∷_};
 ghost use lib.Dec.{ltb};
 ghost use lib.ListN.{getD, take, length};
 ghost use Rattle.rules.specs.Lists.{sum, any};
+ghost use Rattle.rules.specs.Units.{maxEnergy};
 ghost use Rattle.arrays.specs.Places.{vals, rises};
 ghost use Rattle.arrays.specs.Sorting.{sort};
 ghost use Rattle.arrays.specs.Listing.{Listed};
@@ -58,10 +59,10 @@ pub fn portion(x: u32, y: u32, w: u32, z: u32) -> u32
     q as u32
 }
 
-// The sum of the first n numbers of an array, each of them at most 99,999.
+// The sum of the first n numbers of an array, each of them at most the largest energy.
 pub fn total(a: &[u32; 128], n: usize) -> u32
-    requires { ⌜ (n ≤ 128) × ((i : ℕ) → getD (now a) i 0 ≤ 99999) ⌝ }
-    ensures { λ r. ⌜ (r ≡ sum (vals (now (a .entry)) 0 n)) × (r ≤ 99999 * n) ⌝ }
+    requires { ⌜ (n ≤ 128) × ((i : ℕ) → getD (now a) i 0 ≤ maxEnergy) ⌝ }
+    ensures { λ r. ⌜ (r ≡ sum (vals (now (a .entry)) 0 n)) × (r ≤ maxEnergy * n) ⌝ }
 {
     let mut s: u32 = 0;
     for i in 0..n {

@@ -9,7 +9,7 @@ use borrow.Author.Tests.{leb-true, leb-false, le-leb, lt-leb}
 use lib.Dec.{leb}
 use lib.Pow.{pow-lt}
 use lib.ListN.{length, take, drop, getD, length-drop, List·getD-eq-default}
-use Rattle.rules.specs.Message.{headWidth, value, field, bitsOf}
+use Rattle.rules.specs.Message.{value, field, bitsOf}
 use Rattle.rules.proofs.ListLaws.{Under}
 use Rattle.rules.proofs.BitLaws.{length-bitsOf, bitsOf-under, field-add, field-inner, word, field-word, word-four}
 use Rattle.bits.specs.Bits.{wordAt}
@@ -59,7 +59,7 @@ slot-read i c at w {bytes} u l h s e =
 
 -- the head of a message as two numbers of four bytes
 pub head-read : {bytes : List ℕ} → Under 256 bytes → 8 ≤ length bytes → {a b : ℕ} → (a ≡ wordAt bytes 0) × (a < 2 ^ 32) → (b ≡ wordAt bytes 4) × (b < 2 ^ 32)
-    → a * 4294967296 + b ≡ field 0 headWidth (bitsOf bytes)
+    → a * 4294967296 + b ≡ field 0 64 (bitsOf bytes)
 head-read {bytes} u l e f =
     let g = four-read 0 u (omega arith) (rw (e .0) at (e .1)) in
     let h = four-read 4 u (omega arith) (rw (f .0) at (f .1)) in
@@ -67,7 +67,7 @@ head-read {bytes} u l e f =
     rw (e .0, f .0, g, h) (sym (field-add 0 32 32 (bitsOf bytes) r))
 
 -- a field before the slots, from the head as one number
-pub head-part : (at w below : ℕ) (bytes : List ℕ) → 8 ≤ length bytes → at + w + below ≡ headWidth → {word r : ℕ} → word ≡ field 0 headWidth (bitsOf bytes)
+pub head-part : (at w below : ℕ) (bytes : List ℕ) → 8 ≤ length bytes → at + w + below ≡ 64 → {word r : ℕ} → word ≡ field 0 64 (bitsOf bytes)
     → r ≡ word / 2 ^ below % 2 ^ w → r ≡ field at w (bitsOf bytes)
 head-part at w below bytes l e f g =
     let k : 0 + (at + w + below) ≤ length (bitsOf bytes) = rw length-bitsOf (omega arith) in

@@ -4,6 +4,7 @@ ghost use mathlib.Core.Bool.{Bool};
 ghost use mathlib.Core.List.{List, map};
 ghost use Prim.Native.Nat.{ℕ, _≤_, _<_};
 ghost use lib.ListN.{getD};
+ghost use Rattle.rules.specs.Units.{maxEnergy};
 ghost use Rattle.rules.specs.Match.{Offer};
 ghost use Rattle.rules.specs.Borders.{Execution};
 ghost use Rattle.rules.specs.Split.{maximumOf};
@@ -59,7 +60,7 @@ pub fn flows<'a>(
     legacy: &'a [bool; 128],
     energy: &'a [u32; 128],
 ) -> [u32; 10]
-    requires { ⌜ (n ≤ 128) × ((i : ℕ) → i < n → getD (now border) i 0 < 5) × ((i : ℕ) → getD (now energy) i 0 ≤ 99999) ⌝ }
+    requires { ⌜ (n ≤ 128) × ((i : ℕ) → i < n → getD (now border) i 0 < 5) × ((i : ℕ) → getD (now energy) i 0 ≤ maxEnergy) ⌝ }
     ensures { λ r. ⌜ ByWay only (now (border .entry)) (now (purchase .entry)) (now (legacy .entry)) (now (energy .entry)) n r ⌝ }
 {
     let mut f = [0u32; 10];
@@ -79,7 +80,7 @@ pub fn abroad<'a>(
     purchase: &'a [bool; 128],
     energy: &'a [u32; 128],
 ) -> [u32; 10]
-    requires { ⌜ (n ≤ 128) × ((i : ℕ) → i < n → getD (now border) i 0 < 5) × ((i : ℕ) → getD (now energy) i 0 ≤ 99999) × Listed (now border) n (now at) ⌝ }
+    requires { ⌜ (n ≤ 128) × ((i : ℕ) → i < n → getD (now border) i 0 < 5) × ((i : ℕ) → getD (now energy) i 0 ≤ maxEnergy) × Listed (now border) n (now at) ⌝ }
     ensures { λ r. ⌜ Abroad (now (border .entry)) (now (purchase .entry)) (now (energy .entry)) n r ⌝ }
 {
     let mut f = [0u32; 10];

@@ -4,6 +4,7 @@ ghost use mathlib.Core.List.{List};
 ghost use Prim.Native.Nat.{ℕ, _≤_, _<_};
 ghost use lib.ListN.{getD, length, replicate};
 ghost use Rattle.rules.specs.Lists.{All};
+ghost use Rattle.rules.specs.Units.{maxEnergy};
 ghost use Rattle.rules.specs.Match.{Offer};
 ghost use Rattle.rules.specs.Executions.{cutAll};
 ghost use Rattle.arrays.specs.Places.{layOn};
@@ -59,7 +60,7 @@ pub fn cut<'a>(
     market: &[u32; 10],
     executions: &[u32; 10],
 )
-    requires { ⌜ (n ≤ 128) × ((i : ℕ) → i < n → getD (now border) i 0 < 5) × ((i : ℕ) → getD (now energy) i 0 ≤ 99999)
+    requires { ⌜ (n ≤ 128) × ((i : ℕ) → i < n → getD (now border) i 0 < 5) × ((i : ℕ) → getD (now energy) i 0 ≤ maxEnergy)
         × Small (now market) × Small (now executions) × (length (now energy) ≡ 128) ⌝ }
     ensures { λ _. ⌜ ((x : Executions) (os : List Offer)
         → x .count ≡ n → x .border ≡ now (border .entry) → x .purchase ≡ now (purchase .entry)

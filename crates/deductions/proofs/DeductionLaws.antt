@@ -8,6 +8,7 @@ use lib.Dec.{ltb, eqb}
 use lib.ListN.{getD, length, replicate, length-replicate}
 use borrow.Author.Tests.{ltb-true, ltb-false, lt-ltb, le-ltb}
 use Rattle.rules.specs.Lists.{from, sum, addEach}
+use Rattle.rules.specs.Units.{maxEnergy}
 use Rattle.rules.specs.Share.{share}
 use Rattle.rules.proofs.BoolLaws.{by-bool}
 use Rattle.rules.proofs.ShareLaws.{share-le}
@@ -25,10 +26,10 @@ cond-small false h = omega arith
 
 -- amounts written place by place
 module _ (w n : ℕ) (given m : List ℕ) where
-  pub amounts-small : {a : List ℕ} → a ≡ layOn (amountAt w given m) n 0 (replicate 128 0) → ((i : ℕ) → getD m i 0 ≤ 99999) → (i : ℕ) → getD a i 0 ≤ 99999
+  pub amounts-small : {a : List ℕ} → a ≡ layOn (amountAt w given m) n 0 (replicate 128 0) → ((i : ℕ) → getD m i 0 ≤ maxEnergy) → (i : ℕ) → getD a i 0 ≤ maxEnergy
   unfolding amountAt
   amounts-small e h i =
-      rw e (lay-small (amountAt w given m) 99999 n 0 (replicate 128 0) (λ j x k. cond-small (eqb (getD given j 0) w) (h j)) (λ j. omega (arith, zeros 128 j)) i)
+      rw e (lay-small (amountAt w given m) maxEnergy n 0 (replicate 128 0) (λ j x k. cond-small (eqb (getD given j 0) w) (h j)) (λ j. omega (arith, zeros 128 j)) i)
 
   pub amounts-laid : {a : List ℕ} → n ≤ 128 → a ≡ layOn (amountAt w given m) n 0 (replicate 128 0) → vals a 0 n ≡ amountsIn given m n w
   unfolding amountAt amountsIn

@@ -1,10 +1,10 @@
 -- Lodging: each way out.
 use Prim.Native.Nat.{ℕ}
-use mathlib.Core.Path.{_≡_, sym, ap, _∙_}
+use mathlib.Core.Path.{_≡_, sym, ap, ap₂, _∙_}
 use mathlib.Core.Bool.{Bool, false}
 use mathlib.Core.List.{List, _∷_}
 use Rattle.rules.specs.Refusals.{Row, row, firstRow}
-use Rattle.rules.specs.Message.{energyWidth, decode, badForm}
+use Rattle.rules.specs.Message.{formOf, messageOf, wrongForm, wrongRange}
 use Rattle.rules.specs.DayBook as D
 use Rattle.message.specs.View.{fieldsIn}
 use Rattle.message.specs.declared.Fields.{Fields}
@@ -23,14 +23,14 @@ unfolding row firstRow
 past t u rows h k = rw (h, k)
 
 module _ (s : Session) (bytes : List ℕ) where
-  module _ (m : Fields) (said : fieldsIn m ≡ decode energyWidth bytes) where
+  module _ (m : Fields) (said : fieldsIn m ≡ messageOf bytes) where
     -- a message of the right form is judged by its fields
-    pub lodge-judged : s .closed ≡ false → badForm energyWidth bytes ≡ false → (j : Judged) → JudgesFields s (fieldsIn m) j → Judges s (D.lodge bytes) j
-    unfolding D.rowsOf D.lodgeRows D.changeRow fieldRows lastRows
-    lodge-judged h f j l b e =
+    pub lodge-judged : {top : ℕ} → formOf bytes .top ≡ top → s .closed ≡ false → wrongForm bytes ≡ false → (j : Judged) → JudgesFields s top (fieldsIn m) j → Judges s (D.lodge bytes) j
+    unfolding D.rowsOf D.lodgeRows D.changeRow fieldRows lastRows wrongRange
+    lodge-judged most h f j l b e =
         l b e
-        ∙ (ap (λ n. judgement (firstRow (fieldRows b n))) said
-        ∙ sym (ap judgement (past (b .closed) (badForm energyWidth bytes) (fieldRows b (decode energyWidth bytes)) (closed-as s b e ∙ h) f)))
+        ∙ (ap₂ (λ t n. judgement (firstRow (fieldRows b t n))) (sym most) said
+        ∙ sym (ap judgement (past (b .closed) (wrongForm bytes) (fieldRows b (formOf bytes .top) (messageOf bytes)) (closed-as s b e ∙ h) f)))
 
     pub lodge-entered : (r : Turn) → EnteredFields s m r → Entered s (D.lodge bytes) r
     unfolding D.rowsOf D.lodgeRows D.applied D.reply

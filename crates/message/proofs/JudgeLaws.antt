@@ -41,23 +41,23 @@ module _ (p : ℕ → Bool) (n h : ℕ) where
 -- Every hour's test: h hours are passed, and r is what the test of hour h found
 
 -- what is left to test, from hour h on, is all that counts
-unfoldable pub badFrom : Fields → ℕ → Bool
-badFrom m h = any (badHour m) (from h (26 - h))
+unfoldable pub badFrom : ℕ → Fields → ℕ → Bool
+badFrom top m h = any (badHour top m) (from h (26 - h))
 
-pub hours-past : (m : Fields) (h : ℕ) → 26 ≤ h → badFrom m h ≡ any (badHour m) (from 1 25) → false ≡ any (badHour m) (from 1 25)
+pub hours-past : (top : ℕ) (m : Fields) (h : ℕ) → 26 ≤ h → badFrom top m h ≡ any (badHour top m) (from 1 25) → false ≡ any (badHour top m) (from 1 25)
 unfolding badFrom
-hours-past m h l i = sym (any-past (badHour m) 26 h l) ∙ i
+hours-past top m h l i = sym (any-past (badHour top m) 26 h l) ∙ i
 
-module _ (m : Fields) (h : ℕ) (set r : Bool) (e : set ≡ names (m .map) h)
-    (f : r ≡ badSlot (m .execution) set (getD (m .energies) (h - 1) 0) (getD (m .prices) (h - 1) 0)) where
-  hour-told : badHour m h ≡ r
+module _ (top : ℕ) (m : Fields) (h : ℕ) (set r : Bool) (e : set ≡ names (m .map) h)
+    (f : r ≡ badSlot top (m .execution) set (getD (m .energies) (h - 1) 0) (getD (m .prices) (h - 1) 0)) where
+  hour-told : badHour top m h ≡ r
   unfolding badHour badSlot hourly
   hour-told = rw (← e) (sym f)
 
-  pub hours-here : h < 26 → badFrom m h ≡ any (badHour m) (from 1 25) → r ≡ true → true ≡ any (badHour m) (from 1 25)
+  pub hours-here : h < 26 → badFrom top m h ≡ any (badHour top m) (from 1 25) → r ≡ true → true ≡ any (badHour top m) (from 1 25)
   unfolding badFrom
-  hours-here l i t = sym (any-here (badHour m) 26 h l (hour-told ∙ t)) ∙ i
+  hours-here l i t = sym (any-here (badHour top m) 26 h l (hour-told ∙ t)) ∙ i
 
-  pub hours-later : h < 26 → badFrom m h ≡ any (badHour m) (from 1 25) → r ≡ false → badFrom m (h + 1) ≡ any (badHour m) (from 1 25)
+  pub hours-later : h < 26 → badFrom top m h ≡ any (badHour top m) (from 1 25) → r ≡ false → badFrom top m (h + 1) ≡ any (badHour top m) (from 1 25)
   unfolding badFrom
-  hours-later l i t = sym (any-later (badHour m) 26 h l (hour-told ∙ t)) ∙ i
+  hours-later l i t = sym (any-later (badHour top m) 26 h l (hour-told ∙ t)) ∙ i

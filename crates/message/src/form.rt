@@ -1,7 +1,7 @@
 // What the hour map fixes of a message: where its slots end, and its length.
 ghost use mathlib.Core.Path.{_≡_};
 ghost use Prim.Native.Nat.{_+_, _*_, _≤_};
-ghost use Rattle.rules.specs.Message.{energyWidth, priceWidth, headWidth, slotWidth, setBits, lengthFor};
+ghost use Rattle.rules.specs.Message.{form1, priceWidth, slotsEnd, setBits, lengthFor};
 
 // The bits of a price: an execution has none.
 pub fn price_width(execution: bool) -> usize
@@ -15,7 +15,7 @@ pub fn price_width(execution: bool) -> usize
 
 // The bits of a message up to the end of its last slot.
 pub fn slots_end(execution: bool, map: u32) -> usize
-    ensures { λ r. ⌜ (r ≡ headWidth + setBits map * slotWidth energyWidth execution) × (r ≤ 864) ⌝ }
+    ensures { λ r. ⌜ (r ≡ slotsEnd form1 execution (setBits map)) × (r ≤ 864) ⌝ }
 {
     let n = u32::count_ones(map % 33554432) as usize;
     64 + n * (17 + price_width(execution))
@@ -23,7 +23,7 @@ pub fn slots_end(execution: bool, map: u32) -> usize
 
 // "The number of set bits n fixes the length: 8 + 4n bytes, or 8 + 17n/8 rounded up."
 pub fn length_for(execution: bool, map: u32) -> usize
-    ensures { λ r. ⌜ r ≡ lengthFor energyWidth execution (setBits map) ⌝ }
+    ensures { λ r. ⌜ r ≡ lengthFor form1 execution (setBits map) ⌝ }
 {
     (slots_end(execution, map) + 7) / 8
 }

@@ -17,25 +17,25 @@ fn named(map: u32, h: usize) -> bool
 }
 
 // In one of the 25 hours an energy or a price is outside its range.
-fn bad_hours(m: Fields) -> bool
-    ensures { λ r. ⌜ r ≡ any (badHour (fieldsIn m)) (from 1 25) ⌝ }
+fn bad_hours(m: Fields, top: u32) -> bool
+    ensures { λ r. ⌜ r ≡ any (badHour top (fieldsIn m)) (from 1 25) ⌝ }
 {
     for h in 1..26 {
         let i = h - 1;
         let set = named(m.map, h);
-        if bad_slot(m.execution, set, m.energies[i], m.prices[i]) {
+        if bad_slot(top, m.execution, set, m.energies[i], m.prices[i]) {
             return true;
         }
     }
     false
 }
 
-// 5: a value outside its range.
-pub fn bad_fields(m: Fields) -> bool
-    ensures { λ r. ⌜ r ≡ badFields (fieldsIn m) ⌝ }
+// 5: a value outside its range, an energy being at most `top`.
+pub fn bad_fields(m: Fields, top: u32) -> bool
+    ensures { λ r. ⌜ r ≡ badFields top (fieldsIn m) ⌝ }
 {
     if bad_key(m.execution, m.unit, m.contract) {
         return true;
     }
-    bad_hours(m)
+    bad_hours(m, top)
 }

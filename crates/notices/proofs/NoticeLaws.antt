@@ -10,6 +10,7 @@ use lib.ListN.{take, length, set, getD, length-map}
 use lib.Seq.{set-getD}
 use borrow.Author.Tests.{eqb-true, ne-eqb, lt-ltb, le-ltb, not-false}
 use Rattle.rules.specs.Lists.{All, none, more, Pairwise, empty, ahead, any}
+use Rattle.rules.specs.Units.{maxEnergy}
 use Rattle.rules.specs.Refusals.{row, firstRow}
 use Rattle.rules.specs.Units as U
 use Rattle.rules.specs.Book as B
@@ -38,7 +39,7 @@ use Rattle.session.proofs.SoundLaws.{open-stage}
 -- the energies that a count and an array stand for
 
 abbrev pub overLimit : ℕ → Bool
-overLimit e = ltb 99999 e
+overLimit e = ltb maxEnergy e
 
 pub bad-counted : (n : ℕ) (es : List ℕ) → U.badEnergies (counted n es) ≡ any overLimit (take n es)
 unfolding U.badEnergies

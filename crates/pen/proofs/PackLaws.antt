@@ -18,6 +18,10 @@ use Rattle.rules.proofs.BitLaws.{bytesOf-byte as byte-first}
 low-part : (j v w n : ℕ) → v ≡ j + w → n % 2 ^ v % 2 ^ w ≡ n % 2 ^ w
 low-part j v w n e = rw e (mod-mod-pow n j w)
 
+pub no-bits : (n : ℕ) → bits 0 n ≡ []
+unfolding bits
+no-bits n = refl
+
 -- bits beyond the last v do not count
 pub bits-mod : (w v n : ℕ) → w ≤ v → bits w (n % 2 ^ v) ≡ bits w n
 bits-mod w v n h = bits-same w (n % 2 ^ v) n (low-part (v - w) v w n (omega arith))

@@ -5,21 +5,22 @@ use mathlib.Core.Logic.{_⊎_, inl, inr}
 use mathlib.Core.Path.{_≡_, refl, ap, sym, _∙_}
 use mathlib.Core.List.{List, [], _++_, append-nil}
 use native.Mathlib.Omega.{arith}
-use native.Mathlib.Nat.{zero-div, one-mul, div-eq-of-lt, pow-suc, eq-or-lt-of-le, lt-of-lt-of-le, lt-of-not-le, lt-irrefl, le-trans, pos-of-ne-zero}
+use native.Mathlib.Nat.{add-zero, zero-div, one-mul, div-eq-of-lt, pow-suc, eq-or-lt-of-le, lt-of-lt-of-le, lt-of-not-le, lt-irrefl, le-trans, pos-of-ne-zero}
 use lib.Dec.{eqb, leb, ltb}
 use lib.Count.{leadingZeros, leading-top}
-use lib.Pow.{pow-mono, shl-exact, high, low}
+use lib.Arith.{digits-lt}
+use lib.Pow.{pow-mono, pow-add, shl-exact, high, low}
 use lib.ListN.{drop, getD}
 use lib.Seq.{getD-drop}
 use borrow.Author.Tests.{ltb-false, not-false, eqb-true, eqb-false, leb-false}
 use Rattle.rules.specs.Lists.{any, from, hourly}
-use Rattle.rules.specs.Units.{badNumber, maxEnergy}
+use Rattle.rules.specs.Units.{badNumber}
 use Rattle.rules.specs.Message.{Fields, bits, slot, slots, slotWidth, priceWidth, topPrice, names, hourBits, badMap, badContract, badHour, badFields}
 use Rattle.rules.proofs.BoolLaws.{neither}
 use Rattle.rules.proofs.ListLaws.{any-false, all-from, hourly-suc}
 use Rattle.rules.proofs.BitLaws.{bits-join}
 use Rattle.pen.specs.Pens.{SlotFits, SlotWord, FirstHour, slotsOf}
-use Rattle.pen.proofs.PackLaws.{bits-mod}
+use Rattle.pen.proofs.PackLaws.{no-bits, bits-mod}
 
 -- The next hour
 
@@ -79,25 +80,25 @@ unfolding topPrice priceWidth
 price-fits true p h = omega arith
 price-fits false p h = omega arith
 
-hour-fits : (x named : Bool) (e p : ℕ)
-    → cond named (eqb e 0 || ltb maxEnergy e || ltb (topPrice x) p) (not (eqb e 0) || not (eqb p 0)) ≡ false → SlotFits x e p
-hour-fits x true e p h =
-    let a = neither (eqb e 0 || ltb maxEnergy e) (ltb (topPrice x) p) h in
-    let b = neither (eqb e 0) (ltb maxEnergy e) (a .0) in
-    record { energy = omega (arith, ltb-false maxEnergy e (b .1)); price = price-fits x p (ltb-false (topPrice x) p (a .1)) }
-hour-fits x false e p h =
+hour-fits : (w top : ℕ) (x named : Bool) (e p : ℕ) → top < 2 ^ w
+    → cond named (eqb e 0 || ltb top e || ltb (topPrice x) p) (not (eqb e 0) || not (eqb p 0)) ≡ false → SlotFits w x e p
+hour-fits w top x true e p l h =
+    let a = neither (eqb e 0 || ltb top e) (ltb (topPrice x) p) h in
+    let b = neither (eqb e 0) (ltb top e) (a .0) in
+    record { energy = omega (arith, ltb-false top e (b .1)); price = price-fits x p (ltb-false (topPrice x) p (a .1)) }
+hour-fits w top x false e p l h =
     let a = neither (not (eqb e 0)) (not (eqb p 0)) h in
     let f : e ≡ 0 = eqb-true e 0 (not-false (eqb e 0) (a .0)) in
     let g : p ≡ 0 = eqb-true p 0 (not-false (eqb p 0) (a .1)) in
     record { energy = omega arith; price = price-fits x p (omega arith) }
 
 -- every hour of fields that are not refused, counted from 0, fits its slot
-pub hours-fit : (m : Fields) (i : ℕ) → badFields m ≡ false → i < 25 → SlotFits (m .execution) (getD (m .energies) i 0) (getD (m .prices) i 0)
+pub hours-fit : (w top : ℕ) (m : Fields) (i : ℕ) → top < 2 ^ w → badFields top m ≡ false → i < 25 → SlotFits w (m .execution) (getD (m .energies) i 0) (getD (m .prices) i 0)
 unfolding badFields badHour
-hours-fit m i h l =
-    let b = neither (badNumber (m .unit) || badContract (m .execution) (m .contract)) (any (badHour m) (from 1 25)) h .1 in
+hours-fit w top m i fit h l =
+    let b = neither (badNumber (m .unit) || badContract (m .execution) (m .contract)) (any (badHour top m) (from 1 25)) h .1 in
     rw (hourly-suc (m .energies) i, hourly-suc (m .prices) i) at
-    (hour-fits (m .execution) (names (m .map) (suc i)) (hourly (m .energies) (suc i)) (hourly (m .prices) (suc i)) (all-from 1 25 (suc i) (any-false (badHour m) (from 1 25) b) (omega arith) (omega arith)))
+    (hour-fits w top (m .execution) (names (m .map) (suc i)) (hourly (m .energies) (suc i)) (hourly (m .prices) (suc i)) fit (all-from 1 25 (suc i) (any-false (badHour top m) (from 1 25) b) (omega arith) (omega arith)))
 
 pub map-fits : (map : ℕ) → badMap map ≡ false → (0 < map) × (map < 2 ^ 25)
 unfolding badMap
@@ -126,37 +127,33 @@ first-hour map z b h k l u e =
     record { within = omega arith; first = rw (q, e) (omega arith); after = rw (q, e) (omega arith) }
 
 -- the bits of the slot of hour i, counted from 0
-unfoldable pub slotAt : Fields → ℕ → List ℕ
-slotAt m i = slot 17 (m .execution) 1 (getD (m .energies) i 0) (getD (m .prices) i 0)
+unfoldable pub slotAt : ℕ → Fields → ℕ → List ℕ
+slotAt w m i = slot w (m .execution) 1 (getD (m .energies) i 0) (getD (m .prices) i 0)
 
 -- the slots of a map are that of its first hour, and those of the rest
-pub slotsOf-next : (m : Fields) (map i rest : ℕ) → FirstHour map i rest → slotsOf m map ≡ slotAt m i ++ slotsOf m rest
+pub slotsOf-next : (w : ℕ) (m : Fields) (map i rest : ℕ) → FirstHour map i rest → slotsOf w m map ≡ slotAt w m i ++ slotsOf w m rest
 unfolding slotsOf slotAt slot hourBits
-slotsOf-next m map i rest f =
-    let k : 25 - suc (24 - i) ≡ i = omega (arith, f .within) in
-    let r : map - 2 ^ (24 - i) ≡ rest = omega (arith, f .first) in
-    rw (slots-next 17 (m .execution) 25 (24 - i) map (m .energies) (m .prices) (omega (arith, f .first)) (omega (arith, f .first, f .after, pow-suc 2 (24 - i))) (omega arith), k, r)
+slotsOf-next w m map i rest t =
+    let k : 25 - suc (24 - i) ≡ i = omega (arith, t .within) in
+    let r : map - 2 ^ (24 - i) ≡ rest = omega (arith, t .first) in
+    rw (slots-next w (m .execution) 25 (24 - i) map (m .energies) (m .prices) (omega (arith, t .first)) (omega (arith, t .first, t .after, pow-suc 2 (24 - i))) (omega arith), k, r)
 
-pub slotsOf-none : (m : Fields) (map : ℕ) → map ≡ 0 → slotsOf m map ≡ []
+pub slotsOf-none : (w : ℕ) (m : Fields) (map : ℕ) → map ≡ 0 → slotsOf w m map ≡ []
 unfolding slotsOf hourBits
-slotsOf-none m map e = rw (e, slots-none 17 (m .execution) 25 (m .energies) (m .prices))
+slotsOf-none w m map e = rw (e, slots-none w (m .execution) 25 (m .energies) (m .prices))
 
 -- The number of a slot
 
-pub slot-width : (x : Bool) (p : ℕ) → p ≡ priceWidth x → 17 + p ≡ slotWidth 17 x
+pub slot-width : (w : ℕ) (x : Bool) (p : ℕ) → p ≡ priceWidth x → w + p ≡ slotWidth w x
 unfolding slotWidth
-slot-width x p e = ap (λ n. 17 + n) e
+slot-width w x p e = ap (λ n. w + n) e
 
-no-bits : (n : ℕ) → bits 0 n ≡ []
-unfolding bits
-no-bits n = refl
-
-pub slot-execution : (x : Bool) (e p : ℕ) → x ≡ true → SlotFits x e p → SlotWord x e p e
+pub slot-execution : (w : ℕ) (x : Bool) (e p : ℕ) → x ≡ true → SlotFits w x e p → SlotWord w x e p e
 unfolding slotWidth priceWidth slot
-slot-execution true e p t f = record { small = f .energy; bits = rw (no-bits p) (sym (append-nil (bits 17 e))) }
-slot-execution false e p t f = absurd (false≢true t)
+slot-execution w true e p t f = record { small = rw (add-zero w) (f .energy); bits = rw (add-zero w, no-bits p) (sym (append-nil (bits w e))) }
+slot-execution w false e p t f = absurd (false≢true t)
 
-pub slot-offer : (x : Bool) (e p : ℕ) → x ≡ false → SlotFits x e p → SlotWord x e p (e * 32768 + p)
+pub slot-offer : (w : ℕ) (x : Bool) (e p : ℕ) → x ≡ false → SlotFits w x e p → SlotWord w x e p (e * 32768 + p)
 unfolding slotWidth priceWidth slot
-slot-offer true e p t f = absurd (true≢false t)
-slot-offer false e p t f = record { small = omega (arith, f .energy, f .price); bits = sym (bits-join 17 15 e p (f .price)) }
+slot-offer w true e p t f = absurd (true≢false t)
+slot-offer w false e p t f = record { small = omega (arith, digits-lt {q = e} {m = 2 ^ w} {c = 2 ^ 15} (f .energy) (f .price), pow-add 2 w 15); bits = sym (bits-join w 15 e p (f .price)) }

@@ -5,6 +5,7 @@ use mathlib.Core.Path.{_≡_}
 use mathlib.Core.List.{List, _++_}
 use lib.ListN.{length}
 use lib.Seq.{sets}
+use Rattle.rules.specs.Units.{maxEnergy}
 use Rattle.rules.specs.Message as M
 use Rattle.pen.specs.declared.Pen.{Pen}
 
@@ -31,21 +32,21 @@ pub record Appended (old : List ℕ) (p : Pen) (bs : List ℕ) (new : List ℕ) 
 -- fields that are not refused
 pub record InRanges (m : M.Fields) : Type 0 where
   pub map : M.badMap (m .map) ≡ false
-  pub values : M.badFields m ≡ false
+  pub values : M.badFields maxEnergy m ≡ false
 
--- the slots of the hours that a map names
-unfoldable pub slotsOf : M.Fields → ℕ → List ℕ
-slotsOf m map = M.slots M.energyWidth (m .execution) (M.hourBits map) (m .energies) (m .prices)
+-- the slots of the hours that a map names, energies having w bits
+unfoldable pub slotsOf : ℕ → M.Fields → ℕ → List ℕ
+slotsOf w m map = M.slots w (m .execution) (M.hourBits map) (m .energies) (m .prices)
 
 -- an energy and a price that a slot holds
-pub record SlotFits (execution : Bool) (e p : ℕ) : Type 0 where
-  pub energy : e < 2 ^ M.energyWidth
+pub record SlotFits (w : ℕ) (execution : Bool) (e p : ℕ) : Type 0 where
+  pub energy : e < 2 ^ w
   pub price : p < 2 ^ M.priceWidth execution
 
 -- the number that a slot's bits stand for
-pub record SlotWord (execution : Bool) (e p v : ℕ) : Type 0 where
-  pub small : v < 2 ^ M.slotWidth M.energyWidth execution
-  pub bits : M.bits (M.slotWidth M.energyWidth execution) v ≡ M.slot M.energyWidth execution 1 e p
+pub record SlotWord (w : ℕ) (execution : Bool) (e p v : ℕ) : Type 0 where
+  pub small : v < 2 ^ M.slotWidth w execution
+  pub bits : M.bits (M.slotWidth w execution) v ≡ M.slot w execution 1 e p
 
 -- the first hour of a map, counted from 0, is its highest bit; `rest` is the map without it
 pub record FirstHour (map hour rest : ℕ) : Type 0 where

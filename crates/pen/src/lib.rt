@@ -2,9 +2,9 @@
 use message::Fields;
 ghost use mathlib.Core.Path.{_≡_};
 ghost use mathlib.Core.List.{[], _++_};
-ghost use Prim.Native.Nat.{_+_, _^_, _≤_, _<_};
+ghost use Prim.Native.Nat.{ℕ, _+_, _^_, _≤_, _<_};
 ghost use lib.ListN.{length};
-ghost use Rattle.rules.specs.Message.{bit, bits, headBits, hourBits};
+ghost use Rattle.rules.specs.Message.{form1, bit, bits, headBits, hourBits};
 ghost use Rattle.message.specs.View.{fieldsIn};
 ghost use Rattle.pen.specs.Pens.{Appended, FirstHour, InRanges, Room, SlotFits, SlotWord, completed, stored};
 
@@ -85,7 +85,7 @@ fn flag(b: bool) -> u64
 // Form, kind, default mark, unit and contract as one number of 39 bits.
 pub fn head_word(m: Fields) -> u64
     requires { ⌜ InRanges (fieldsIn m) ⌝ }
-    ensures { λ r. ⌜ (r < 2 ^ 39) × (bits 39 r ++ hourBits (m .map) ≡ headBits (fieldsIn m)) ⌝ }
+    ensures { λ r. ⌜ (r < 2 ^ 39) × (bits 39 r ++ hourBits (m .map) ≡ headBits form1 (fieldsIn m)) ⌝ }
 {
     let kind = 4 + flag(m.execution);
     let marked = kind * 2 + flag(m.default);
@@ -95,8 +95,7 @@ pub fn head_word(m: Fields) -> u64
 
 // An energy and, for an offer, a price as one number.
 pub fn slot_word(execution: bool, energy: u32, price: u32) -> u64
-    requires { ⌜ SlotFits execution energy price ⌝ }
-    ensures { λ r. ⌜ SlotWord execution energy price r ⌝ }
+    ensures { λ r. ⌜ ((w : ℕ) → SlotFits w execution energy price → SlotWord w execution energy price r) ⌝ }
 {
     if execution {
         return energy as u64;

@@ -5,7 +5,7 @@ use mathlib.Core.Bool.{true, false}
 use mathlib.Core.List.{List}
 use native.Mathlib.Omega.{arith}
 use Rattle.rules.specs.Refusals.{row, firstRow}
-use Rattle.rules.specs.Message.{energyWidth, decode, badForm}
+use Rattle.rules.specs.Message.{formOf, messageOf, wrongForm}
 use Rattle.rules.specs.DayBook as D
 use Rattle.session.specs.Parts.{Judges, refusedWith}
 use Rattle.session.specs.Steps.{Met}
@@ -22,7 +22,7 @@ module _ (s : Session) (bytes : List ℕ) where
   unfolding D.rowsOf D.lodgeRows D.changeRow row firstRow
   lodge-2 h b e = rw (closed-as s b e, h)
 
-  pub lodge-3 : s .closed ≡ false → badForm energyWidth bytes ≡ true → Judges s (D.lodge bytes) (No 3 0)
+  pub lodge-3 : s .closed ≡ false → wrongForm bytes ≡ true → Judges s (D.lodge bytes) (No 3 0)
   unfolding D.rowsOf D.lodgeRows D.changeRow row firstRow
   lodge-3 h f b e = rw (f, closed-as s b e, h)
 
@@ -34,18 +34,20 @@ module _ (s : Session) (bytes : List ℕ) where
     opened = λ z. absurd (some z);
     formed = λ z. absurd (some z);
     fields = λ z. absurd (some z);
+    most = λ z. absurd (some z);
   }
     where
       none : (j : ℕ) → Nth (notPending row .beside) j 0
       none j = (omega arith, λ i. absurd (omega arith))
 
   -- read
-  pub pends-read : (m : Fields) (p : Pending) → (p .refusal ≡ 0) × (p .fields ≡ m) × Awaits s p × Located p
-      → s .closed ≡ false → badForm energyWidth bytes ≡ false → fieldsIn m ≡ decode energyWidth bytes → Pends s bytes p
-  pends-read m p found o f e = record {
+  pub pends-read : (m : Fields) (top : ℕ) (p : Pending) → (p .refusal ≡ 0) × (p .fields ≡ m) × Awaits s p × Located p × (p .top ≡ top)
+      → s .closed ≡ false → wrongForm bytes ≡ false → fieldsIn m ≡ messageOf bytes → top ≡ formOf bytes .top → Pends s bytes p
+  pends-read m top p found o f e t = record {
     ready = (λ z. found .2, found .3);
     refused = λ z. absurd (z (found .0));
     opened = λ z. o;
     formed = λ z. f;
     fields = λ z. ap fieldsIn (found .1) ∙ e;
+    most = λ z. sym (found .4 ∙ t);
   }

@@ -4,7 +4,7 @@ use mathlib.Core.Path.{_≡_}
 use mathlib.Core.Bool.{false}
 use mathlib.Core.List.{List}
 use lib.ListN.{getD, replicate}
-use Rattle.rules.specs.Message.{energyWidth, decode, badForm}
+use Rattle.rules.specs.Message.{formOf, messageOf, wrongForm}
 use Rattle.rules.specs.DayBook as D
 use Rattle.arrays.specs.declared.Places.{Places}
 use Rattle.message.specs.View.{fieldsIn}
@@ -32,6 +32,7 @@ notPending row = record {
   second = 0;
   third = 0;
   fourth = 0;
+  top = 0;
 }
 
 -- what is found for another
@@ -73,5 +74,6 @@ pub record Pends (s : Session) (bytes : List ℕ) (p : Pending) : Type 0 where
   pub ready : Prepared s p
   pub refused : (p .refusal ≡ 0 → ⊥) → Met s (D.lodge bytes) (refusedWith s (p .refusal) 0)
   pub opened : p .refusal ≡ 0 → s .closed ≡ false
-  pub formed : p .refusal ≡ 0 → badForm energyWidth bytes ≡ false
-  pub fields : p .refusal ≡ 0 → fieldsIn (p .fields) ≡ decode energyWidth bytes
+  pub formed : p .refusal ≡ 0 → wrongForm bytes ≡ false
+  pub fields : p .refusal ≡ 0 → fieldsIn (p .fields) ≡ messageOf bytes
+  pub most : p .refusal ≡ 0 → formOf bytes .top ≡ p .top

@@ -13,6 +13,7 @@ use keys::key_place;
 use message::Fields;
 use reader::bad_form;
 use reader::fields_of;
+use reader::top_of;
 use session::Energies;
 use session::GATE;
 use session::Holder;
@@ -36,7 +37,8 @@ pub struct Excerpt {
 }
 
 // A message that is read: the row that refuses it, 0 for none; its fields, the place of the lodgement that it replaces, its unit, the
-// places of those that are counted beside it; then the places of its unit's notice and of the first four of those.
+// places of those that are counted beside it; then the places of its unit's notice and of the first four of those, and the largest
+// energy that its form may say.
 pub struct Pending {
     pub refusal: u32,
     pub fields: Fields,
@@ -48,6 +50,7 @@ pub struct Pending {
     pub second: usize,
     pub third: usize,
     pub fourth: usize,
+    pub top: u32,
 }
 
 // A message that this row refuses, the rest 0: "after a 3 nothing further is read".
@@ -79,6 +82,7 @@ fn not_pending(row: u32) -> Pending
         second: 0,
         third: 0,
         fourth: 0,
+        top: 0,
     }
 }
 
@@ -113,9 +117,9 @@ fn nth_place(at: &[usize; 128], count: usize, j: usize) -> usize
 }
 
 // What is found for a message of the right form.
-fn awaiting(s: Session, m: Fields) -> Pending
+fn awaiting(s: Session, m: Fields, top: u32) -> Pending
     requires { ⌜ Within s ⌝ }
-    ensures { λ r. ⌜ (r .refusal ≡ 0) × (r .fields ≡ m) × Awaits s r × Located r ⌝ }
+    ensures { λ r. ⌜ (r .refusal ≡ 0) × (r .fields ≡ m) × Awaits s r × Located r × (r .top ≡ top) ⌝ }
 {
     let key = key_of(m);
     let replaces = replaced_place(s, key);
@@ -140,6 +144,7 @@ fn awaiting(s: Session, m: Fields) -> Pending
         second,
         third,
         fourth,
+        top,
     }
 }
 
@@ -157,7 +162,8 @@ pub fn pend(s: Session, message: &[u8]) -> Pending
         return not_pending(FORM);
     }
     let m = fields_of(message);
-    awaiting(s, m)
+    let top = top_of(message);
+    awaiting(s, m, top)
 }
 
 // What a message's judgement reads, of a session by value.

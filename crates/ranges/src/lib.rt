@@ -7,8 +7,6 @@ ghost use Rattle.ranges.specs.Slots.{badSlot};
 
 const MAX_NUMBER: u32 = 65535;
 
-const MAX_ENERGY: u32 = 99999;
-
 const MAX_PRICE: u32 = 18030;
 
 // 4: an empty map, or one beyond 25 bits.
@@ -61,15 +59,15 @@ fn top_price(execution: bool) -> u32
     MAX_PRICE
 }
 
-// An hour's energy or price is outside its range.
-pub fn bad_slot(execution: bool, set: bool, energy: u32, price: u32) -> bool
-    ensures { λ r. ⌜ r ≡ badSlot execution set energy price ⌝ }
+// An hour's energy or price is outside its range, an energy being at most `top`.
+pub fn bad_slot(top: u32, execution: bool, set: bool, energy: u32, price: u32) -> bool
+    ensures { λ r. ⌜ r ≡ badSlot top execution set energy price ⌝ }
 {
     if set {
         if energy == 0 {
             return true;
         }
-        if MAX_ENERGY < energy {
+        if top < energy {
             return true;
         }
         return top_price(execution) < price;

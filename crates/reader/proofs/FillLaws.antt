@@ -4,17 +4,17 @@ use mathlib.Core.Path.{_≡_, refl, ap, sym, _∙_}
 use mathlib.Core.Bool.{Bool, true, false, _||_}
 use mathlib.Core.List.{List, [], _∷_, _++_}
 use native.Mathlib.Omega.{arith}
-use native.Mathlib.Nat.{lt-of-not-le, pos-of-ne-zero, div-eq-of-lt, mul-add-mod-self-right, pow-suc, suc-mul}
+use native.Mathlib.Nat.{lt-of-not-le, pos-of-ne-zero, div-eq-of-lt, mul-add-mod-self-right, pow-suc, suc-mul, zero-mul}
 use lib.Count.{leadingZeros, leading-length, leading-top, leading-unique}
 use lib.Pow.{pow-pos, pow-mono, high, low}
 use lib.ListN.{length, drop, set, replicate, length-set}
 use lib.Seq.{drop-drop}
 use Rattle.rules.specs.Lists.{sum}
-use Rattle.rules.specs.Message.{bits, bitsOf, field, energyWidth, priceWidth, headWidth, slotWidth, setBits, hourBits, readSlots}
+use Rattle.rules.specs.Message.{bits, bitsOf, field, priceWidth, slotWidth, setBits, hourBits, readSlots}
 use Rattle.rules.proofs.BitLaws.{length-bits, length-bitsOf, bitsOf-under, bits-same, field-drop, field-lt, field-add}
 use Rattle.ranges.specs.Slots.{badSlot}
 use Rattle.reader.specs.Slots.{badSlots}
-use Rattle.message.proofs.FormLaws.{end-le}
+use Rattle.message.proofs.FormLaws.{slots-most}
 
 -- A map of w bits whose first set bit has k bits before it and j after it
 
@@ -78,16 +78,16 @@ module _ (f : List ℕ → ℕ) (n : ℕ) where
   fill-first zero map bs (e ∷ es) h = refl
   fill-first (suc k) map bs (e ∷ es) h = ap (λ l. e ∷ l) (fill-first k map bs es (omega arith))
 
-module _ (x : Bool) where
+module _ (w top : ℕ) (x : Bool) where
   -- the first set hour is judged, and the rest goes on without it
   bad-first : (k : ℕ) (map bs : List ℕ)
-      → badSlots x (replicate k 0 ++ (1 ∷ map)) bs
-      ≡ (badSlot x true (field 0 energyWidth bs) (field energyWidth (priceWidth x) bs) || badSlots x (replicate k 0 ++ (0 ∷ map)) (drop (slotWidth energyWidth x) bs))
+      → badSlots w top x (replicate k 0 ++ (1 ∷ map)) bs
+      ≡ (badSlot top x true (field 0 w bs) (field w (priceWidth x) bs) || badSlots w top x (replicate k 0 ++ (0 ∷ map)) (drop (slotWidth w x) bs))
   unfolding badSlots
   bad-first zero map bs = refl
   bad-first (suc k) map bs = bad-first k map bs
 
-  none-bad : (k : ℕ) (bs : List ℕ) → badSlots x (replicate k 0) bs ≡ false
+  none-bad : (k : ℕ) (bs : List ℕ) → badSlots w top x (replicate k 0) bs ≡ false
   unfolding badSlots
   none-bad zero bs = refl
   none-bad (suc k) bs = none-bad k bs
@@ -154,137 +154,125 @@ module _ {map h : ℕ} (t : Next map h) where
       → fillSlots f n (hourBits map) bs es ≡ fillSlots f n (hourBits (map - 2 ^ (24 - h))) (drop n bs) (set es h (f bs))
   fill-next f n bs es l = rw (here, gone) (fill-first f n h (bits (24 - h) (map - 2 ^ (24 - h))) bs es l)
 
-  pub bad-next : (x : Bool) (bs : List ℕ)
-      → badSlots x (hourBits map) bs
-      ≡ (badSlot x true (field 0 energyWidth bs) (field energyWidth (priceWidth x) bs) || badSlots x (hourBits (map - 2 ^ (24 - h))) (drop (slotWidth energyWidth x) bs))
-  bad-next x bs = rw (here, gone) (bad-first x h (bits (24 - h) (map - 2 ^ (24 - h))) bs)
+  pub bad-next : (w top : ℕ) (x : Bool) (bs : List ℕ)
+      → badSlots w top x (hourBits map) bs
+      ≡ (badSlot top x true (field 0 w bs) (field w (priceWidth x) bs) || badSlots w top x (hourBits (map - 2 ^ (24 - h))) (drop (slotWidth w x) bs))
+  bad-next w top x bs = rw (here, gone) (bad-first w top x h (bits (24 - h) (map - 2 ^ (24 - h))) bs)
 
--- A slot as one number: the energy and, below it, the price
+-- A slot as one number: the energy of w bits and, below it, the price
 
-module _ (at p : ℕ) (bytes : List ℕ) (h : at + energyWidth + p ≤ 8 * length bytes) where
+module _ (w at p : ℕ) (bytes : List ℕ) (h : at + w + p ≤ 8 * length bytes) where
   abbrev slot : ℕ
-  slot = field at (energyWidth + p) (bitsOf bytes)
+  slot = field at (w + p) (bitsOf bytes)
 
-  under : field (at + energyWidth) p (bitsOf bytes) < 2 ^ p
-  under = field-lt (at + energyWidth) p (bitsOf-under bytes)
+  under : field (at + w) p (bitsOf bytes) < 2 ^ p
+  under = field-lt (at + w) p (bitsOf-under bytes)
 
-  joined : slot ≡ field at energyWidth (bitsOf bytes) * 2 ^ p + field (at + energyWidth) p (bitsOf bytes)
-  joined = field-add at energyWidth p (bitsOf bytes) (rw length-bitsOf h)
+  joined : slot ≡ field at w (bitsOf bytes) * 2 ^ p + field (at + w) p (bitsOf bytes)
+  joined = field-add at w p (bitsOf bytes) (rw length-bitsOf h)
 
-  pub slot-energy : field at (energyWidth + p) (bitsOf bytes) / 2 ^ p ≡ field at energyWidth (bitsOf bytes)
-  slot-energy = rw joined (high (field at energyWidth (bitsOf bytes)) p under)
+  pub slot-energy : field at (w + p) (bitsOf bytes) / 2 ^ p ≡ field at w (bitsOf bytes)
+  slot-energy = rw joined (high (field at w (bitsOf bytes)) p under)
 
-  pub slot-price : field at (energyWidth + p) (bitsOf bytes) % 2 ^ p ≡ field (at + energyWidth) p (bitsOf bytes)
-  slot-price = rw joined (low (field at energyWidth (bitsOf bytes)) p under)
+  pub slot-price : field at (w + p) (bitsOf bytes) % 2 ^ p ≡ field (at + w) p (bitsOf bytes)
+  slot-price = rw joined (low (field at w (bitsOf bytes)) p under)
 
--- A slot with a price begins with a byte and fills four; one without has 17 bits. So it lies in the four bytes up to its end
+-- A slot of form 1 with a price begins with a byte and fills four; one without has 17 bits. So it lies in the four bytes up to its end
 
-slot-whole : (x : Bool) (at : ℕ) → at % 8 * priceWidth x ≡ 0 → (at + energyWidth + priceWidth x) % 8 * priceWidth x ≡ 0
-unfolding priceWidth
-slot-whole true at h = omega arith
-slot-whole false at h =
-    let e : at + energyWidth + 15 ≡ 4 * 8 + at = omega arith in
-    rw (e, mul-add-mod-self-right 4 8 at) h
+pub slot-in-four : (x : Bool) (at k : ℕ) → at ≡ 64 + k * slotWidth 17 x → (at + (17 + priceWidth x) + 7) / 8 * 8 ≤ at + 32
+unfolding slotWidth priceWidth
+slot-in-four true at k h = omega arith
+slot-in-four false at k h = omega arith
 
-slot-in-four : (x : Bool) (at : ℕ) → at % 8 * priceWidth x ≡ 0 → (at + (energyWidth + priceWidth x) + 7) / 8 * 8 ≤ at + 32
-unfolding priceWidth
-slot-in-four true at h = omega arith
-slot-in-four false at h =
-    let k : at ≡ 8 * (at / 8) = omega arith in
-    let l : (at + (energyWidth + 15) + 7) / 8 < at / 8 + 5 = omega arith in
-    omega arith
+-- A loop over the named hours of a message: the first slot begins at bit `start`, energies have w bits and are at most `top`
 
--- A loop over the named hours of a message
-
-module _ (bytes : List ℕ) (x : Bool) (map : ℕ) where
-  -- what f finds in the slots of the message
+module _ (start w top : ℕ) (bytes : List ℕ) (x : Bool) (map : ℕ) where
+  -- what g finds in the slots of the message
   abbrev pub Slots : (List ℕ → ℕ) → List ℕ
-  Slots f = readSlots f (slotWidth energyWidth x) (hourBits map) (drop headWidth (bitsOf bytes))
+  Slots g = readSlots g (slotWidth w x) (hourBits map) (drop start (bitsOf bytes))
 
   -- the same, of a list that is filled but for the hours of `rest`, whose slots begin at bit `at`
   abbrev pub Filled : (List ℕ → ℕ) → List ℕ → ℕ → ℕ → Type 0
-  Filled f es at rest = fillSlots f (slotWidth energyWidth x) (hourBits rest) (drop at (bitsOf bytes)) es ≡ Slots f
+  Filled g es at rest = fillSlots g (slotWidth w x) (hourBits rest) (drop at (bitsOf bytes)) es ≡ Slots g
 
   -- what the slots of the message are refused for
   abbrev pub Bad : Bool
-  Bad = badSlots x (hourBits map) (drop headWidth (bitsOf bytes))
+  Bad = badSlots w top x (hourBits map) (drop start (bitsOf bytes))
 
   pub record Filling (energies prices : List ℕ) (at rest : ℕ) (bad : Bool) : Type 0 where
     pub small : rest < 2 ^ 25
     pub energies-long : length energies ≡ 25
     pub prices-long : length prices ≡ 25
-    pub room : at + setBits rest * slotWidth energyWidth x ≤ 8 * length bytes
-    pub near : at + setBits rest * slotWidth energyWidth x ≤ 864
-    pub begun : headWidth ≤ at
-    pub whole : at % 8 * priceWidth x ≡ 0
-    pub energies-so : Filled (field 0 energyWidth) energies at rest
-    pub prices-so : Filled (field energyWidth (priceWidth x)) prices at rest
-    pub bad-so : (bad || badSlots x (hourBits rest) (drop at (bitsOf bytes))) ≡ Bad
+    pub room : at + setBits rest * slotWidth w x ≤ 8 * length bytes
+    pub near : at + setBits rest * slotWidth w x ≤ start + 25 * (w + 15)
+    pub passed : ℕ
+    pub begun : at ≡ start + passed * slotWidth w x
+    pub energies-so : Filled (field 0 w) energies at rest
+    pub prices-so : Filled (field w (priceWidth x)) prices at rest
+    pub bad-so : (bad || badSlots w top x (hourBits rest) (drop at (bitsOf bytes))) ≡ Bad
 
-  blank : (f : List ℕ → ℕ) → Filled f (replicate 25 0) headWidth map
+  blank : (g : List ℕ → ℕ) → Filled g (replicate 25 0) start map
   unfolding hourBits
-  blank f = rw (length-bits 25 map) at (fill-blank f (slotWidth energyWidth x) (hourBits map) (drop headWidth (bitsOf bytes)))
+  blank g = rw (length-bits 25 map) at (fill-blank g (slotWidth w x) (hourBits map) (drop start (bitsOf bytes)))
 
-  pub filling-start : map < 2 ^ 25 → headWidth + setBits map * slotWidth energyWidth x ≤ 8 * length bytes
-      → Filling (replicate 25 0) (replicate 25 0) headWidth map false
+  pub filling-start : map < 2 ^ 25 → start + setBits map * slotWidth w x ≤ 8 * length bytes
+      → Filling (replicate 25 0) (replicate 25 0) start map false
   filling-start s r = record {
     small = s;
     energies-long = refl;
     prices-long = refl;
     room = r;
-    near = end-le x map;
-    begun = omega arith;
-    whole = omega arith;
-    energies-so = blank (field 0 energyWidth);
-    prices-so = blank (field energyWidth (priceWidth x));
+    near = omega (arith, slots-most w x map);
+    passed = 0;
+    begun = omega (arith, zero-mul (slotWidth w x));
+    energies-so = blank (field 0 w);
+    prices-so = blank (field w (priceWidth x));
     bad-so = refl;
   }
 
   module _ {energies prices : List ℕ} {at rest : ℕ} {bad : Bool} (i : Filling energies prices at rest bad) where
-    full : (f : List ℕ → ℕ) (es : List ℕ) → rest ≡ 0 → Filled f es at rest → es ≡ Slots f
+    full : (g : List ℕ → ℕ) (es : List ℕ) → rest ≡ 0 → Filled g es at rest → es ≡ Slots g
     unfolding hourBits
-    full f es z e = sym (rw (z, bits-zero) (fill-zeros f (slotWidth energyWidth x) 25 (drop at (bitsOf bytes)) es)) ∙ e
+    full g es z e = sym (rw (z, bits-zero) (fill-zeros g (slotWidth w x) 25 (drop at (bitsOf bytes)) es)) ∙ e
 
     judged : rest ≡ 0 → bad ≡ Bad
     unfolding hourBits
-    judged z = sym (or-false bad) ∙ (rw (z, bits-zero, none-bad x 25) at (i .bad-so))
+    judged z = sym (or-false bad) ∙ (rw (z, bits-zero, none-bad w top x 25) at (i .bad-so))
 
-    pub filling-end : rest ≡ 0 → (bad ≡ Bad) × (energies ≡ Slots (field 0 energyWidth)) × (prices ≡ Slots (field energyWidth (priceWidth x)))
-    filling-end z = (judged z, full (field 0 energyWidth) energies z (i .energies-so), full (field energyWidth (priceWidth x)) prices z (i .prices-so))
+    pub filling-end : rest ≡ 0 → (bad ≡ Bad) × (energies ≡ Slots (field 0 w)) × (prices ≡ Slots (field w (priceWidth x)))
+    filling-end z = (judged z, full (field 0 w) energies z (i .energies-so), full (field w (priceWidth x)) prices z (i .prices-so))
 
     module _ (h : ℕ) (t : Next rest h) where
       -- the bits of the next slot are there
-      pub room-next : (at + energyWidth + priceWidth x ≤ 8 * length bytes) × (at + energyWidth + priceWidth x ≤ 864) × (headWidth ≤ at)
-          × ((at + (energyWidth + priceWidth x) + 7) / 8 * 8 ≤ at + 32)
+      pub room-next : (at + w + priceWidth x ≤ 8 * length bytes) × (at + w + priceWidth x ≤ start + 25 * (w + 15)) × (start ≤ at)
       unfolding slotWidth
       room-next = (
         omega (arith, rw (count-next t, suc-mul) at (i .room)),
         omega (arith, rw (count-next t, suc-mul) at (i .near)),
-        i .begun,
-        slot-in-four x at (i .whole),
+        omega (arith, i .begun),
       )
 
-      pub filling-next : Filling (set energies h (field at energyWidth (bitsOf bytes)))
-          (set prices h (field (at + energyWidth) (priceWidth x) (bitsOf bytes)))
-          (at + energyWidth + priceWidth x)
+      pub filling-next : Filling (set energies h (field at w (bitsOf bytes)))
+          (set prices h (field (at + w) (priceWidth x) (bitsOf bytes)))
+          (at + w + priceWidth x)
           (rest - 2 ^ (24 - h))
-          (bad || badSlot x true (field at energyWidth (bitsOf bytes)) (field (at + energyWidth) (priceWidth x) (bitsOf bytes)))
+          (bad || badSlot top x true (field at w (bitsOf bytes)) (field (at + w) (priceWidth x) (bitsOf bytes)))
       unfolding slotWidth field
       filling-next =
-          let n = energyWidth + priceWidth x in
+          let n = w + priceWidth x in
           let bs = drop at (bitsOf bytes) in
-          let q : at + n ≡ at + energyWidth + priceWidth x = omega arith in
-          let e : drop n bs ≡ drop (at + energyWidth + priceWidth x) (bitsOf bytes) = rw (drop-drop n at (bitsOf bytes), q) in
-          let p : field energyWidth (priceWidth x) bs ≡ field (at + energyWidth) (priceWidth x) (bitsOf bytes) = field-drop at energyWidth (priceWidth x) (bitsOf bytes) in
+          let q : at + n ≡ at + w + priceWidth x = omega arith in
+          let e : drop n bs ≡ drop (at + w + priceWidth x) (bitsOf bytes) = rw (drop-drop n at (bitsOf bytes), q) in
+          let p : field w (priceWidth x) bs ≡ field (at + w) (priceWidth x) (bitsOf bytes) = field-drop at w (priceWidth x) (bitsOf bytes) in
           record {
             small = omega (arith, i .small);
             energies-long = length-set energies h _ ∙ i .energies-long;
             prices-long = length-set prices h _ ∙ i .prices-long;
             room = omega (arith, rw (count-next t, suc-mul) at (i .room));
             near = omega (arith, rw (count-next t, suc-mul) at (i .near));
-            begun = omega (arith, i .begun);
-            whole = slot-whole x at (i .whole);
-            energies-so = rw (← e) (sym (fill-next t (field 0 energyWidth) n bs energies (omega (arith, t .inside, i .energies-long))) ∙ i .energies-so);
-            prices-so = rw (← e, ← p) (sym (fill-next t (field energyWidth (priceWidth x)) n bs prices (omega (arith, t .inside, i .prices-long))) ∙ i .prices-so);
-            bad-so = rw (← e, ← p) (or-assoc bad (badSlot x true (field 0 energyWidth bs) (field energyWidth (priceWidth x) bs)) (badSlots x (hourBits (rest - 2 ^ (24 - h))) (drop n bs)) ∙ ap (λ b. bad || b) (sym (bad-next t x bs)) ∙ i .bad-so);
+            passed = suc (i .passed);
+            begun = omega (arith, i .begun, suc-mul (i .passed) n);
+            energies-so = rw (← e) (sym (fill-next t (field 0 w) n bs energies (omega (arith, t .inside, i .energies-long))) ∙ i .energies-so);
+            prices-so = rw (← e, ← p) (sym (fill-next t (field w (priceWidth x)) n bs prices (omega (arith, t .inside, i .prices-long))) ∙ i .prices-so);
+            bad-so = rw (← e, ← p) (or-assoc bad (badSlot top x true (field 0 w bs) (field w (priceWidth x) bs)) (badSlots w top x (hourBits (rest - 2 ^ (24 - h))) (drop n bs)) ∙ ap (λ b. bad || b) (sym (bad-next t w top x bs)) ∙ i .bad-so);
           }

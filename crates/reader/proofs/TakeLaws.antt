@@ -3,7 +3,7 @@ use Prim.Native.Nat.{ℕ, _+_, _-_, _^_, min}
 use mathlib.Core.Path.{_≡_}
 use mathlib.Core.List.{List}
 use lib.Dec.{eqb}
-use Rattle.rules.specs.Message.{field, headWidth, isExecution, mapOf}
+use Rattle.rules.specs.Message.{field, form1, headWidth, isExecution, mapOf}
 use Rattle.reader.specs.Slots.{headIn}
 
 -- what `take_at` ensures of w bits from `at` on, and `Reader::take` of crates/cursor: the number v, and the position after them
@@ -14,7 +14,7 @@ Takes bs at w v next = (v ≡ field at (min w 32) bs) × (next ≡ min (at + min
 -- form and the head that `read` reads, and the first slot comes next
 pub head-taken : (bs : List ℕ) {form kind mark unit contract map a b c d e f : ℕ} → Takes bs 0 4 form a → Takes bs a 2 kind b → Takes bs b 1 mark c
     → Takes bs c 16 unit d → Takes bs d 16 contract e → Takes bs e 25 map f
-    → (form ≡ field 0 4 bs) × (record { execution = eqb kind 1; default = eqb mark 1; unit = unit; contract = contract; map = map } ≡ headIn bs) × (f ≡ headWidth)
+    → (form ≡ field 0 4 bs) × (record { execution = eqb kind 1; default = eqb mark 1; unit = unit; contract = contract; map = map } ≡ headIn bs) × (f ≡ headWidth form1)
 unfolding isExecution mapOf
 head-taken bs {a} {b} {c} {d} {e} form kind mark unit contract map =
     let a₁ : a ≡ 4 = form .1 in

@@ -4,7 +4,7 @@ use mathlib.Core.Bool.{Bool, true, false, _||_}
 use mathlib.Core.List.{List, [], _∷_}
 use lib.Dec.{eqb}
 use lib.ListN.{drop}
-use Rattle.rules.specs.Message.{field, energyWidth, priceWidth, slotWidth, isExecution, mapOf}
+use Rattle.rules.specs.Message.{field, priceWidth, slotWidth, isExecution, mapOf}
 use Rattle.ranges.specs.Slots.{badSlot}
 use Rattle.message.specs.declared.Reading.{Reading}
 use Rattle.reader.specs.declared.Head.{Head}
@@ -33,9 +33,10 @@ readingOf j energies prices = record {
   };
 }
 
--- a set hour's energy or price is outside its range, the slots of a map's hours standing one after the other
-unfoldable pub badSlots : Bool → List ℕ → List ℕ → Bool
-badSlots x [] bs = false
-badSlots x (zero ∷ map) bs = badSlots x map bs
-badSlots x (suc b ∷ map) bs =
-    badSlot x true (field 0 energyWidth bs) (field energyWidth (priceWidth x) bs) || badSlots x map (drop (slotWidth energyWidth x) bs)
+-- a set hour's energy or price is outside its range, the slots of a map's hours standing one after the other: energies of w bits,
+-- at most `top`
+unfoldable pub badSlots : ℕ → ℕ → Bool → List ℕ → List ℕ → Bool
+badSlots w top x [] bs = false
+badSlots w top x (zero ∷ map) bs = badSlots w top x map bs
+badSlots w top x (suc b ∷ map) bs =
+    badSlot top x true (field 0 w bs) (field w (priceWidth x) bs) || badSlots w top x map (drop (slotWidth w x) bs)

@@ -11,23 +11,26 @@ use message::form::slots_end;
 use ranges::bad_key;
 use ranges::bad_map;
 use ranges::bad_slot;
+use rules::MAX_ENERGY;
 ghost use mathlib.Core.Path.{_≡_};
 ghost use mathlib.Core.Bool.{false, _||_};
 ghost use Prim.Native.Nat.{_+_, _*_, _^_, _<_, _≤_};
 ghost use lib.Count.{leadingZeros};
 ghost use lib.ListN.{length, drop, replicate};
 ghost use Rattle.rules.specs.Message.{
-  energyWidth,
+  form1,
   priceWidth,
   headWidth,
   slotWidth,
+  slotsEnd,
+  formOf,
   setBits,
   hourBits,
   bitsOf,
   field,
   readSlots,
-  decode,
-  badForm,
+  messageOf,
+  wrongForm,
   read as reading,
 };
 ghost use Rattle.reader.specs.Slots.{badSlots, headIn, noHead, readingOf};
@@ -36,14 +39,14 @@ ghost use Rattle.message.specs.View.{fieldsIn, readingAs};
 // The first eight bytes as one number: it holds every field before the slots.
 fn head_word(s: &[u8]) -> u64
     requires { ⌜ 8 ≤ length (now s) ⌝ }
-    ensures { λ r. ⌜ r ≡ field 0 headWidth (bitsOf (now (s .entry))) ⌝ }
+    ensures { λ r. ⌜ r ≡ field 0 64 (bitsOf (now (s .entry))) ⌝ }
 {
     four_at(s, 0) * 4294967296 + four_at(s, 4)
 }
 
 // 3: wrong length, form, kind or filling.
 pub fn bad_form(s: &[u8]) -> bool
-    ensures { λ r. ⌜ r ≡ badForm energyWidth (now (s .entry)) ⌝ }
+    ensures { λ r. ⌜ r ≡ wrongForm (now (s .entry)) ⌝ }
 {
     if s.len() < 8 {
         return true;
@@ -90,11 +93,11 @@ fn fill(
     energies: &mut [u32; 25],
     prices: &mut [u32; 25],
 ) -> bool
-    requires { ⌜ (map < 2 ^ 25) × (headWidth + setBits map * slotWidth energyWidth execution ≤ 8 * length (now s))
+    requires { ⌜ (map < 2 ^ 25) × (slotsEnd form1 execution (setBits map) ≤ 8 * length (now s))
         × (now energies ≡ replicate 25 0) × (now prices ≡ replicate 25 0) ⌝ }
-    ensures { λ r. ⌜ (r ≡ badSlots execution (hourBits map) (drop headWidth (bitsOf (now (s .entry)))))
-        × (now (energies .exit) ≡ readSlots (field 0 energyWidth) (slotWidth energyWidth execution) (hourBits map) (drop headWidth (bitsOf (now (s .entry)))))
-        × (now (prices .exit) ≡ readSlots (field energyWidth (priceWidth execution)) (slotWidth energyWidth execution) (hourBits map) (drop headWidth (bitsOf (now (s .entry))))) ⌝ }
+    ensures { λ r. ⌜ (r ≡ badSlots (form1 .width) (form1 .top) execution (hourBits map) (drop (headWidth form1) (bitsOf (now (s .entry)))))
+        × (now (energies .exit) ≡ readSlots (field 0 (form1 .width)) (slotWidth (form1 .width) execution) (hourBits map) (drop (headWidth form1) (bitsOf (now (s .entry)))))
+        × (now (prices .exit) ≡ readSlots (field (form1 .width) (priceWidth execution)) (slotWidth (form1 .width) execution) (hourBits map) (drop (headWidth form1) (bitsOf (now (s .entry))))) ⌝ }
 {
     let price = price_width(execution);
     let mask = power(price) as u32 - 1;
@@ -108,7 +111,7 @@ fn fill(
         let p = slot & mask;
         energies[h] = e;
         prices[h] = p;
-        bad = either(bad, bad_slot(execution, true, e, p));
+        bad = either(bad, bad_slot(MAX_ENERGY, execution, true, e, p));
         at = at + 17 + price;
         rest = rest - power(24 - h) as u32;
     }
@@ -140,8 +143,8 @@ fn head_of(s: &[u8]) -> Head
 
 // What a message says, after its form was found right.
 pub fn fields_of(s: &[u8]) -> Fields
-    requires { ⌜ badForm energyWidth (now s) ≡ false ⌝ }
-    ensures { λ r. ⌜ fieldsIn r ≡ decode energyWidth (now (s .entry)) ⌝ }
+    requires { ⌜ wrongForm (now s) ≡ false ⌝ }
+    ensures { λ r. ⌜ fieldsIn r ≡ messageOf (now (s .entry)) ⌝ }
 {
     let head = head_of(s);
     let mut energies = [0u32; 25];
@@ -156,6 +159,13 @@ pub fn fields_of(s: &[u8]) -> Fields
         energies,
         prices,
     }
+}
+
+// The largest energy that a message's form may say.
+pub fn top_of(s: &[u8]) -> u32
+    ensures { λ r. ⌜ r ≡ formOf (now (s .entry)) .top ⌝ }
+{
+    MAX_ENERGY
 }
 
 // What is read of a message beside its energies and prices: refusal 0 and the head, or the table's number and a head that is all 0.

@@ -1,6 +1,7 @@
 // Whether the parts of an hour are in their ranges, as those of a session's hours are: what `clearhour::clear` tests first.
 use borders::Executions;
 use matching::Offers;
+use rules::MAX_ENERGY;
 ghost use mathlib.Core.Path.{_≡_};
 ghost use Rattle.readiness.specs.Ranges.{offersReady, executionsReady, energiesReady};
 
@@ -40,11 +41,11 @@ pub fn energies_ready<'a>(
 ) -> bool
     ensures { λ r. ⌜ r ≡ energiesReady (now (offered .entry)) (now (energy .entry)) (now (capacity .entry)) ⌝ }
 {
-    if arrays::any_above(offered, 128, 99_999) {
+    if arrays::any_above(offered, 128, MAX_ENERGY) {
         return false;
     }
-    if arrays::any_above(energy, 128, 99_999) {
+    if arrays::any_above(energy, 128, MAX_ENERGY) {
         return false;
     }
-    !arrays::any_above(capacity, 10, 99_999)
+    !arrays::any_above(capacity, 10, MAX_ENERGY)
 }

@@ -12,6 +12,7 @@ use lib.ListN.{getD, length, take, set, replicate, length-set, length-map, lengt
 use lib.Seq.{ext-getD, getD-append-add, getD-set-same, getD-set-other}
 use borrow.Author.Tests.{eqb-true, eqb-false, ltb-true, ltb-false, lt-ltb, le-ltb, eq-eqb, ne-eqb}
 use Rattle.rules.specs.Lists.{keep, sum, sumOf, from}
+use Rattle.rules.specs.Units.{maxEnergy}
 use Rattle.rules.specs.Match.{Holder, Offer}
 use Rattle.rules.specs.Borders.{Execution, runs}
 use Rattle.rules.proofs.BoolLaws.{by-bool}
@@ -181,7 +182,7 @@ pub added-end : (place energy : List ℕ) (i n m : ℕ) (a : List ℕ) → i ≡
 added-end place energy i n m a e c = rw (← e) c
 
 -- each is within a bound that grows
-pub bound-next : (a : List ℕ) (p e b : ℕ) → p < length a → e ≤ 99999 → ((q : ℕ) → getD a q 0 ≤ b) → (q : ℕ) → getD (set a p (getD a p 0 + e)) q 0 ≤ b + 99999
+pub bound-next : (a : List ℕ) (p e b : ℕ) → p < length a → e ≤ maxEnergy → ((q : ℕ) → getD a q 0 ≤ b) → (q : ℕ) → getD (set a p (getD a p 0 + e)) q 0 ≤ b + maxEnergy
 bound-next a p e b l h f q =
     by-bool (eqb p q)
     (λ t. let z = eqb-true p q t in rw (← z) (omega (arith, f p, getD-set-same a p (getD a p 0 + e) 0 l)))

@@ -13,7 +13,7 @@ use Rattle.rules.specs.Lists.{All, none, more, empty, keep, any, first, 
 use Rattle.rules.specs.Refusals.{Row, row, firstRow}
 use Rattle.rules.specs.Hours.{Hours·all, Date, isDate, dateRow}
 use Rattle.rules.specs.Units.{TradingUnit, Registered, Published, Capacities, maxEnergy, domestic, badUnit, badNumber, badEnergies, badPublished, notOfHours, sameBorderSide, hasNumber, isRegistered, unitOf, nobody}
-use Rattle.rules.specs.Message.{Fields, energyWidth, names, decode, badForm, badMap, badFields}
+use Rattle.rules.specs.Message.{Fields, names, messageOf, wrongForm, badMap, badFields, wrongRange}
 use Rattle.rules.specs.Lodging.{Key, Lodgement, keyOf, energyAt, sameKey, stands, without, namesBeyond, badKey}
 use Rattle.rules.specs.Book.{Book, hours, limitsOf, fresh}
 use Rattle.rules.specs.Judging.{isAccepted, verdictAmong}
@@ -26,7 +26,7 @@ use Rattle.rules.proofs.BoolLaws.{by-bool, not-both, of-not, neither, b
 use Rattle.rules.proofs.ListLaws.{keep-passes, length-keep, length-drop-one, any-longer, first-longer, all-map, all-head, all-tail, all-keep, all-mapped, all-replicate, all-from, any-false, hourly-beyond}
 use Rattle.rules.proofs.ElementLaws.{all-last, pairwise-last, all-both, pairwise-keep, pairwise-map}
 use Rattle.rules.proofs.RefusalLaws.{accepted-rows}
-use Rattle.rules.proofs.MessageLaws.{Good, good, of-reads, decode-lengths}
+use Rattle.rules.proofs.MessageLaws.{Good, of-reads, message-lengths, message-good}
 
 -- Notices
 
@@ -120,12 +120,12 @@ module _ (n : ℕ) (es : List ℕ) where
 
 -- what is not refused of a message, by the rows of lodging
 pub record Admitted (b : Book) (bytes : List ℕ) : Type 0 where
-  pub form : badForm energyWidth bytes ≡ false
-  pub map : badMap (decode energyWidth bytes .map) ≡ false
-  pub day : namesBeyond (hours b) (decode energyWidth bytes .map) ≡ false
-  pub fields : badFields (decode energyWidth bytes) ≡ false
-  pub holder : badHolder b (keyOf (decode energyWidth bytes)) ≡ false
-  pub room : full b (keyOf (decode energyWidth bytes)) ≡ false
+  pub form : wrongForm bytes ≡ false
+  pub map : badMap (messageOf bytes .map) ≡ false
+  pub day : namesBeyond (hours b) (messageOf bytes .map) ≡ false
+  pub fields : wrongRange bytes ≡ false
+  pub holder : badHolder b (keyOf (messageOf bytes)) ≡ false
+  pub room : full b (keyOf (messageOf bytes)) ≡ false
 
 -- a message that is accepted has it
 pub admitted : (b : Book) (bytes : List ℕ) → firstRow (rowsOf b (lodge bytes)) ≡ nothing → Admitted b bytes
@@ -139,7 +139,7 @@ admitted b bytes h =
     record { form = all-head r2; map = m .0; day = m .1; fields = all-head r4; holder = all-head r5; room = all-head (all-tail r5) }
 
 -- a message that names no hour beyond H has no energy there
-energy-beyond : (H : ℕ) (m : Fields) → Good m → namesBeyond H (m .map) ≡ false → (h : ℕ) → H < h → hourly (m .energies) h ≡ 0
+energy-beyond : (H : ℕ) (m : Fields) → Good maxEnergy m → namesBeyond H (m .map) ≡ false → (h : ℕ) → H < h → hourly (m .energies) h ≡ 0
 unfolding namesBeyond
 energy-beyond H m g d zero l = absurd (omega arith)
 energy-beyond H m g d (suc i) l =
@@ -150,16 +150,16 @@ energy-beyond H m g d (suc i) l =
     (λ k. hourly-beyond (m .energies) i (omega (arith, ltb-false i 25 k, g .energyCount)))
 
 -- an hour without energy has no price
-price-unnamed : (m : Fields) → Good m → (h : ℕ) → hourly (m .energies) h ≡ 0 → hourly (m .prices) h ≡ 0
+price-unnamed : (m : Fields) → Good maxEnergy m → (h : ℕ) → hourly (m .energies) h ≡ 0 → hourly (m .prices) h ≡ 0
 price-unnamed m g h e = g .each h .unnamed (g .each h .named-by ∙ rw e)
 
 -- an entered lodgement is what its message says
-lodged : (b : Book) (bytes : List ℕ) (n : ℕ) → Admitted b bytes → Lodged (hours b) (entry (decode energyWidth bytes) n)
-unfolding entry keyOf energyAt badKey badFields
+lodged : (b : Book) (bytes : List ℕ) (n : ℕ) → Admitted b bytes → Lodged (hours b) (entry (messageOf bytes) n)
+unfolding entry keyOf energyAt badKey badFields wrongRange
 lodged b bytes n a =
-    let m = decode energyWidth bytes in
-    let c = decode-lengths energyWidth bytes in
-    let g : Good m = good m (a .map) (a .fields) (c .0) (c .1) in
+    let m = messageOf bytes in
+    let c = message-lengths bytes in
+    let g : Good maxEnergy m = message-good bytes (a .map) (a .fields) in
     record {
       bytes = bytes;
       fields = m;
@@ -282,7 +282,7 @@ applied-sound b (available n es) h s =
       stage = s .stage;
     }
 applied-sound b (lodge bytes) h s =
-    let m = decode energyWidth bytes in
+    let m = messageOf bytes in
     let a = admitted b bytes h in
     record {
       date = s .date;

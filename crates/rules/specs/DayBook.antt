@@ -9,7 +9,7 @@ use Rattle.rules.specs.Lists.{any}
 use Rattle.rules.specs.Refusals.{Row, row, firstRow}
 use Rattle.rules.specs.Hours.{Date, dateRow}
 use Rattle.rules.specs.Units.{TradingUnit, Registered, Capacities, badUnit, badNumber, badEnergies, badPublished, notOfHours, sameBorderSide, hasNumber, isRegistered, unitOf}
-use Rattle.rules.specs.Message.{Fields, energyWidth, decode, badForm, badMap, badFields}
+use Rattle.rules.specs.Message.{Fields, messageOf, wrongForm, badMap, wrongRange}
 use Rattle.rules.specs.Lodging.{Key, Lodgement, keyOf, stands, without, judgedAt, judgedBy, limitRows, namesBeyond, domesticExecution, badKey}
 use Rattle.rules.specs.Book.{Book, hours, linesOf, fresh}
 use Rattle.rules.specs.Clearing.{daySteps}
@@ -58,11 +58,11 @@ full b k = (leb 128 (length (b .standing)) && not (stands (b .standing) k)) || l
 
 unfoldable pub lodgeRows : Book → List ℕ → List Row
 lodgeRows b bytes =
-    let m = decode energyWidth bytes in
+    let m = messageOf bytes in
     changeRow b
-    ∷ row 3 (badForm energyWidth bytes)
+    ∷ row 3 (wrongForm bytes)
     ∷ row 4 (badMap (m .map) || namesBeyond (hours b) (m .map))
-    ∷ row 5 (badFields m)
+    ∷ row 5 (wrongRange bytes)
     ∷ row 6 (badHolder b (keyOf m))
     ∷ row 9 (full b (keyOf m))
     ∷ limitRows (hours b) (m .energies) (judgedAt (b .standing) m)
@@ -140,7 +140,7 @@ applied b (register u) = withUnits b (b .units ++ (record { unit = u; available 
 applied b (capacity cs) = withCapacities b cs
 applied b (available n es) = withUnits b (map (notify n es) (b .units))
 applied b (lodge bytes) =
-    let m = decode energyWidth bytes in
+    let m = messageOf bytes in
     withStanding b (without (keyOf m) (b .standing) ++ (entry m (suc (b .last)) ∷ [])) (suc (b .last))
 applied b (annul k) = withStanding b (without k (b .standing)) (b .last)
 applied b close = withStage b true (b .cleared)

@@ -10,7 +10,7 @@ use Rattle.rules.specs.Lists.{Lists·all}
 use Rattle.rules.specs.Refusals.{Outcome, given, Refusals·all}
 use Rattle.rules.specs.Hours.{Date, Clock, hoursAt, clockOf, Hours·all}
 use Rattle.rules.specs.Units.{Units·all}
-use Rattle.rules.specs.Message.{Fields, energyWidth, encode, read, write, Message·all}
+use Rattle.rules.specs.Message.{Fields, form1, encode, read, write, Message·all}
 use Rattle.rules.specs.Lodging.{Lodging·all}
 use Rattle.rules.specs.Book.{Book, Book·all}
 use Rattle.rules.specs.Judging.{Judging·all}
@@ -78,7 +78,7 @@ unit n border purchase = register (record { number = n; agent = n; border = bord
 
 abbrev firstHour : Bool → ℕ → ℕ → ℕ → ℕ → Call
 firstHour execution u contract e p =
-    lodge (encode energyWidth (record { execution = execution; default = false; unit = u; contract = contract; map = 0b1000000000000000000000000; energies = e ∷ replicate 24 0; prices = p ∷ replicate 24 0 }))
+    lodge (encode form1 (record { execution = execution; default = false; unit = u; contract = contract; map = 0b1000000000000000000000000; energies = e ∷ replicate 24 0; prices = p ∷ replicate 24 0 }))
 
 -- "Domestic sale 300 at 3,000, French purchase 150 at 5,000, domestic purchase 100 at 4,000, E 100, import absent"
 abbrev calls11 : List Call

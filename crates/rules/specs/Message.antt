@@ -1,5 +1,5 @@
 -- "The lodging message": its fields, its bits and bytes, reading and writing.
--- Bits are lists of 0 and 1, most significant first. The codec is stated over the width w of an energy; form 1 has 17.
+-- Bits are lists of 0 and 1, most significant first. The codec is stated over the form f of a message, slots over the width w of an energy.
 use Prim.Native.Nat.{ℕ, zero, suc, _+_, _*_, _/_, _%_, _^_}
 use mathlib.Core.Bool.{Bool, true, false, cond, not, _||_}
 use mathlib.Core.List.{List, [], _∷_, _++_}
@@ -19,9 +19,16 @@ pub record Fields : Type 0 where
   pub energies : List ℕ
   pub prices : List ℕ
 
--- "energy 17" of form 1
-abbrev pub energyWidth : ℕ
-energyWidth = 17
+-- What a form of the message fixes.
+pub record Form : Type 0 where
+  pub number : ℕ
+  pub width : ℕ  -- of an energy
+  pub top : ℕ  -- the largest energy that it may say
+  pub partner : ℕ  -- the bits of the counterparty, after the hour map
+
+-- "form 4 bits (1)"; "energy 17"; "Named energies are 1 to 99,999"
+abbrev pub form1 : Form
+form1 = record { number = 1; width = 17; top = 99999; partner = 0 }
 
 -- "for an offer price 15"
 unfoldable pub priceWidth : Bool → ℕ
@@ -32,9 +39,9 @@ priceWidth false = 15
 abbrev pub mapWidth : ℕ
 mapWidth = 25
 
--- form 4, kind 2, default mark 1, unit 16, contract 16, hour map 25
-abbrev pub headWidth : ℕ
-headWidth = 64
+-- form 4, kind 2, default mark 1, unit 16, contract 16, hour map 25; then the counterparty
+abbrev pub headWidth : Form → ℕ
+headWidth f = 64 + f .partner
 
 -- Bits
 
@@ -86,16 +93,21 @@ setBits map = sum (hourBits map)
 unfoldable pub slotWidth : ℕ → Bool → ℕ
 slotWidth w execution = w + priceWidth execution
 
+-- the bits up to the end of the last of n slots
+abbrev pub slotsEnd : Form → Bool → ℕ → ℕ
+slotsEnd f execution n = headWidth f + n * slotWidth (f .width) execution
+
 -- "The number of set bits n fixes the length: 8 + 4n bytes, or 8 + 17n/8 rounded up."
-unfoldable pub lengthFor : ℕ → Bool → ℕ → ℕ
-lengthFor w execution n = 8 + roundUp (n * slotWidth w execution) 8
+unfoldable pub lengthFor : Form → Bool → ℕ → ℕ
+lengthFor f execution n = 8 + roundUp (f .partner + n * slotWidth (f .width) execution) 8
 
 -- Writing
 
--- "form 4 bits (1); kind 2 [..]; default mark 1; unit 16; contract 16 [..]; hour map 25"
-unfoldable pub headBits : Fields → List ℕ
-headBits m =
-    bits 4 1 ++ (bits 2 (bit (m .execution)) ++ (bits 1 (bit (m .default)) ++ (bits 16 (m .unit) ++ (bits 16 (m .contract) ++ hourBits (m .map)))))
+-- "form 4 bits (1); kind 2 [..]; default mark 1; unit 16; contract 16 [..]; hour map 25". Fields have no counterparty: its bits are 0.
+unfoldable pub headBits : Form → Fields → List ℕ
+headBits f m =
+    bits 4 (f .number)
+    ++ (bits 2 (bit (m .execution)) ++ (bits 1 (bit (m .default)) ++ (bits 16 (m .unit) ++ (bits 16 (m .contract) ++ (hourBits (m .map) ++ bits (f .partner) 0)))))
 
 -- the bits of an hour: none where it is not set
 unfoldable pub slot : ℕ → Bool → ℕ → ℕ → ℕ → List ℕ
@@ -107,12 +119,12 @@ unfoldable pub slots : ℕ → Bool → List ℕ → List ℕ → List ℕ → L
 slots w x [] es ps = []
 slots w x (b ∷ map) es ps = slot w x b (hourly es 1) (hourly ps 1) ++ slots w x map (drop 1 es) (drop 1 ps)
 
-unfoldable pub messageBits : ℕ → Fields → List ℕ
-messageBits w m = headBits m ++ slots w (m .execution) (hourBits (m .map)) (m .energies) (m .prices)
+unfoldable pub messageBits : Form → Fields → List ℕ
+messageBits f m = headBits f m ++ slots (f .width) (m .execution) (hourBits (m .map)) (m .energies) (m .prices)
 
 -- the bytes of a message
-unfoldable pub encode : ℕ → Fields → List ℕ
-encode w m = bytesOf (messageBits w m)
+unfoldable pub encode : Form → Fields → List ℕ
+encode f m = bytesOf (messageBits f m)
 
 -- Reading
 
@@ -130,11 +142,12 @@ unfoldable pub mapOf : List ℕ → ℕ
 mapOf bs = field 39 25 bs
 
 -- what the bits of a message say
-unfoldable pub fieldsOf : ℕ → List ℕ → Fields
-fieldsOf w bs =
+unfoldable pub fieldsOf : Form → List ℕ → Fields
+fieldsOf f bs =
+    let w = f .width in
     let x = isExecution bs in
     let map = hourBits (mapOf bs) in
-    let rest = drop headWidth bs in
+    let rest = drop (headWidth f) bs in
     record {
       execution = x;
       default = eqb (field 6 1 bs) 1;
@@ -145,24 +158,36 @@ fieldsOf w bs =
       prices = readSlots (field w (priceWidth x)) (slotWidth w x) map rest;
     }
 
-unfoldable pub decode : ℕ → List ℕ → Fields
-decode w bytes = fieldsOf w (bitsOf bytes)
+unfoldable pub decode : Form → List ℕ → Fields
+decode f bytes = fieldsOf f (bitsOf bytes)
+
+-- the form that a message is read by
+unfoldable pub formOf : List ℕ → Form
+formOf bytes = form1
+
+-- what a message says, by its form
+unfoldable pub messageOf : List ℕ → Fields
+messageOf bytes = decode (formOf bytes) bytes
 
 -- Refusals
 
 -- the bits after the last slot are not all 0
-unfoldable pub badFilling : ℕ → List ℕ → Bool
-badFilling w bs = any (λ b. not (eqb b 0)) (drop (headWidth + setBits (mapOf bs) * slotWidth w (isExecution bs)) bs)
+unfoldable pub badFilling : Form → List ℕ → Bool
+badFilling f bs = any (λ b. not (eqb b 0)) (drop (slotsEnd f (isExecution bs) (setBits (mapOf bs))) bs)
 
--- 3, form: "wrong length, form, kind or filling". "A length under 8 is 3".
-unfoldable pub badForm : ℕ → List ℕ → Bool
-badForm w bytes =
+-- "wrong length, form, kind or filling" of a message of form f. "A length under 8 is 3".
+unfoldable pub badForm : Form → List ℕ → Bool
+badForm f bytes =
     let bs = bitsOf bytes in
     ltb (length bytes) 8
-    || not (eqb (length bytes) (lengthFor w (isExecution bs) (setBits (mapOf bs))))
-    || not (eqb (field 0 4 bs) 1)
+    || not (eqb (length bytes) (lengthFor f (isExecution bs) (setBits (mapOf bs))))
+    || not (eqb (field 0 4 bs) (f .number))
     || ltb 1 (field 4 2 bs)
-    || badFilling w bs
+    || badFilling f bs
+
+-- 3, form
+unfoldable pub wrongForm : List ℕ → Bool
+wrongForm bytes = badForm (formOf bytes) bytes
 
 -- 4, hour: "empty map". By itself the reader and the writer know no day: "there 4 means an empty map or one beyond 25 bits"
 unfoldable pub badMap : ℕ → Bool
@@ -178,39 +203,45 @@ unfoldable pub topPrice : Bool → ℕ
 topPrice true = 0
 topPrice false = maxPrice
 
--- "Named energies are 1 to 99,999; an unnamed hour's energy and price, and all prices of an execution, are 0"
-unfoldable pub badHour : Fields → ℕ → Bool
-badHour m h =
+-- "Named energies are 1 to 99,999; an unnamed hour's energy and price, and all prices of an execution, are 0": energies up to `top`
+unfoldable pub badHour : ℕ → Fields → ℕ → Bool
+badHour top m h =
     let e = hourly (m .energies) h in
     let p = hourly (m .prices) h in
     cond (names (m .map) h)
-    (eqb e 0 || ltb maxEnergy e || ltb (topPrice (m .execution)) p)
+    (eqb e 0 || ltb top e || ltb (topPrice (m .execution)) p)
     (not (eqb e 0) || not (eqb p 0))
 
--- 5, range: "a value outside its range"
-unfoldable pub badFields : Fields → Bool
-badFields m = badNumber (m .unit) || badContract (m .execution) (m .contract) || any (badHour m) (from 1 mapWidth)
+-- "a value outside its range", energies up to `top`
+unfoldable pub badFields : ℕ → Fields → Bool
+badFields top m = badNumber (m .unit) || badContract (m .execution) (m .contract) || any (badHour top m) (from 1 mapWidth)
+
+-- 5, range: of a message, by the largest energy of its form
+unfoldable pub wrongRange : List ℕ → Bool
+wrongRange bytes = badFields (formOf bytes .top) (messageOf bytes)
 
 unfoldable pub readRows : List ℕ → List Row
-readRows bytes =
-    let m = decode energyWidth bytes in
-    row 3 (badForm energyWidth bytes) ∷ row 4 (badMap (m .map)) ∷ row 5 (badFields m) ∷ []
+readRows bytes = row 3 (wrongForm bytes) ∷ row 4 (badMap (messageOf bytes .map)) ∷ row 5 (wrongRange bytes) ∷ []
 
 -- reading: a message's fields, or its refusal
 unfoldable pub read : List ℕ → Outcome Fields
-read bytes = outcome (readRows bytes) (decode energyWidth bytes)
+read bytes = outcome (readRows bytes) (messageOf bytes)
+
+-- the form that fields are written in
+unfoldable pub formFor : Fields → Form
+formFor m = form1
 
 -- "The number of set bits n fixes the length": of the fields' message
 unfoldable pub messageLength : Fields → ℕ
-messageLength m = lengthFor energyWidth (m .execution) (setBits (m .map))
+messageLength m = lengthFor (formFor m) (m .execution) (setBits (m .map))
 
 -- 14, short: "writer's buffer too small"
 unfoldable pub writeRows : ℕ → Fields → List Row
-writeRows room m = row 4 (badMap (m .map)) ∷ row 5 (badFields m) ∷ row 14 (ltb room (messageLength m)) ∷ []
+writeRows room m = row 4 (badMap (m .map)) ∷ row 5 (badFields maxEnergy m) ∷ row 14 (ltb room (messageLength m)) ∷ []
 
 -- writing into a buffer of `room` bytes: "exactly these bytes", or its refusal
 unfoldable pub write : ℕ → Fields → Outcome (List ℕ)
-write room m = outcome (writeRows room m) (encode energyWidth m)
+write room m = outcome (writeRows room m) (encode (formFor m) m)
 
 -- what the buffer then holds: the bytes and, "beyond them", what it held; where writing is refused, all that it held
 unfoldable pub bufferAfter : Outcome (List ℕ) → List ℕ → List ℕ
@@ -218,5 +249,5 @@ bufferAfter (given bytes) old = bytes ++ drop (length bytes) old
 bufferAfter (refused n h) old = old
 
 unfoldable pub Message·all : Unit {0}
-unfolding priceWidth bits value field bitsOf groups bytesOf bit hourBits names setBits slotWidth lengthFor headBits slot slots messageBits encode readSlots isExecution mapOf fieldsOf decode badFilling badForm badMap badContract topPrice badHour badFields readRows read messageLength writeRows write bufferAfter
+unfolding priceWidth bits value field bitsOf groups bytesOf bit hourBits names setBits slotWidth lengthFor headBits slot slots messageBits encode readSlots isExecution mapOf fieldsOf decode formOf messageOf badFilling badForm wrongForm badMap badContract topPrice badHour badFields wrongRange readRows read formFor messageLength writeRows write bufferAfter
 Message·all = tt

@@ -214,7 +214,7 @@ impl Session {
 
     pub const MAX_LODGEMENTS: usize = 128;
 
-    pub const MAX_ENERGY: u32 = 99_999;
+    pub const MAX_ENERGY: u32 = rules::MAX_ENERGY;
 
     pub const MAX_NUMBER: u32 = 65_535;
 

@@ -4,6 +4,7 @@ ghost use mathlib.Core.List.{map, _++_};
 ghost use Prim.Native.Nat.{ℕ, _≤_, _<_};
 ghost use lib.ListN.{length, getD, take, drop};
 ghost use Rattle.rules.specs.Lists.{sum, addEach};
+ghost use Rattle.rules.specs.Units.{maxEnergy};
 ghost use Rattle.rules.specs.Share.{proRata, handOut, share as shareOf};
 ghost use Rattle.arrays.specs.Places.{vals};
 ghost use Rattle.share.specs.Next.{next};
@@ -67,7 +68,7 @@ fn hand_out(deductions: &mut [u32], amounts: &[u32], left: u32)
 
 // Share over all the amounts, whose sum is g.
 fn share_all(deductions: &mut [u32], amounts: &[u32], r: u32, g: u32)
-    requires { ⌜ (length (now deductions) ≡ length (now amounts)) × (r ≤ g) × (g ≡ sum (now amounts)) × ((i : ℕ) → getD (now amounts) i 0 ≤ 99999) ⌝ }
+    requires { ⌜ (length (now deductions) ≡ length (now amounts)) × (r ≤ g) × (g ≡ sum (now amounts)) × ((i : ℕ) → getD (now amounts) i 0 ≤ maxEnergy) ⌝ }
     ensures { λ _. ⌜ now (deductions .exit) ≡ shareOf r (now (amounts .entry)) ⌝ }
 {
     let s = floors(deductions, amounts, r, g);
@@ -76,7 +77,7 @@ fn share_all(deductions: &mut [u32], amounts: &[u32], r: u32, g: u32)
 
 // Share over the first n amounts, whose sum is g.
 fn share_first(deductions: &mut [u32], amounts: &[u32], n: usize, r: u32, g: u32)
-    requires { ⌜ (n ≤ length (now deductions)) × (n ≤ length (now amounts)) × (r ≤ g) × (g ≡ sum (take n (now amounts))) × ((i : ℕ) → getD (now amounts) i 0 ≤ 99999) ⌝ }
+    requires { ⌜ (n ≤ length (now deductions)) × (n ≤ length (now amounts)) × (r ≤ g) × (g ≡ sum (take n (now amounts))) × ((i : ℕ) → getD (now amounts) i 0 ≤ maxEnergy) ⌝ }
     ensures { λ _. ⌜ now (deductions .exit) ≡ shareOf r (take n (now (amounts .entry))) ++ drop n (now (deductions .entry)) ⌝ }
 {
     share_all(&mut deductions[..n], &amounts[..n], r, g)
@@ -84,7 +85,7 @@ fn share_first(deductions: &mut [u32], amounts: &[u32], n: usize, r: u32, g: u32
 
 // To take r from the first n amounts, whose sum is g: what each of them loses. The deductions behind them stay as they were.
 pub fn share(deductions: &mut [u32; 128], amounts: &[u32; 128], n: usize, r: u32, g: u32)
-    requires { ⌜ (n ≤ 128) × ((i : ℕ) → getD (now amounts) i 0 ≤ 99999) × (r ≤ g) × (g ≡ sum (vals (now amounts) 0 n)) ⌝ }
+    requires { ⌜ (n ≤ 128) × ((i : ℕ) → getD (now amounts) i 0 ≤ maxEnergy) × (r ≤ g) × (g ≡ sum (vals (now amounts) 0 n)) ⌝ }
     ensures { λ _. ⌜ (vals (now (deductions .exit)) 0 n ≡ shareOf r (vals (now (amounts .entry)) 0 n)) × ((i : ℕ) → n ≤ i → getD (now (deductions .exit)) i 0 ≡ getD (now (deductions .entry)) i 0) ⌝ }
 {
     share_first(deductions, amounts, n, r, g)

@@ -8,6 +8,7 @@ use native.Mathlib.Omega.{arith}
 use lib.Dec.{ltb}
 use lib.ListN.{getD}
 use borrow.Author.Tests.{ltb-true, ltb-false}
+use Rattle.rules.specs.Units.{maxEnergy}
 use Rattle.rules.specs.Match.{Offer, volume}
 use Rattle.rules.specs.Borders.{Directed}
 use Rattle.rules.specs.Lists.{from, sum, sumOf}
@@ -86,7 +87,7 @@ pub one-made : (steps left bound : ℕ) → steps + left ≡ bound → 0 < left 
 one-made steps left bound h k = omega arith
 
 -- the count of steps fits
-pub step-fits : (steps left bound n : ℕ) → steps + left ≡ bound → 0 < left → bound ≤ 99999 * n → n ≤ 128 → steps + 1 < 2 ^ 32
+pub step-fits : (steps left bound n : ℕ) → steps + left ≡ bound → 0 < left → bound ≤ maxEnergy * n → n ≤ 128 → steps + 1 < 2 ^ 32
 step-fits steps left bound n h k l m = omega arith
 
 module _ {h : Offers} {published : List Bool} {maxima e₀ m₀ e m : List ℕ} {left steps v : ℕ} (t : Turning h published maxima e₀ m₀ e m left steps v) where

@@ -11,10 +11,11 @@ use pen::put_bits;
 use pen::put_last;
 use pen::slot_word;
 use ranges::bad_map;
+use rules::MAX_ENERGY;
 ghost use mathlib.Core.Path.{_≡_};
 ghost use Prim.Native.Nat.{_≤_};
 ghost use lib.ListN.{length};
-ghost use Rattle.rules.specs.Message.{headBits, messageLength, write as writing};
+ghost use Rattle.rules.specs.Message.{form1, headBits, messageLength, write as writing};
 ghost use Rattle.rules.specs.Message.{bufferAfter};
 ghost use Rattle.message.specs.View.{fieldsIn, writtenAs};
 ghost use Rattle.pen.specs.Pens.{Appended, InRanges, Room, slotsOf};
@@ -22,7 +23,7 @@ ghost use Rattle.pen.specs.Pens.{Appended, InRanges, Room, slotsOf};
 // The first 64 bits, from the start of the buffer on.
 fn put_head(m: Fields, buf: &mut [u8]) -> Pen
     requires { ⌜ InRanges (fieldsIn m) × (8 ≤ length (now buf)) ⌝ }
-    ensures { λ r. ⌜ (r .pos ≡ 64) × Appended (now (buf .entry)) (record { pos = 0; acc = 0 }) (headBits (fieldsIn m)) (now (buf .exit)) r ⌝ }
+    ensures { λ r. ⌜ (r .pos ≡ 64) × Appended (now (buf .entry)) (record { pos = 0; acc = 0 }) (headBits form1 (fieldsIn m)) (now (buf .exit)) r ⌝ }
 {
     let start = Pen { pos: 0, acc: 0 };
     let before_map = put_bits(buf, start, head_word(m), 39);
@@ -31,8 +32,8 @@ fn put_head(m: Fields, buf: &mut [u8]) -> Pen
 
 // The slots of the hours that the map names, rising.
 fn put_hours(m: Fields, buf: &mut [u8], start: Pen) -> Pen
-    requires { ⌜ InRanges (fieldsIn m) × Room (now buf) start (length (slotsOf (fieldsIn m) (m .map))) ⌝ }
-    ensures { λ r. ⌜ Appended (now (buf .entry)) start (slotsOf (fieldsIn m) (m .map)) (now (buf .exit)) r ⌝ }
+    requires { ⌜ InRanges (fieldsIn m) × Room (now buf) start (length (slotsOf (form1 .width) (fieldsIn m) (m .map))) ⌝ }
+    ensures { λ r. ⌜ Appended (now (buf .entry)) start (slotsOf (form1 .width) (fieldsIn m) (m .map)) (now (buf .exit)) r ⌝ }
 {
     let width = 17 + price_width(m.execution);
     let mut p = start;
@@ -52,7 +53,7 @@ fn refusal(m: Fields, room: usize, count: usize) -> u32
     requires { ⌜ count ≡ messageLength (fieldsIn m) ⌝ }
     ensures { λ r. ⌜ r ≡ writtenAs (writing room (fieldsIn m)) .refusal ⌝ }
 {
-    let bad = bad_fields(m);
+    let bad = bad_fields(m, MAX_ENERGY);
     let short = room < count;
     if bad_map(m.map) {
         return 4;

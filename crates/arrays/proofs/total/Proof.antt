@@ -2,6 +2,7 @@ use Prim.Native.Nat.{_≤_, _-_, _+_, _*_}
 use mathlib.Core.Path.{_≡_}
 use native.Mathlib.Omega.{arith}
 use Rattle.rules.specs.Lists.{sum}
+use Rattle.rules.specs.Units.{maxEnergy}
 use Rattle.arrays.specs.Places.{vals}
 use Rattle.arrays.proofs.PlaceLaws.{total-next, total-end}
 use borrow.Author.Needs.{needs}
@@ -9,7 +10,7 @@ use Rattle.arrays.proofs.total.Statement.{statement}
 use Rattle.arrays.proofs.total.Tie as tie
 
 abbrev Inv-loop : tie.InvT-loop
-Inv-loop a n s₀ i₀ s i = (i ≤ n) × (s ≤ 99999 * i) × (s + sum (vals a i n) ≡ sum (vals a 0 n))
+Inv-loop a n s₀ i₀ s i = (i ≤ n) × (s ≤ maxEnergy * i) × (s + sum (vals a i n) ≡ sum (vals a 0 n))
 
 abbrev μ-loop : tie.MeasureT-loop
 μ-loop a n s₀ i₀ s i = n - i

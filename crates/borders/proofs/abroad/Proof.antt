@@ -2,6 +2,7 @@ use Prim.Native.Nat.{ℕ, _≤_, _-_, _+_, _*_}
 use mathlib.Core.Path.{_≡_, refl, _∙_}
 use native.Mathlib.Omega.{arith}
 use lib.ListN.{length, length-set, getD}
+use Rattle.rules.specs.Units.{maxEnergy}
 use Rattle.arrays.specs.Listing.{behind}
 use Rattle.arrays.proofs.PlaceLaws.{zeros}
 use Rattle.borders.proofs.FlowLaws.{Counting, counting-next, counting-end, set-more}
@@ -11,7 +12,7 @@ use Rattle.borders.proofs.abroad.Tie as tie
 
 abbrev Inv-loop : tie.InvT-loop
 Inv-loop n at border purchase energy f₀ k₀ k-end f k =
-    (k ≤ length at) × (length f ≡ 10) × ((w : ℕ) → getD f w 0 ≤ 99999 * k) × Counting border purchase energy n f (behind at k)
+    (k ≤ length at) × (length f ≡ 10) × ((w : ℕ) → getD f w 0 ≤ maxEnergy * k) × Counting border purchase energy n f (behind at k)
 
 abbrev μ-loop : tie.MeasureT-loop
 μ-loop n at border purchase energy f₀ k₀ k-end f k = length at - k
@@ -33,7 +34,7 @@ loop-again c =
     let new = getD (l .f) v 0 + x in (
       omega arith,
       length-set (l .f) v new ∙ l .inv .1,
-      set-more (99999 * l .k) (99999 * (l .k + 1)) v new (l .f) (l .inv .2) (omega (arith, l .inv .2 v, s .2 (getD (a .at .now) (l .k) 0))) (omega arith),
+      set-more (maxEnergy * l .k) (maxEnergy * (l .k + 1)) v new (l .f) (l .inv .2) (omega (arith, l .inv .2 v, s .2 (getD (a .at .now) (l .k) 0))) (omega arith),
       counting-next (a .border .now) (a .purchase .now) (a .energy .now) (s .3) (l .f) (l .k) v x (omega arith) (c .before .way .ensures .0) (omega arith) refl (l .inv .3),
     )
 

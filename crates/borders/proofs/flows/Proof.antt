@@ -2,6 +2,7 @@ use Prim.Native.Nat.{ℕ, _≤_, _-_, _+_, _*_}
 use mathlib.Core.Path.{_≡_, refl, _∙_}
 use native.Mathlib.Omega.{arith}
 use lib.ListN.{length, length-set, getD}
+use Rattle.rules.specs.Units.{maxEnergy}
 use Rattle.arrays.proofs.PlaceLaws.{zeros}
 use Rattle.borders.specs.Flows.{flowFrom}
 use Rattle.borders.proofs.FlowLaws.{flow-next, flow-end, set-more}
@@ -11,7 +12,7 @@ use Rattle.borders.proofs.flows.Tie as tie
 
 abbrev Inv-loop : tie.InvT-loop
 Inv-loop only n border purchase legacy energy f₀ i₀ f i =
-    (i ≤ n) × (length f ≡ 10) × ((w : ℕ) → getD f w 0 ≤ 99999 * i)
+    (i ≤ n) × (length f ≡ 10) × ((w : ℕ) → getD f w 0 ≤ maxEnergy * i)
     × ((w : ℕ) → getD f w 0 + flowFrom only border purchase legacy energy i n w ≡ flowFrom only border purchase legacy energy 0 n w)
 
 abbrev μ-loop : tie.MeasureT-loop
@@ -39,7 +40,7 @@ loop-again c =
     let new = getD (l .f) (v .result) 0 + x in (
       omega arith,
       length-set (l .f) (v .result) new ∙ l .inv .1,
-      set-more (99999 * l .i) (99999 * (l .i + 1)) (v .result) new (l .f) (l .inv .2) (omega (arith, l .inv .2 (v .result), s .pre .2 (l .i), c .counted .ensures .1)) (omega arith),
+      set-more (maxEnergy * l .i) (maxEnergy * (l .i + 1)) (v .result) new (l .f) (l .inv .2) (omega (arith, l .inv .2 (v .result), s .pre .2 (l .i), c .counted .ensures .1)) (omega arith),
       (λ w. flow-next (a .only) (a .border .now) (a .purchase .now) (a .legacy .now) (a .energy .now) (l .f) (l .i) (a .n) (v .result) x
           (omega arith) (v .ensures .0) (omega arith) (c .counted .ensures .0) w ∙ l .inv .3 w),
     )

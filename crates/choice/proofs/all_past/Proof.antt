@@ -1,6 +1,7 @@
 use Prim.Native.Nat.{_+_, _*_, _-_, _≤_}
 use mathlib.Core.Path.{_≡_}
 use native.Mathlib.Omega.{arith}
+use Rattle.rules.specs.Units.{maxEnergy}
 use Rattle.choice.specs.Prices.{pastFrom}
 use Rattle.choice.proofs.PriceLaws.{past-next, past-end}
 use borrow.Author.Needs.{needs}
@@ -9,7 +10,7 @@ use Rattle.choice.proofs.all_past.Tie as tie
 
 abbrev Inv-loop : tie.InvT-loop
 Inv-loop side p n purchase price matched s₀ i₀ s i =
-    (i ≤ n) × (s ≤ 99999 * i) × (s + pastFrom side p purchase price matched i n ≡ pastFrom side p purchase price matched 0 n)
+    (i ≤ n) × (s ≤ maxEnergy * i) × (s + pastFrom side p purchase price matched i n ≡ pastFrom side p purchase price matched 0 n)
 
 abbrev μ-loop : tie.MeasureT-loop
 μ-loop side p n purchase price matched s₀ i₀ s i = n - i

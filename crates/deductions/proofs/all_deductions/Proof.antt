@@ -2,6 +2,7 @@ use Prim.Native.Nat.{ℕ, _*_, _-_, _≤_}
 use mathlib.Core.Path.{_≡_, refl, ap, _∙_}
 use native.Mathlib.Omega.{arith}
 use lib.ListN.{getD, length}
+use Rattle.rules.specs.Units.{maxEnergy}
 use Rattle.arrays.specs.Places.{vals}
 use Rattle.arrays.proofs.PlaceLaws.{zeros, lay-length}
 use Rattle.deductions.specs.Deductions.{deductionsFrom}
@@ -12,7 +13,7 @@ use Rattle.deductions.proofs.all_deductions.Tie as tie
 
 abbrev Inv-loop : tie.InvT-loop
 Inv-loop sums₀ n over ways matched w₀ sums w =
-    (2 ≤ w) × (w ≤ 10) × (vals sums 0 n ≡ deductionsFrom over ways matched n w) × ((i : ℕ) → getD sums i 0 ≤ (10 - w) * 99999) × (length sums ≡ 128)
+    (2 ≤ w) × (w ≤ 10) × (vals sums 0 n ≡ deductionsFrom over ways matched n w) × ((i : ℕ) → getD sums i 0 ≤ (10 - w) * maxEnergy) × (length sums ≡ 128)
 
 abbrev μ-loop : tie.MeasureT-loop
 μ-loop sums₀ n over ways matched w₀ sums w = w
@@ -38,7 +39,7 @@ loop-again c =
       omega arith,
       deductions-more (a .over .now) (a .ways .now) (a .matched .now) (a .n) _ (l .w) (p .last .0) (l .sums) refl (omega arith) (omega arith) (omega arith)
           (c .before .before .before .before .before .if1 .taken) (p .ensures .0) (l .inv .2) (c .add .ensures),
-      λ i. omega (arith, more-small 99999 ((10 - l .w) * 99999) (a .n) (p .last .0) (l .sums) (p .ensures .1) (l .inv .3) (omega arith) (c .add .ensures) i),
+      λ i. omega (arith, more-small maxEnergy ((10 - l .w) * maxEnergy) (a .n) (p .last .0) (l .sums) (p .ensures .1) (l .inv .3) (omega arith) (c .add .ensures) i),
       ap length (c .add .ensures) ∙ lay-length _ _ _ _ ∙ l .inv .4,
     )
 

@@ -1,4 +1,5 @@
 use native.Mathlib.Omega.{arith}
+use Rattle.rules.specs.Units.{maxEnergy}
 use Rattle.deductions.proofs.DeductionLaws.{amounts-small, deductions-laid, deductions-small}
 use borrow.Author.Needs.{needs}
 use Rattle.deductions.proofs.deductions_in.Statement.{statement}
@@ -22,7 +23,7 @@ returns c =
     let a = s .args in
     let e = c .before .before .before .before .before .before .amounts-in .ensures in (
       deductions-laid (a .w) (a .n) (a .ways .now) (a .matched .now) _ (a .excess) (s .pre .0) e (c .before .before .before .before .total .ensures .0) (c .before .before .before .lower .ensures) (c .share .ensures .0),
-      deductions-small (a .n) 99999 _ (a .deductions .now) _ (omega (arith, c .before .before .before .lower .ensures, c .before .before .before .before .total .ensures .0)) (c .share .ensures .0) (c .share .ensures .1) (amounts-small (a .w) (a .n) (a .ways .now) (a .matched .now) e (s .pre .1)) (s .pre .2),
+      deductions-small (a .n) maxEnergy _ (a .deductions .now) _ (omega (arith, c .before .before .before .lower .ensures, c .before .before .before .before .total .ensures .0)) (c .share .ensures .0) (c .share .ensures .1) (amounts-small (a .w) (a .n) (a .ways .now) (a .matched .now) e (s .pre .1)) (s .pre .2),
     )
 
 pub deductions-in-spec : {M : Type 1} → statement M

@@ -1,6 +1,9 @@
 use native.Mathlib.Omega.{arith}
 use borrow.Author.Needs.{needs}
-use Rattle.pen.proofs.HeadLaws.{head-fits, head-word}
+use mathlib.Core.Path.{refl}
+use Rattle.rules.specs.Units.{maxEnergy}
+use Rattle.rules.specs.Message.{form1}
+use Rattle.pen.proofs.HeadLaws.{head-fits, head-word-alone}
 use Rattle.pen.proofs.head_word.Statement.{statement}
 use Rattle.pen.proofs.head_word.Tie as tie
 
@@ -26,21 +29,21 @@ cast-unit : tie.Need-cast-unit
 cast-unit c = search needs
 
 add-unit : tie.Need-add-unit
-add-unit c = omega (arith, head-fits _ (c .before .before .before .pre .values))
+add-unit c = omega (arith, head-fits maxEnergy _ (c .before .before .before .pre .values))
 
 mul-result : tie.Need-mul-result
-mul-result c = omega (arith, head-fits _ (c .before .before .before .pre .values))
+mul-result c = omega (arith, head-fits maxEnergy _ (c .before .before .before .pre .values))
 
 cast-result : tie.Need-cast-result
 cast-result c = search needs
 
 add-result : tie.Need-add-result
-add-result c = omega (arith, head-fits _ (c .before .before .before .before .pre .values))
+add-result c = omega (arith, head-fits maxEnergy _ (c .before .before .before .before .pre .values))
 
 returns : tie.Need-returns
 returns c = (
-  omega (arith, head-fits _ (c .before .before .before .before .pre .values)),
-  head-word _ _ _ (c .before .before .before .flag .ensures .0) (c .before .before .flag2 .ensures .0) (c .before .before .before .flag .ensures .1) (c .before .before .flag2 .ensures .1) (c .before .before .before .before .pre .values),
+  omega (arith, head-fits maxEnergy _ (c .before .before .before .before .pre .values)),
+  head-word-alone form1 maxEnergy _ _ _ refl (c .before .before .before .flag .ensures .0) (c .before .before .flag2 .ensures .0) (c .before .before .before .flag .ensures .1) (c .before .before .flag2 .ensures .1) (c .before .before .before .before .pre .values),
 )
 
 pub head-word-spec : {M : Type 1} → statement M

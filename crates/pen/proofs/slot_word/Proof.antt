@@ -4,7 +4,7 @@ use Rattle.pen.proofs.slot_word.Statement.{statement}
 use Rattle.pen.proofs.slot_word.Tie as tie
 
 returns : tie.Need-returns
-returns c = slot-execution _ _ _ (c .if1 .taken) (c .before .pre)
+returns c w fits = slot-execution w _ _ _ (c .if1 .taken) fits
 
 mul-result : tie.Need-mul-result
 mul-result c = search needs
@@ -13,7 +13,7 @@ add-result : tie.Need-add-result
 add-result c = search needs
 
 returns-2 : tie.Need-returns-2
-returns-2 c = slot-offer _ _ _ (c .if1 .left) (c .before .pre)
+returns-2 c w fits = slot-offer w _ _ _ (c .if1 .left) fits
 
 pub slot-word-spec : {M : Type 1} → statement M
 slot-word-spec = tie.close (tie.spec returns mul-result add-result returns-2)

@@ -53,6 +53,7 @@ returns c =
         third = c .before .before .before .nth-place3 .ensures;
         fourth = c .nth-place4 .ensures;
       },
+      refl,
     )
 
 pub awaiting-spec : {M : Type 1} → statement M

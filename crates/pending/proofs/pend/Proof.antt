@@ -35,11 +35,14 @@ returns-3 c = pends-refused _ _ _ _ (λ z. absurd (omega (arith, z))) (c .not-pe
 fields-of-requires : tie.Need-fields-of-requires
 fields-of-requires c κs = sym (c .before .bad-form .ensures) ∙ c .if3 .left
 
+top-of-requires : tie.Need-top-of-requires
+top-of-requires c κs = search needs
+
 awaiting-requires : tie.Need-awaiting-requires
-awaiting-requires c κs = guarded _ (sym (c .before .before .before .before .before .sound .ensures) ∙ not-false _ (c .before .before .before .before .if1 .left))
+awaiting-requires c κs = guarded _ (sym (c .before .before .before .before .before .before .sound .ensures) ∙ not-false _ (c .before .before .before .before .before .if1 .left))
 
 returns-4 : tie.Need-returns-4
-returns-4 c = pends-read _ _ _ _ (c .awaiting .ensures) (c .before .before .before .before .if2 .left) (sym (c .before .before .before .bad-form .ensures) ∙ c .before .before .if3 .left) (c .before .fields-of .ensures)
+returns-4 c = pends-read _ _ _ _ _ (c .awaiting .ensures) (c .before .before .before .before .before .if2 .left) (sym (c .before .before .before .before .bad-form .ensures) ∙ c .before .before .before .if3 .left) (c .before .before .fields-of .ensures) (c .before .top-of .ensures)
 
 pub pend-spec : {M : Type 1} → statement M
 pend-spec =
@@ -54,5 +57,6 @@ pend-spec =
     not-pending-requires-3
     returns-3
     fields-of-requires
+    top-of-requires
     awaiting-requires
     returns-4)

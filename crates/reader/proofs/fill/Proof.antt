@@ -6,13 +6,14 @@ use native.Mathlib.Omega.{arith}
 use lib.Bits.{bitAnd, and-mask}
 use lib.Pow.{pow-pos, pow-mono}
 use lib.ListN.{length}
+use Rattle.rules.specs.Units.{maxEnergy}
 use Rattle.rules.specs.Message.{bitsOf, field}
-use Rattle.reader.proofs.FillLaws.{Filling, Next, next, less, filling-start, filling-end, room-next, filling-next, slot-energy, slot-price}
+use Rattle.reader.proofs.FillLaws.{Filling, Next, next, less, filling-start, filling-end, room-next, filling-next, slot-energy, slot-price, slot-in-four}
 use Rattle.reader.proofs.fill.Statement.{statement}
 use Rattle.reader.proofs.fill.Tie as tie
 
 abbrev Inv-loop : tie.InvT-loop
-Inv-loop s execution map energies₀ prices₀ price mask at₀ rest₀ bad₀ energies prices at rest bad = Filling s execution map energies prices at rest bad
+Inv-loop s execution map energies₀ prices₀ price mask at₀ rest₀ bad₀ energies prices at rest bad = Filling 64 17 maxEnergy s execution map energies prices at rest bad
 
 abbrev μ-loop : tie.MeasureT-loop
 μ-loop s execution map energies₀ prices₀ price mask at₀ rest₀ bad₀ energies prices at rest bad = rest
@@ -26,7 +27,10 @@ slot : (c : tie.After-next-hour Inv-loop μ-loop)
     × (c .before .before .loop .at + 17 + c .before .before .before .before .price-width .result ≤ 864)
     × (64 ≤ c .before .before .loop .at)
     × ((c .before .before .loop .at + (17 + c .before .before .before .before .price-width .result) + 7) / 8 * 8 ≤ c .before .before .loop .at + 32)
-slot c = rw (c .before .before .before .before .price-width .ensures .0) (room-next _ _ _ (c .before .before .loop .inv) _ (hour c))
+slot c =
+    let i = c .before .before .loop .inv in
+    let r = room-next 64 17 maxEnergy _ _ _ i _ (hour c) in
+    rw (c .before .before .before .before .price-width .ensures .0) (r .0, r .1, r .2, slot-in-four _ _ (i .passed) (i .begun))
 
 price-width-requires : tie.Need-price-width-requires Inv-loop μ-loop
 price-width-requires c κs = tt
@@ -41,7 +45,7 @@ sub-mask : tie.Need-sub-mask Inv-loop μ-loop
 sub-mask c = rw (c .power .ensures) (pow-pos _)
 
 loop-holds : tie.Need-loop-holds Inv-loop μ-loop
-loop-holds c = rw (c .before .before .before .pre .2, c .before .before .before .pre .3) (filling-start _ _ _ (c .before .before .before .pre .0) (c .before .before .before .pre .1))
+loop-holds c = rw (c .before .before .before .pre .2, c .before .before .before .pre .3) (filling-start 64 17 maxEnergy _ _ _ (c .before .before .before .pre .0) (c .before .before .before .pre .1))
 
 next-hour-requires : tie.Need-next-hour-requires Inv-loop μ-loop
 next-hour-requires c κs = c .before .loop .inv .small
@@ -105,7 +109,7 @@ energy : (c : tie.After-slot-at Inv-loop μ-loop)
     ≡ field (c .before .before .before .loop .at) 17 (bitsOf (c .before .before .before .before .before .before .before .args .s .now))
 energy c =
     ap (λ x. x / 2 ^ c .before .before .before .before .before .price-width .result) (c .slot-at .ensures .0)
-    ∙ slot-energy (c .before .before .before .loop .at) (c .before .before .before .before .before .price-width .result) (c .before .before .before .before .before .before .before .args .s .now) (slot (c .before) .0)
+    ∙ slot-energy 17 (c .before .before .before .loop .at) (c .before .before .before .before .before .price-width .result) (c .before .before .before .before .before .before .before .args .s .now) (slot (c .before) .0)
 
 price : (c : tie.After-slot-at Inv-loop μ-loop)
     → bitAnd (c .slot-at .result) (c .before .before .before .before .power .result - 1)
@@ -114,15 +118,15 @@ price c =
     ap (λ x. bitAnd (c .slot-at .result) (x - 1)) (c .before .before .before .before .power .ensures)
     ∙ and-mask (c .slot-at .result) (c .before .before .before .before .before .price-width .result)
     ∙ ap (λ x. x % 2 ^ c .before .before .before .before .before .price-width .result) (c .slot-at .ensures .0)
-    ∙ slot-price (c .before .before .before .loop .at) (c .before .before .before .before .before .price-width .result) (c .before .before .before .before .before .before .before .args .s .now) (slot (c .before) .0)
+    ∙ slot-price 17 (c .before .before .before .loop .at) (c .before .before .before .before .before .price-width .result) (c .before .before .before .before .before .before .before .args .s .now) (slot (c .before) .0)
 
 loop-again : tie.Need-loop-again Inv-loop μ-loop
 loop-again c =
     rw (c .before .either .ensures, c .before .before .bad-slot .ensures, energy (c .before .before .before), price (c .before .before .before), c .power2 .ensures, c .before .before .before .before .before .before .before .before .price-width .ensures .0)
-    (filling-next _ _ _ (c .before .before .before .before .before .before .loop .inv) _ (hour (c .before .before .before .before)))
+    (filling-next 64 17 maxEnergy _ _ _ (c .before .before .before .before .before .before .loop .inv) _ (hour (c .before .before .before .before)))
 
 returns : tie.Need-returns Inv-loop μ-loop
-returns c = filling-end _ _ _ (c .before .loop .inv) (c .loop-test .left)
+returns c = filling-end 64 17 maxEnergy _ _ _ (c .before .loop .inv) (c .loop-test .left)
 
 pub fill-spec : {M : Type 1} → statement M
 fill-spec =

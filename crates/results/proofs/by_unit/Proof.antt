@@ -1,6 +1,7 @@
 use Prim.Native.Nat.{ℕ, _≤_, _-_, _*_}
 use native.Mathlib.Omega.{arith}
 use lib.ListN.{getD}
+use Rattle.rules.specs.Units.{maxEnergy}
 use Rattle.gathering.specs.Columns.{Column}
 use Rattle.results.specs.Shown.{unitEnergy}
 use Rattle.gathering.proofs.ColumnLaws.{blanks}
@@ -10,7 +11,7 @@ use Rattle.results.proofs.by_unit.Statement.{statement}
 use Rattle.results.proofs.by_unit.Tie as tie
 
 abbrev Inv-loop : tie.InvT-loop
-Inv-loop enrolled n place energy a₀ i₀ a i = (i ≤ n) × ((q : ℕ) → getD a q 0 ≤ 99999 * i) × Column (unitEnergy place energy i) 0 enrolled 64 a
+Inv-loop enrolled n place energy a₀ i₀ a i = (i ≤ n) × ((q : ℕ) → getD a q 0 ≤ maxEnergy * i) × Column (unitEnergy place energy i) 0 enrolled 64 a
 
 abbrev μ-loop : tie.MeasureT-loop
 μ-loop enrolled n place energy a₀ i₀ a i = n - i
@@ -67,7 +68,7 @@ loop-again-2 c =
     let a = c .before .before .before .before .before .before .args in
     let few = c .before .before .before .before .before .before .pre .0 in (
       omega arith,
-      λ q. omega (arith, bound-next (l .a) p (getD (a .energy .now) (l .i) 0) (99999 * l .i) (omega (arith, l .inv .2 .long)) (c .before .before .before .before .before .before .pre .2 (l .i)) (l .inv .1) q),
+      λ q. omega (arith, bound-next (l .a) p (getD (a .energy .now) (l .i) 0) (maxEnergy * l .i) (omega (arith, l .inv .2 .long)) (c .before .before .before .before .before .before .pre .2 (l .i)) (l .inv .1) q),
       added-next _ _ _ _ _ _ (c .before .before .index .ensures) (l .inv .2) (c .before .if1 .left) few,
     )
 

@@ -1,5 +1,6 @@
 use native.Mathlib.Omega.{arith}
 use lib.ListN.{length-map}
+use Rattle.rules.specs.Units.{maxEnergy}
 use Rattle.rules.specs.Share.{proRata}
 use Rattle.rules.proofs.ShareLaws.{pro-rata-le, floors-le}
 use Rattle.arrays.proofs.SliceLaws.{map-small}
@@ -19,7 +20,7 @@ hand-out-requires c κs =
     let a = s .args in
     let f = proRata (a .r) (a .g) in
     rw (c .before .before .before .floors .ensures .1)
-    (length-map (a .amounts .now) f, λ i. omega (arith, map-small 99999 f (a .amounts .now) (λ m. pro-rata-le (a .r) (a .g) m (s .pre .1)) (s .pre .3) i))
+    (length-map (a .amounts .now) f, λ i. omega (arith, map-small maxEnergy f (a .amounts .now) (λ m. pro-rata-le (a .r) (a .g) m (s .pre .1)) (s .pre .3) i))
 
 returns : tie.Need-returns
 returns c =

@@ -3,6 +3,7 @@ use mathlib.Core.List.{List, _++_}
 use Prim.Native.Nat.{ℕ}
 use lib.ListN.{drop}
 use lib.Seq.{length-take-le}
+use Rattle.rules.specs.Units.{maxEnergy}
 use Rattle.arrays.proofs.SliceLaws.{take-small}
 use borrow.Author.Needs.{needs}
 use Rattle.share.proofs.share_first.Statement.{statement}
@@ -18,7 +19,7 @@ share-all-requires : tie.Need-share-all-requires
 share-all-requires c κs =
     let s = c .before .before .before .before in
     let e = length-take-le (s .args .n) (s .args .deductions .now) (s .pre .0) ∙ sym (length-take-le (s .args .n) (s .args .amounts .now) (s .pre .1)) in
-    (e, s .pre .2, s .pre .3, take-small 99999 (s .args .n) (s .args .amounts .now) (s .pre .4))
+    (e, s .pre .2, s .pre .3, take-small maxEnergy (s .args .n) (s .args .amounts .now) (s .pre .4))
 
 returns : tie.Need-returns
 returns c =

@@ -1,8 +1,9 @@
 use Prim.Native.Nat.{_≤_}
-use mathlib.Core.Path.{sym, _∙_}
+use mathlib.Core.Path.{refl, sym, _∙_}
 use lib.ListN.{length}
 use borrow.Author.Needs.{needs}
-use Rattle.rules.specs.Message.{messageLength}
+use lib.Dec.{lit<}
+use Rattle.rules.specs.Message.{form1, formFor, messageLength}
 use Rattle.message.specs.View.{fieldsIn}
 use Rattle.pen.specs.Pens.{InRanges, Room, slotsOf}
 use Rattle.pen.proofs.PenLaws.{room-last}
@@ -15,22 +16,24 @@ judged : (c : tie.Else1) → InRanges (fieldsIn (c .before .before .before .befo
 judged c = none-told (length (c .before .before .before .before .args .buf .now)) (fieldsIn (c .before .before .before .before .args .m)) (sym (c .before .refusal .ensures) ∙ c .if1 .left)
 
 -- after the head, the slots find room
-room : (c : tie.After-put-head) → Room (c .put-head .last .1 .0) (c .put-head .result) (length (slotsOf (fieldsIn (c .before .before .before .before .before .before .args .m)) (c .before .before .before .before .before .before .args .m .map)))
-room c = slots-room (fieldsIn (c .before .before .before .before .before .before .args .m)) (c .before .before .before .before .before .before .args .buf .now) (judged (c .before .before) .1) (c .put-head .kept .1 .0) (c .put-head .ensures .0) (c .put-head .ensures .1)
+room : (c : tie.After-put-head) → Room (c .put-head .last .1 .0) (c .put-head .result) (length (slotsOf 17 (fieldsIn (c .before .before .before .before .before .before .args .m)) (c .before .before .before .before .before .before .args .m .map)))
+unfolding formFor
+room c = slots-room form1 (fieldsIn (c .before .before .before .before .before .before .args .m)) refl (c .before .before .before .before .before .before .args .buf .now) (lit< tt) (judged (c .before .before) .1) (c .put-head .kept .1 .0) (c .put-head .ensures .0) (c .put-head .ensures .1)
 
 length-for-requires : tie.Need-length-for-requires
 length-for-requires c κs = search needs
 
 refusal-requires : tie.Need-refusal-requires
-unfolding messageLength
+unfolding formFor messageLength
 refusal-requires c κs = c .length-for .ensures
 
 returns : tie.Need-returns
 returns c = owed-refused _ _ (c .before .refusal .ensures) (c .if1 .taken)
 
 put-head-requires : tie.Need-put-head-requires
+unfolding formFor
 put-head-requires c κs =
-    (judged (c .before) .0, head-room (fieldsIn (c .before .before .before .before .before .args .m)) (c .before .before .before .before .before .args .buf .now) (judged (c .before) .1))
+    (judged (c .before) .0, head-room form1 (fieldsIn (c .before .before .before .before .before .args .m)) refl (c .before .before .before .before .before .args .buf .now) (judged (c .before) .1))
 
 put-hours-requires : tie.Need-put-hours-requires
 put-hours-requires c κs = (judged (c .before .before .before .before .before) .0, room (c .before .before .before))
@@ -42,9 +45,9 @@ same-length : tie.Need-same-length
 same-length c = search needs
 
 returns-2 : tie.Need-returns-2
-unfolding messageLength
+unfolding formFor messageLength
 returns-2 c =
-    owed-given (fieldsIn (c .before .before .before .before .before .before .before .before .before .before .before .before .before .before .before .before .args .m)) (c .before .before .before .before .before .before .before .before .before .before .before .before .before .before .before .before .args .buf .now) (judged (c .before .before .before .before .before .before .before .before .before .before .before .before)) (c .before .before .before .before .before .before .before .before .before .before .before .before .before .before .length-for .ensures) (c .before .before .before .before .before .before .before .before .before .before .put-head .ensures .1)
+    owed-given form1 (fieldsIn (c .before .before .before .before .before .before .before .before .before .before .before .before .before .before .before .before .args .m)) refl (c .before .before .before .before .before .before .before .before .before .before .before .before .before .before .before .before .args .buf .now) (judged (c .before .before .before .before .before .before .before .before .before .before .before .before)) (c .before .before .before .before .before .before .before .before .before .before .before .before .before .before .length-for .ensures) (c .before .before .before .before .before .before .before .before .before .before .put-head .ensures .1)
     (c .before .before .before .before .before .before .put-hours .ensures) (c .before .before .put-last .ensures)
 
 pub write-spec : {M : Type 1} → statement M

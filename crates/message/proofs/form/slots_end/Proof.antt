@@ -14,16 +14,16 @@ add-result : tie.Need-add-result
 add-result c = omega arith
 
 mul-result : tie.Need-mul-result
-mul-result c = omega (arith, slots-le (named-le (c .before .args .map)) (c .price-width .ensures .1))
+mul-result c = omega (arith, slots-le 17 (named-le (c .before .args .map)) (c .price-width .ensures .1))
 
 add-result-2 : tie.Need-add-result-2
-add-result-2 c = omega (arith, slots-le (named-le (c .before .args .map)) (c .price-width .ensures .1))
+add-result-2 c = omega (arith, slots-le 17 (named-le (c .before .args .map)) (c .price-width .ensures .1))
 
 returns : tie.Need-returns
 unfolding slotWidth
 returns c = (
   rw (named-hours, c .price-width .ensures .0),
-  omega (arith, slots-le (named-le (c .before .args .map)) (c .price-width .ensures .1)),
+  omega (arith, slots-le 17 (named-le (c .before .args .map)) (c .price-width .ensures .1)),
 )
 
 pub slots-end-spec : {M : Type 1} → statement M

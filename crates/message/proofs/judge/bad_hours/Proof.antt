@@ -10,10 +10,10 @@ use Rattle.message.proofs.judge.bad_hours.Statement.{statement}
 use Rattle.message.proofs.judge.bad_hours.Tie as tie
 
 abbrev Inv-loop : tie.InvT-loop
-Inv-loop m h₀ h = (1 ≤ h) × (h ≤ 26) × (badFrom (fieldsIn m) h ≡ any (badHour (fieldsIn m)) (from 1 25))
+Inv-loop top m h₀ h = (1 ≤ h) × (h ≤ 26) × (badFrom top (fieldsIn m) h ≡ any (badHour top (fieldsIn m)) (from 1 25))
 
 abbrev μ-loop : tie.MeasureT-loop
-μ-loop m h₀ h = 26 - h
+μ-loop top m h₀ h = 26 - h
 
 loop-holds : tie.Need-loop-holds Inv-loop μ-loop
 unfolding badFrom
@@ -41,7 +41,7 @@ bad-slot-requires : tie.Need-bad-slot-requires Inv-loop μ-loop
 bad-slot-requires c κs = search needs
 
 returns : tie.Need-returns Inv-loop μ-loop
-returns c = hours-here (fieldsIn (c .before .before .before .before .before .before .before .args .t1)) _ _ _ (c .before .before .before .before .named .ensures) (c .before .bad-slot .ensures) (omega arith) (c .before .before .before .before .before .before .loop .inv .2) (c .if1 .taken)
+returns c = hours-here _ (fieldsIn (c .before .before .before .before .before .before .before .args .t1)) _ _ _ (c .before .before .before .before .named .ensures) (c .before .bad-slot .ensures) (omega arith) (c .before .before .before .before .before .before .loop .inv .2) (c .if1 .taken)
 
 add-h : tie.Need-add-h Inv-loop μ-loop
 add-h c = search needs
@@ -51,10 +51,10 @@ loop-less c = search needs
 
 loop-again : tie.Need-loop-again Inv-loop μ-loop
 loop-again c =
-    (search needs, search needs, hours-later (fieldsIn (c .before .before .before .before .before .before .before .args .t1)) _ _ _ (c .before .before .before .before .named .ensures) (c .before .bad-slot .ensures) (omega arith) (c .before .before .before .before .before .before .loop .inv .2) (c .if1 .left))
+    (search needs, search needs, hours-later _ (fieldsIn (c .before .before .before .before .before .before .before .args .t1)) _ _ _ (c .before .before .before .before .named .ensures) (c .before .bad-slot .ensures) (omega arith) (c .before .before .before .before .before .before .loop .inv .2) (c .if1 .left))
 
 returns-2 : tie.Need-returns-2 Inv-loop μ-loop
-returns-2 c = hours-past _ _ (omega arith) (c .before .loop .inv .2)
+returns-2 c = hours-past _ _ _ (omega arith) (c .before .loop .inv .2)
 
 pub bad-hours-spec : {M : Type 1} → statement M
 bad-hours-spec =
