@@ -142,7 +142,7 @@ hours-next s k figures steps x r a c q h b sound closed e =
 
 module _ (b : B.Book) (o : firstRow (D.rowsOf b D.clear) ≡ nothing) where
   closed-now : b .closed ≡ true
-  unfolding D.rowsOf row
+  unfolding D.rowsOf D.gateRow D.callRows row
   closed-now = not-false (b .closed) (neither (not (b .closed)) (b .cleared) (all-head (accepted-rows _ o)) .0)
 
   after-clear : D.after b (D.clear ∷ []) ≡ D.applied b D.clear

@@ -29,11 +29,11 @@ use Rattle.turns.proofs.RoomLaws.{kept-start}
 -- 2: "closing [..] twice"
 module _ (s : Session) where
   pub close-2 : s .closed ≡ true → Judges s D.close (No 2 0)
-  unfolding D.rowsOf D.changeRow row firstRow
+  unfolding D.rowsOf D.gateRow D.callRows D.changeRow row firstRow
   close-2 h b e = rw (closed-as s b e, h)
 
   pub close-0 : s .closed ≡ false → Judges s D.close Clear
-  unfolding D.rowsOf D.changeRow row firstRow
+  unfolding D.rowsOf D.gateRow D.callRows D.changeRow row firstRow
   close-0 h b e = rw (closed-as s b e, h)
 
 -- the verdicts are those of the book before closing
@@ -53,7 +53,7 @@ pub close-entered : (s : Session) (none : Verdict) (xs ys zs : List Verdict) (ro
     → ((p h : ℕ) → p < s .enrolled → h < 25 → getD room (p * 25 + h) 0 ≡ ceilingAt (s .units) (s .notices) (s .capacities) p h)
     → PassesTurn s 0 (replicate 128 none) room xs rest → PassesTurn s 1 xs rest ys last → PassesTurn s 2 ys last zs end → length zs ≡ 128
     → Entered s D.close (closedTurn s zs)
-unfolding said isRefusal D.reply D.rowsOf
+unfolding said isRefusal D.reply D.rowsOf D.gateRow D.callRows
 close-entered s none xs ys zs room rest last end w blank top p q r h = record {
   book = λ b sound o e.
       let n = standing-as s b e in

@@ -26,14 +26,14 @@ module _ (s : Session) (bytes : List ℕ) where
   module _ (m : Fields) (said : fieldsIn m ≡ decode energyWidth bytes) where
     -- a message of the right form is judged by its fields
     pub lodge-judged : s .closed ≡ false → badForm energyWidth bytes ≡ false → (j : Judged) → JudgesFields s (fieldsIn m) j → Judges s (D.lodge bytes) j
-    unfolding D.rowsOf D.lodgeRows D.changeRow fieldRows lastRows
+    unfolding D.rowsOf D.gateRow D.callRows D.lodgeRows D.changeRow fieldRows lastRows
     lodge-judged h f j l b e =
         l b e
         ∙ (ap (λ n. told (firstRow (fieldRows b n))) said
         ∙ sym (ap told (past (b .closed) (badForm energyWidth bytes) (fieldRows b (decode energyWidth bytes)) (closed-as s b e ∙ h) f)))
 
     pub lodge-entered : (r : Turn) → EnteredFields s m r → Entered s (D.lodge bytes) r
-    unfolding D.rowsOf D.lodgeRows D.applied D.reply
+    unfolding D.rowsOf D.gateRow D.callRows D.lodgeRows D.applied D.reply
     lodge-entered r n = record {
       book = λ b sound o e. rw (← said) (n .book b sound (open-row b _ o) e);
       fine = n .fine;

@@ -18,7 +18,7 @@ use Rattle.rules.specs.Lodging.{Key, Lodgement, keyOf, energyAt, sameKey
 use Rattle.rules.specs.Book.{Book, hours, fresh}
 use Rattle.rules.specs.Closing.{Judged, isAccepted, closingOrder, judge, judgeEach, judgements, verdictAmong, acceptedAt}
 use Rattle.rules.specs.Clearing.{hourOfDay, clearHour, figuresAt}
-use Rattle.rules.specs.DayBook.{Call, register, capacity, available, lodge, annul, close, clear, changeRow, unregistered, badHolder, isSecond, unitsFull, full, lodgeRows, rowsOf, withUnits, withCapacities, withStanding, withStage, notify, entry, applied, turned, turn, after, openedWith, opening}
+use Rattle.rules.specs.DayBook.{Call, register, capacity, available, lodge, annul, close, clear, changeRow, unregistered, badHolder, isSecond, unitsFull, full, gateRow, lodgeRows, callRows, rowsOf, withUnits, withCapacities, withStanding, withStage, notify, entry, applied, turned, turn, after, openedWith, opening}
 use Rattle.rules.specs.Sound.{OfDay, absent, energies, UnitsSound, HasUnit, Lodged, StandingSound, Sound, WellTyped}
 use Rattle.rules.specs.Demands.{ClosedIn}
 use Rattle.rules.proofs.BoolLaws.{by-bool, not-both, of-not, neither, both, of-both, beq-true, of-beq}
@@ -128,9 +128,9 @@ pub record Admitted (b : Book) (bytes : List ℕ) : Type 0 where
 
 -- a message that is accepted has it
 pub admitted : (b : Book) (bytes : List ℕ) → firstRow (rowsOf b (lodge bytes)) ≡ nothing → Admitted b bytes
-unfolding rowsOf lodgeRows row
+unfolding rowsOf callRows lodgeRows row
 admitted b bytes h =
-    let r2 = all-tail (accepted-rows (lodgeRows b bytes) h) in
+    let r2 = all-tail (accepted-rows (rowsOf b (lodge bytes)) h) in
     let r3 = all-tail r2 in
     let r4 = all-tail r3 in
     let r5 = all-tail r4 in
@@ -250,7 +250,7 @@ holders-sound H f s =
 
 -- an accepted call leaves a sound book
 applied-sound : (b : Book) (c : Call) → firstRow (rowsOf b c) ≡ nothing → Sound b → Sound (applied b c)
-unfolding applied rowsOf row changeRow unregistered isSecond unitsFull withUnits withCapacities withStanding withStage hours entry keyOf
+unfolding applied rowsOf gateRow callRows row changeRow unregistered isSecond unitsFull withUnits withCapacities withStanding withStage hours entry keyOf
 applied-sound b (register u) h s =
     let r5 = all-tail (accepted-rows (rowsOf b (register u)) h) in
     let r7 = all-tail r5 in
@@ -404,9 +404,9 @@ unfolding withStage
 closed-stage b k h e = e ∙ ap (λ x. withStage b x (b .cleared)) h ∙ ap (λ (j : Book). withStage b true (j .cleared)) (sym e)
 
 -- a change after closing is refused
-change-refused : (b : Book) (c : Call) (rows : List Row) → b .closed ≡ true → rowsOf b c ≡ changeRow b ∷ rows → turn b c .book ≡ b
-unfolding turn turned changeRow row firstRow
-change-refused b c rows h e = rw (e, h)
+change-refused : (b : Book) (c : Call) → b .closed ≡ true → gateRow b c ≡ changeRow b → turn b c .book ≡ b
+unfolding turn turned rowsOf changeRow row firstRow
+change-refused b c h e = rw (e, h)
 
 -- clearing it is said in it
 clear-closed : (b : Book) → b .closed ≡ true → turn b clear .book ≡ withStage b true (turn b clear .book .cleared)
@@ -419,13 +419,13 @@ clear-closed b h = go (firstRow (rowsOf b clear))
 
 -- a call on a closed book changes at most whether it is cleared
 turn-closed : (b : Book) (c : Call) → b .closed ≡ true → turn b c .book ≡ withStage b true (turn b c .book .cleared)
-unfolding rowsOf lodgeRows
-turn-closed b (register u) h = closed-stage b _ h (change-refused b (register u) _ h refl)
-turn-closed b (capacity cs) h = closed-stage b _ h (change-refused b (capacity cs) _ h refl)
-turn-closed b (available n es) h = closed-stage b _ h (change-refused b (available n es) _ h refl)
-turn-closed b (lodge bytes) h = closed-stage b _ h (change-refused b (lodge bytes) _ h refl)
-turn-closed b (annul k) h = closed-stage b _ h (change-refused b (annul k) _ h refl)
-turn-closed b close h = closed-stage b _ h (change-refused b close _ h refl)
+unfolding gateRow
+turn-closed b (register u) h = closed-stage b _ h (change-refused b (register u) h refl)
+turn-closed b (capacity cs) h = closed-stage b _ h (change-refused b (capacity cs) h refl)
+turn-closed b (available n es) h = closed-stage b _ h (change-refused b (available n es) h refl)
+turn-closed b (lodge bytes) h = closed-stage b _ h (change-refused b (lodge bytes) h refl)
+turn-closed b (annul k) h = closed-stage b _ h (change-refused b (annul k) h refl)
+turn-closed b close h = closed-stage b _ h (change-refused b close h refl)
 turn-closed b clear h = clear-closed b h
 
 -- the book is as it was at closing, but for whether it is cleared
@@ -465,7 +465,7 @@ figures-kept b cs h e = ap (λ (k : Book). figuresAt k h) (after-closed b cs e) 
 
 -- closing an open book is accepted
 close-open : (b : Book) → b .closed ≡ false → turn b close .book ≡ withStage b true (b .cleared)
-unfolding turn turned rowsOf changeRow row firstRow applied
+unfolding turn turned rowsOf gateRow callRows changeRow row firstRow applied
 close-open b h = rw h
 
 -- no other call closes one
