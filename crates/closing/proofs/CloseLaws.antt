@@ -5,10 +5,10 @@ use mathlib.Core.Bool.{true, false}
 use mathlib.Core.List.{List, [], map}
 use lib.ListN.{length, getD, replicate}
 use Rattle.rules.specs.Refusals.{row, firstRow}
-use Rattle.rules.specs.Book.{Book, hours}
+use Rattle.rules.specs.Book.{Book, hours, frozen}
 use Rattle.rules.specs.Closing as C
 use Rattle.rules.specs.DayBook as D
-use Rattle.rules.proofs.BookLaws.{stage-judgements}
+use Rattle.rules.proofs.BookLaws.{frozen-judgements}
 use Rattle.session.specs.Laid.{pad}
 use Rattle.session.specs.Image.{image, verdictAs, noVerdict, verdictsIn, hoursIn}
 use Rattle.session.specs.Steps.{said, isRefusal}
@@ -38,8 +38,8 @@ module _ (s : Session) where
 
 -- the verdicts are those of the book before closing
 stage-verdicts : (b : Book) → C.verdicts (D.withStage b true (b .cleared)) ≡ C.verdicts b
-unfolding C.verdicts D.withStage
-stage-verdicts b = ap (λ js. map (λ l. C.verdictAmong js (l .number)) (b .standing)) (stage-judgements b true (b .cleared))
+unfolding C.verdicts D.withStage frozen
+stage-verdicts b = ap (λ js. map (λ l. C.verdictAmong js (l .number)) (b .standing)) (frozen-judgements (D.withStage b true (b .cleared)) b refl)
 
 stage-image : (b : Book) → b .cleared ≡ false → withVerdicts (image b) true (pad 128 noVerdict (map verdictAs (C.verdicts (D.withStage b true (b .cleared))))) ≡ image (D.withStage b true (b .cleared))
 unfolding image verdictsIn hoursIn D.withStage hours

@@ -9,15 +9,15 @@ use native.Mathlib.Omega.{arith}
 use lib.Dec.{leb, ltb, eqb}
 use lib.ListN.{length, length-append, length-map}
 use borrow.Author.Tests.{leb-false, ltb-true, ltb-false, eqb-true, eqb-false, eq-eqb, lt-ltb, not-false, not-true}
-use Rattle.rules.specs.Lists.{All, none, more, empty, keep, any, first, from, hourly}
+use Rattle.rules.specs.Lists.{All, none, more, empty, keep, any, first, sumOf, from, hourly}
 use Rattle.rules.specs.Refusals.{Row, row, firstRow}
 use Rattle.rules.specs.Hours.{Hours·all, Date, isDate, dateRow}
 use Rattle.rules.specs.Units.{TradingUnit, Registered, Published, Capacities, maxEnergy, domestic, badUnit, badNumber, badEnergies, badPublished, notOfHours, sameBorderSide, hasNumber, isRegistered, unitOf, nobody}
 use Rattle.rules.specs.Message.{Fields, energyWidth, names, decode, badForm, badMap, badFields}
 use Rattle.rules.specs.Lodging.{Key, Lodgement, keyOf, energyAt, sameKey, stands, without, namesBeyond, badKey}
-use Rattle.rules.specs.Book.{Book, hours, fresh}
+use Rattle.rules.specs.Book.{Book, hours, fresh, Frozen, frozen}
 use Rattle.rules.specs.Closing.{Judged, isAccepted, closingOrder, judge, judgeEach, judgements, verdictAmong, acceptedAt}
-use Rattle.rules.specs.Clearing.{hourOfDay, clearHour, figuresAt}
+use Rattle.rules.specs.Clearing.{hourOfDay, clearHour, figuresAt, daySteps}
 use Rattle.rules.specs.DayBook.{Call, register, capacity, available, lodge, annul, close, clear, changeRow, unregistered, badHolder, isSecond, unitsFull, full, gateRow, lodgeRows, callRows, rowsOf, withUnits, withCapacities, withStanding, withStage, notify, entry, applied, turned, turn, after, openedWith, opening}
 use Rattle.rules.specs.Sound.{OfDay, absent, energies, UnitsSound, HasUnit, Lodged, StandingSound, Sound, WellTyped}
 use Rattle.rules.specs.Demands.{ClosedIn}
@@ -396,70 +396,115 @@ calls-directions b (more {x = c} w t) h = calls-directions (turn b c .book) t (t
 pub directions-after : (d : Date) {cs : List Call} → All WellTyped cs → length (after (opening d .book) cs .capacities) ≡ 8
 directions-after d w = calls-directions (opening d .book) w (opening-directions d)
 
--- After closing
+-- What closing froze
 
--- a closed book, written by its stage
-closed-stage : (b k : Book) → b .closed ≡ true → k ≡ b → k ≡ withStage b true (k .cleared)
-unfolding withStage
-closed-stage b k h e = e ∙ ap (λ x. withStage b x (b .cleared)) h ∙ ap (λ (j : Book). withStage b true (j .cleared)) (sym e)
+-- a book that has it, open
+abbrev thawed : Frozen → Book
+thawed f = record { date = f .date; units = f .units; capacities = f .capacities; standing = f .standing; last = f .last; closed = false; cleared = false }
+
+-- what a book shares with the open one is the same of all books that have what it froze
+of-frozen : {A : Type 0} (f : Book → A) → ((b : Book) → f (thawed (frozen b)) ≡ f b) → (a b : Book) → frozen a ≡ frozen b → f a ≡ f b
+of-frozen f same a b e = sym (same a) ∙ (ap (λ (z : Frozen). f (thawed z)) e ∙ same b)
+
+-- verdicts follow from it alone
+judgeEach-thawed : (b : Book) (before ls : List Lodgement) → judgeEach (thawed (frozen b)) before ls ≡ judgeEach b before ls
+unfolding judgeEach judge frozen hours
+judgeEach-thawed b before [] = refl
+judgeEach-thawed b before (l ∷ ls) = ap {B = List Judged} (λ js. record { lodgement = l; verdict = judge b before l } ∷ js) (judgeEach-thawed b (cond (isAccepted (judge b before l)) (l ∷ before) before) ls)
+
+judgements-thawed : (b : Book) → judgements (thawed (frozen b)) ≡ judgements b
+unfolding judgements frozen
+judgements-thawed b = judgeEach-thawed b [] (closingOrder (b .standing))
+
+pub frozen-judgements : (a b : Book) → frozen a ≡ frozen b → judgements a ≡ judgements b
+frozen-judgements = of-frozen judgements judgements-thawed
+
+-- so do figures
+figures-thawed : (h : ℕ) (b : Book) → figuresAt (thawed (frozen b)) h ≡ figuresAt b h
+unfolding figuresAt acceptedAt hourOfDay frozen
+figures-thawed h b = ap (λ js. clearHour (hourOfDay b (keep (λ l. isAccepted (verdictAmong js (l .number))) (b .standing)) h)) (judgements-thawed b)
+
+pub frozen-figures : (a b : Book) (h : ℕ) → frozen a ≡ frozen b → figuresAt a h ≡ figuresAt b h
+frozen-figures a b h e = of-frozen (λ k. figuresAt k h) (figures-thawed h) a b e
+
+-- and the count of steps
+steps-thawed : (b : Book) → daySteps (thawed (frozen b)) ≡ daySteps b
+unfolding daySteps acceptedAt hourOfDay hours frozen
+steps-thawed b =
+    ap (λ js. let accepted = keep (λ l. isAccepted (verdictAmong js (l .number))) (b .standing) in sumOf (λ h. clearHour (hourOfDay b accepted h) .steps) (from 1 (hours b))) (judgements-thawed b)
+
+pub frozen-steps : (a b : Book) → frozen a ≡ frozen b → daySteps a ≡ daySteps b
+frozen-steps = of-frozen daySteps steps-thawed
+
+-- After closing
 
 -- a change after closing is refused
 change-refused : (b : Book) (c : Call) → b .closed ≡ true → gateRow b c ≡ changeRow b → turn b c .book ≡ b
 unfolding turn turned rowsOf changeRow row firstRow
 change-refused b c h e = rw (e, h)
 
--- clearing it is said in it
-clear-closed : (b : Book) → b .closed ≡ true → turn b clear .book ≡ withStage b true (turn b clear .book .cleared)
-unfolding turn turned applied withStage
-clear-closed b h = go (firstRow (rowsOf b clear))
+-- clearing changes nothing of what is frozen
+clear-frozen : (b : Book) → frozen (turn b clear .book) ≡ frozen b
+unfolding turn turned applied withStage frozen
+clear-frozen b = go (firstRow (rowsOf b clear))
   where
-    go : (o : Option Row) → turned b clear o .book ≡ withStage b true (turned b clear o .book .cleared)
-    go nothing = ap (λ x. withStage b x true) h
-    go (some r) = closed-stage b b h refl
+    go : (o : Option Row) → frozen (turned b clear o .book) ≡ frozen b
+    go nothing = refl
+    go (some r) = refl
 
--- a call on a closed book changes at most whether it is cleared
-turn-closed : (b : Book) (c : Call) → b .closed ≡ true → turn b c .book ≡ withStage b true (turn b c .book .cleared)
+-- nor does any call on a closed book
+turn-closed : (b : Book) (c : Call) → b .closed ≡ true → frozen (turn b c .book) ≡ frozen b
 unfolding gateRow
-turn-closed b (register u) h = closed-stage b _ h (change-refused b (register u) h refl)
-turn-closed b (capacity cs) h = closed-stage b _ h (change-refused b (capacity cs) h refl)
-turn-closed b (available n es) h = closed-stage b _ h (change-refused b (available n es) h refl)
-turn-closed b (lodge bytes) h = closed-stage b _ h (change-refused b (lodge bytes) h refl)
-turn-closed b (annul k) h = closed-stage b _ h (change-refused b (annul k) h refl)
-turn-closed b close h = closed-stage b _ h (change-refused b close h refl)
-turn-closed b clear h = clear-closed b h
+turn-closed b (register u) h = ap frozen (change-refused b (register u) h refl)
+turn-closed b (capacity cs) h = ap frozen (change-refused b (capacity cs) h refl)
+turn-closed b (available n es) h = ap frozen (change-refused b (available n es) h refl)
+turn-closed b (lodge bytes) h = ap frozen (change-refused b (lodge bytes) h refl)
+turn-closed b (annul k) h = ap frozen (change-refused b (annul k) h refl)
+turn-closed b close h = ap frozen (change-refused b close h refl)
+turn-closed b clear h = clear-frozen b
 
--- the book is as it was at closing, but for whether it is cleared
-pub after-closed : (b : Book) (cs : List Call) → b .closed ≡ true → after b cs ≡ withStage b true (after b cs .cleared)
-unfolding after withStage
-after-closed b [] h = closed-stage b b h refl
-after-closed b (c ∷ cs) h =
-    let e = turn-closed b c h in
-    after-closed (turn b c .book) cs (ap (λ (k : Book). k .closed) e) ∙ ap (λ (k : Book). withStage k true (after (turn b c .book) cs .cleared)) e
+-- no call opens a book again, or takes its figures back
+applied-stays : (b : Book) (c : Call) → (b .closed ≡ true → applied b c .closed ≡ true) × (b .cleared ≡ true → applied b c .cleared ≡ true)
+unfolding applied withUnits withCapacities withStanding withStage
+applied-stays b (register u) = (λ h. h, λ h. h)
+applied-stays b (capacity cs) = (λ h. h, λ h. h)
+applied-stays b (available n es) = (λ h. h, λ h. h)
+applied-stays b (lodge bytes) = (λ h. h, λ h. h)
+applied-stays b (annul k) = (λ h. h, λ h. h)
+applied-stays b close = (λ h. refl, λ h. h)
+applied-stays b clear = (λ h. h, λ h. refl)
 
-module _ (b : Book) (x y : Bool) where
-  -- the stage of a book changes nothing that is judged
-  judgeEach-stage : (before ls : List Lodgement) → judgeEach (withStage b x y) before ls ≡ judgeEach b before ls
-  unfolding judgeEach judge withStage hours
-  judgeEach-stage before [] = refl
-  judgeEach-stage before (l ∷ ls) = ap {B = List Judged} (λ js. record { lodgement = l; verdict = judge b before l } ∷ js) (judgeEach-stage (cond (isAccepted (judge b before l)) (l ∷ before) before) ls)
+turn-stays : (b : Book) (c : Call) → (b .closed ≡ true → turn b c .book .closed ≡ true) × (b .cleared ≡ true → turn b c .book .cleared ≡ true)
+unfolding turn turned
+turn-stays b c = go (firstRow (rowsOf b c))
+  where
+    go : (o : Option Row) → (b .closed ≡ true → turned b c o .book .closed ≡ true) × (b .cleared ≡ true → turned b c o .book .cleared ≡ true)
+    go nothing = applied-stays b c
+    go (some r) = (λ h. h, λ h. h)
 
-  -- and so no verdict
-  pub stage-judgements : judgements (withStage b x y) ≡ judgements b
-  unfolding judgements withStage
-  stage-judgements = judgeEach-stage [] (closingOrder (b .standing))
+pub stays-closed : (b : Book) (cs : List Call) → b .closed ≡ true → after b cs .closed ≡ true
+unfolding after
+stays-closed b [] h = h
+stays-closed b (c ∷ cs) h = stays-closed (turn b c .book) cs (turn-stays b c .0 h)
 
-  -- and changes no figure
-  stage-figures : (h : ℕ) → figuresAt (withStage b x y) h ≡ figuresAt b h
-  unfolding figuresAt acceptedAt hourOfDay withStage
-  stage-figures h = ap (λ js. clearHour (hourOfDay b (keep (λ l. isAccepted (verdictAmong js (l .number))) (b .standing)) h)) stage-judgements
+pub stays-cleared : (b : Book) (cs : List Call) → b .cleared ≡ true → after b cs .cleared ≡ true
+unfolding after
+stays-cleared b [] h = h
+stays-cleared b (c ∷ cs) h = stays-cleared (turn b c .book) cs (turn-stays b c .1 h)
 
--- every verdict is that of the book at closing, whatever is called afterwards
+-- what closing froze is the same after every list of calls
+pub after-closed : (b : Book) (cs : List Call) → b .closed ≡ true → frozen (after b cs) ≡ frozen b
+unfolding after
+after-closed b [] h = refl
+after-closed b (c ∷ cs) h = after-closed (turn b c .book) cs (turn-stays b c .0 h) ∙ turn-closed b c h
+
+-- so every verdict is that of the book at closing, whatever is called afterwards
 pub verdicts-kept : (b : Book) (cs : List Call) → b .closed ≡ true → judgements (after b cs) ≡ judgements b
-verdicts-kept b cs h = ap judgements (after-closed b cs h) ∙ stage-judgements b true (after b cs .cleared)
+verdicts-kept b cs h = frozen-judgements (after b cs) b (after-closed b cs h)
 
 -- and so is every figure
 pub figures-kept : (b : Book) (cs : List Call) (h : ℕ) → b .closed ≡ true → figuresAt (after b cs) h ≡ figuresAt b h
-figures-kept b cs h e = ap (λ (k : Book). figuresAt k h) (after-closed b cs e) ∙ stage-figures b true (after b cs .cleared) h
+figures-kept b cs h e = frozen-figures (after b cs) b h (after-closed b cs e)
 
 -- The call that closed it
 
@@ -490,20 +535,21 @@ turn-closes b c = go (firstRow (rowsOf b c))
 
 -- the first call closes the book
 closed-here : (b : Book) (c : Call) (cs : List Call) → b .closed ≡ false → c ≡ close → ClosedIn b (c ∷ cs)
-unfolding after withStage
+unfolding after withStage frozen
 closed-here b c cs h e =
     rw e (record {
       earlier = [];
       rest = cs;
       calls = refl;
       found = h;
-      same = after-closed (turn b close .book) cs (ap (λ (k : Book). k .closed) (close-open b h)) ∙ ap (λ (k : Book). withStage k true (after (turn b close .book) cs .cleared)) (close-open b h);
+      same = after-closed (turn b close .book) cs (ap (λ (k : Book). k .closed) (close-open b h)) ∙ ap frozen (close-open b h);
+      stage = stays-closed (turn b close .book) cs (ap (λ (k : Book). k .closed) (close-open b h));
     })
 
 -- or a later one does
 closed-later : (b : Book) (c : Call) (cs : List Call) → ClosedIn (turn b c .book) cs → ClosedIn b (c ∷ cs)
 unfolding after
-closed-later b c cs k = record { earlier = c ∷ k .earlier; rest = k .rest; calls = ap {B = List Call} (λ ds. c ∷ ds) (k .calls); found = k .found; same = k .same }
+closed-later b c cs k = record { earlier = c ∷ k .earlier; rest = k .rest; calls = ap {B = List Call} (λ ds. c ∷ ds) (k .calls); found = k .found; same = k .same; stage = k .stage }
 
 -- a book that is closed was closed by one of the calls, and holds what that call found
 pub closed-in : (b : Book) (cs : List Call) → b .closed ≡ false → after b cs .closed ≡ true → ClosedIn b cs

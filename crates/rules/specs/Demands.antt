@@ -11,7 +11,7 @@ use lib.Signed.{_≤ℤ_, _<ℤ_}
 use Rattle.rules.specs.Lists.{All, Each, keep, sum, sumOf, hourly}
 use Rattle.rules.specs.Units.{Registered, Limit, capacityOf, ceiling, limits, unitOf}
 use Rattle.rules.specs.Lodging.{Lodgement, energyAt, isHidden, passedAt}
-use Rattle.rules.specs.Book.{Book, hours}
+use Rattle.rules.specs.Book.{Book, hours, frozen}
 use Rattle.rules.specs.Closing.{Verdict, hidden, limit, isAccepted, judgements, verdictAmong, acceptedAt}
 use Rattle.rules.specs.Share.{share}
 use Rattle.rules.specs.Match.{Offer}
@@ -19,7 +19,7 @@ use Rattle.rules.specs.Borders.{Directed, Execution, runs, marketBalance
 use Rattle.rules.specs.Executions.{bilateralExcess}
 use Rattle.rules.specs.Clearing.{hourOfDay, figuresAt}
 use Rattle.rules.specs.Queries.{matchedAt, executedAt}
-use Rattle.rules.specs.DayBook.{Call, close, withStage, after}
+use Rattle.rules.specs.DayBook.{Call, close, after}
 
 -- Closing
 
@@ -143,14 +143,15 @@ pub record Cleared (b : Book) (h : ℕ) : Type 0 where
       → Kept (record { border = border; export = export; energy = hourly es h }) (figuresAt b h .offers) (executionsAt b h) (figuresAt b h .executions)
 
 -- "Demand 3's ceilings and published capacities [..] are by the book's notices at closing; the lodgements it has then are those
--- standing at closing": one of the calls found the book open and closed it, and the book at the list's end holds what that
--- call found, units, notices, standing lodgements and last number.
+-- standing at closing": one of the calls found the book open and closed it, and the book at the list's end still has what that
+-- call found and froze: date, units, notices, standing lodgements and last number.
 pub record ClosedIn (start : Book) (cs : List Call) : Type 0 where
   pub earlier : List Call
   pub rest : List Call
   pub calls : cs ≡ earlier ++ (close ∷ rest)
   pub found : after start earlier .closed ≡ false
-  pub same : after start cs ≡ withStage (after start earlier) true (after start cs .cleared)
+  pub same : frozen (after start cs) ≡ frozen (after start earlier)
+  pub stage : after start cs .closed ≡ true
 
 -- Demand 3, of the book at a list's end.
 pub record Demand3 (b : Book) : Type 0 where
