@@ -18,9 +18,9 @@ use Rattle.rules.specs.Lodging.{Key, Lodgement, keyOf, energyAt, sameKey
 use Rattle.rules.specs.Book.{Book, hours, fresh, Frozen, frozen}
 use Rattle.rules.specs.Closing.{Judged, isAccepted, closingOrder, judge, judgeEach, judgements, verdictAmong, acceptedAt}
 use Rattle.rules.specs.Clearing.{hourOfDay, clearHour, figuresAt, daySteps}
-use Rattle.rules.specs.DayBook.{Call, register, capacity, available, lodge, annul, close, clear, changeRow, unregistered, badHolder, isSecond, unitsFull, full, gateRow, lodgeRows, callRows, rowsOf, withUnits, withCapacities, withStanding, withStage, notify, entry, applied, turned, turn, after, openedWith, opening}
+use Rattle.rules.specs.DayBook.{Call, register, capacity, available, lodge, annul, close, clear, changeRow, unregistered, badHolder, isSecond, unitsFull, full, gateRow, lodgeRows, callRows, rowsOf, withUnits, withCapacities, withStanding, withStage, notify, entry, applied, turned, turn, after, openedWith, opening, Answer, done, steps, reply, answers}
 use Rattle.rules.specs.Sound.{OfDay, absent, energies, UnitsSound, HasUnit, Lodged, StandingSound, Sound, WellTyped}
-use Rattle.rules.specs.Demands.{ClosedIn}
+use Rattle.rules.specs.Demands.{Begins, opened, Got, now, next, Staged, ClosedIn}
 use Rattle.rules.proofs.BoolLaws.{by-bool, not-both, of-not, neither, both, of-both, beq-true, of-beq}
 use Rattle.rules.proofs.ListLaws.{keep-passes, length-keep, length-drop-one, any-longer, first-longer, all-map, all-head, all-tail, all-keep, all-mapped, all-replicate, all-from, any-false, hourly-beyond}
 use Rattle.rules.proofs.ElementLaws.{all-last, pairwise-last, all-both, pairwise-keep, pairwise-map}
@@ -360,9 +360,24 @@ pub opening-directions : (d : Date) → length (opening d .book .capacities) ≡
 unfolding fresh
 opening-directions d = rw (opening-fresh d .2)
 
+-- and one that is not cleared
+pub opening-uncleared : (d : Date) → opening d .book .cleared ≡ false
+unfolding fresh
+opening-uncleared d = rw (opening-fresh d .2)
+
+-- so is every book that lists of calls start from
+pub begins-sound : {b : Book} → Begins b → Sound b
+begins-sound (opened d) = opening-sound d
+
+pub begins-open : {b : Book} → Begins b → (b .closed ≡ false) × (b .cleared ≡ false)
+begins-open (opened d) = (opening-open d, opening-uncleared d)
+
+pub begins-directions : {b : Book} → Begins b → length (b .capacities) ≡ 8
+begins-directions (opened d) = opening-directions d
+
 -- the book is sound after every list of calls
-pub sound-after : (d : Date) (cs : List Call) → Sound (after (opening d .book) cs)
-sound-after d cs = calls-sound (opening d .book) cs (opening-sound d)
+pub sound-after : {b : Book} → Begins b → (cs : List Call) → Sound (after b cs)
+sound-after {b} g cs = calls-sound b cs (begins-sound g)
 
 -- Eight directions
 
@@ -393,8 +408,8 @@ calls-directions b none h = h
 calls-directions b (more {x = c} w t) h = calls-directions (turn b c .book) t (turn-directions b c w h)
 
 -- where each capacity notice has its 8 directions, so has the book's
-pub directions-after : (d : Date) {cs : List Call} → All WellTyped cs → length (after (opening d .book) cs .capacities) ≡ 8
-directions-after d w = calls-directions (opening d .book) w (opening-directions d)
+pub directions-after : {b : Book} {cs : List Call} → Begins b → All WellTyped cs → length (after b cs .capacities) ≡ 8
+directions-after {b} g w = calls-directions b w (begins-directions g)
 
 -- What closing froze
 
@@ -556,3 +571,85 @@ pub closed-in : (b : Book) (cs : List Call) → b .closed ≡ false → after b 
 unfolding after
 closed-in b [] h k = not-both k h
 closed-in b (c ∷ cs) h k = ⊎-elim (λ e. closed-here b c cs h e) (λ e. closed-later b c cs (closed-in (turn b c .book) cs (e ∙ h) k)) (turn-closes b c)
+
+-- The answers
+
+-- a closing answered as done closed the book
+close-answered : (b : Book) → done ≡ turn b close .answer → turn b close .book .closed ≡ true
+unfolding turn turned applied withStage
+close-answered b h = go (firstRow (rowsOf b close)) h
+  where
+    go : (o : Option Row) → done ≡ turned b close o .answer → turned b close o .book .closed ≡ true
+    go nothing h = refl
+    go (some r) h = let z : _≡_ {A = ℕ} 0 1 = cc in absurd (omega arith)
+
+got-closed : (b : Book) {cs : List Call} {rs : List Answer} → rs ≡ answers b cs → Got close done cs rs → after b cs .closed ≡ true
+unfolding after answers
+got-closed b e (now {cs = cs}) = let h : done ≡ turn b close .answer = cc in stays-closed (turn b close .book) cs (close-answered b h)
+got-closed b e (next {d = d} {cs = cs} {rs = rs} g) = let t : rs ≡ answers (turn b d .book) cs = cc in got-closed (turn b d .book) t g
+
+-- a clearing answered by steps cleared the book, which was closed, and they are the book's
+clear-answered : (b : Book) (n : ℕ) → steps n ≡ turn b clear .answer → (turn b clear .book .cleared ≡ true) × (b .closed ≡ true) × (n ≡ daySteps b)
+unfolding turn turned applied reply withStage rowsOf gateRow row
+clear-answered b n h = go (firstRow (rowsOf b clear)) refl h
+  where
+    go : (o : Option Row) → firstRow (rowsOf b clear) ≡ o → steps n ≡ turned b clear o .answer → (turned b clear o .book .cleared ≡ true) × (b .closed ≡ true) × (n ≡ daySteps b)
+    go nothing e h = (refl, not-false _ (neither _ _ (all-head (accepted-rows (rowsOf b clear) e)) .0), cc)
+    go (some r) e h = let z : _≡_ {A = ℕ} 0 1 = cc in absurd (omega arith)
+
+got-cleared : (b : Book) (n : ℕ) {cs : List Call} {rs : List Answer} → rs ≡ answers b cs → Got clear (steps n) cs rs → (after b cs .cleared ≡ true) × (n ≡ daySteps (after b cs))
+unfolding after answers
+got-cleared b n e (now {cs = cs}) =
+    let h : steps n ≡ turn b clear .answer = cc in
+    let k = clear-answered b n h in
+    (stays-cleared (turn b clear .book) cs (k .0), k .2 ∙ sym (frozen-steps (after b (clear ∷ cs)) b (after-closed b (clear ∷ cs) (k .1))))
+got-cleared b n e (next {d = d} {cs = cs} {rs = rs} g) = let t : rs ≡ answers (turn b d .book) cs = cc in got-cleared (turn b d .book) n t g
+
+got-now : {c d : Call} {a r : Answer} {cs : List Call} {rs : List Answer} → d ≡ c → r ≡ a → Got c a (d ∷ cs) (r ∷ rs)
+got-now e f = rw (e, f) now
+
+-- closing an open book is answered as done
+close-done : (b : Book) → b .closed ≡ false → turn b close .answer ≡ done
+unfolding turn turned rowsOf gateRow callRows changeRow row firstRow reply
+close-done b h = rw h
+
+closed-got : (b : Book) (cs : List Call) → b .closed ≡ false → after b cs .closed ≡ true → Got close done cs (answers b cs)
+unfolding after answers
+closed-got b [] h k = not-both k h
+closed-got b (c ∷ cs) h k =
+    ⊎-elim (λ e. got-now e (ap (λ d. turn b d .answer) e ∙ close-done b h)) (λ e. next (closed-got (turn b c .book) cs (e ∙ h) k)) (turn-closes b c)
+
+-- only a clearing clears a book
+clears : (b : Book) (c : Call) → ((c ≡ clear) × (reply b c ≡ steps (daySteps b))) ⊎ (applied b c .cleared ≡ b .cleared)
+unfolding applied reply withUnits withCapacities withStanding withStage
+clears b (register u) = inr refl
+clears b (capacity cs) = inr refl
+clears b (available n es) = inr refl
+clears b (lodge bytes) = inr refl
+clears b (annul k) = inr refl
+clears b close = inr refl
+clears b clear = inl (refl, refl)
+
+-- one that is not refused
+turn-clears : (b : Book) (c : Call) → ((c ≡ clear) × (turn b c .answer ≡ steps (daySteps b))) ⊎ (turn b c .book .cleared ≡ b .cleared)
+unfolding turn turned
+turn-clears b c = go (firstRow (rowsOf b c))
+  where
+    go : (o : Option Row) → ((c ≡ clear) × (turned b c o .answer ≡ steps (daySteps b))) ⊎ (turned b c o .book .cleared ≡ b .cleared)
+    go nothing = clears b c
+    go (some r) = inr refl
+
+cleared-got : (b : Book) (cs : List Call) → b .cleared ≡ false → after b cs .cleared ≡ true → (n : ℕ) × Got clear (steps n) cs (answers b cs)
+unfolding after answers
+cleared-got b [] h k = not-both k h
+cleared-got b (c ∷ cs) h k =
+    ⊎-elim (λ e. (daySteps b, got-now (e .0) (e .1))) (λ e. let g = cleared-got (turn b c .book) cs (e ∙ h) k in (g .0, next (g .1))) (turn-clears b c)
+
+-- what the answers say of the stage of a book that was open, and not cleared
+pub staged : (b : Book) (cs : List Call) → b .closed ≡ false → b .cleared ≡ false → Staged (after b cs) cs (answers b cs)
+staged b cs h k =
+    record {
+      closed = (λ g. got-closed b refl g, λ e. closed-got b cs h e);
+      cleared = (λ g. got-cleared b (g .0) refl (g .1) .0, λ e. cleared-got b cs k e);
+      counted = λ n g. got-cleared b n refl g .1;
+    }

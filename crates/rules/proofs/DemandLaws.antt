@@ -8,7 +8,6 @@ use native.Mathlib.Omega.{arith}
 use lib.Dec.{ltb, eqb}
 use borrow.Author.Tests.{eqb-true}
 use Rattle.rules.specs.Lists.{All, none, more, keep, sum, sumOf, hourly}
-use Rattle.rules.specs.Hours.{Date}
 use Rattle.rules.specs.Units.{Registered, Capacities, capacityOf, ceiling, hasNumber, nobody, unitOf, isRegistered}
 use Rattle.rules.specs.Lodging.{Lodgement, energyAt}
 use Rattle.rules.specs.Book.{Book, hours}
@@ -16,14 +15,14 @@ use Rattle.rules.specs.Closing.{acceptedAt}
 use Rattle.rules.specs.Borders.{Directed}
 use Rattle.rules.specs.Clearing.{holderOf, offerAt, executionAt, published, borderCapacities, capacitiesAt, hourOfDay}
 use Rattle.rules.specs.Queries.{matchedAt, executedAt}
-use Rattle.rules.specs.DayBook.{Call, after, opening}
+use Rattle.rules.specs.DayBook.{Call, after}
 use Rattle.rules.specs.Sound.{Sound}
-use Rattle.rules.specs.Demands.{Cleared, ClosedIn, Demand3}
+use Rattle.rules.specs.Demands.{Begins, Cleared, Demand3}
 use Rattle.rules.proofs.ListLaws.{all-map, all-head, all-keep, first-passes, all-parts}
 use Rattle.rules.proofs.SumLaws.{sum-keep, sum-some, sum-two}
 use Rattle.rules.proofs.HourLaws.{unit-energy}
 use Rattle.rules.proofs.SoundLaws.{figures-cleared}
-use Rattle.rules.proofs.BookLaws.{sound-after, closed-in, opening-open}
+use Rattle.rules.proofs.BookLaws.{begins-open, sound-after, closed-in, staged}
 use Rattle.rules.proofs.ClosingLaws.{energyOn, closing-exactly, accepted-within}
 
 -- Ceilings
@@ -120,14 +119,15 @@ hour-demanded b s h low high =
       borders = λ border export es l u e. of-capacities (b .capacities) h border export es l u e (k .borders);
     }
 
--- of a sound book
-pub demanded : (b : Book) → Sound b → Demand3 b
-demanded b s = record { closing = λ e. closing-exactly b (s .standing .rising); clearing = λ e h low high. hour-demanded b s h low high }
-
--- if closing was accepted one of the calls closed the book, and the book still holds what that call found
-pub closing-found : (d : Date) (cs : List Call) → after (opening d .book) cs .closed ≡ true → ClosedIn (opening d .book) cs
-closing-found d cs h = closed-in (opening d .book) cs (opening-open d) h
-
--- of the book after every list of calls
-pub demand-3 : (d : Date) (cs : List Call) → Demand3 (after (opening d .book) cs)
-demand-3 d cs = demanded (after (opening d .book) cs) (sound-after d cs)
+-- of a list of calls, from every book that lists start from
+pub demand-3 : {b : Book} → Begins b → (cs : List Call) → Demand3 b cs
+demand-3 {b} g cs =
+    let start = begins-open g in
+    let stage = staged b cs (start .0) (start .1) in
+    let sound = sound-after g cs in
+    record {
+      stage = stage;
+      found = λ a. closed-in b cs (start .0) (stage .closed .0 a);
+      closing = λ a. closing-exactly (after b cs) (sound .standing .rising);
+      clearing = λ a h low high. hour-demanded (after b cs) sound h low high;
+    }

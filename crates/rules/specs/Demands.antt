@@ -9,6 +9,7 @@ use lib.Dec.{ltb, eqb}
 use lib.IntN.{ℤ, pos, _+ℤ_}
 use lib.Signed.{_≤ℤ_, _<ℤ_}
 use Rattle.rules.specs.Lists.{All, Each, keep, sum, sumOf, hourly}
+use Rattle.rules.specs.Hours.{Date}
 use Rattle.rules.specs.Units.{Registered, Limit, capacityOf, ceiling, limits, unitOf}
 use Rattle.rules.specs.Lodging.{Lodgement, energyAt, isHidden, passedAt}
 use Rattle.rules.specs.Book.{Book, hours, frozen}
@@ -17,9 +18,9 @@ use Rattle.rules.specs.Share.{share}
 use Rattle.rules.specs.Match.{Offer}
 use Rattle.rules.specs.Borders.{Directed, Execution, runs, marketBalance, executionBalance, toward}
 use Rattle.rules.specs.Executions.{bilateralExcess}
-use Rattle.rules.specs.Clearing.{hourOfDay, figuresAt}
+use Rattle.rules.specs.Clearing.{hourOfDay, figuresAt, daySteps}
 use Rattle.rules.specs.Queries.{matchedAt, executedAt}
-use Rattle.rules.specs.DayBook.{Call, close, after}
+use Rattle.rules.specs.DayBook.{Call, Answer, close, clear, done, steps, after, answers, opening}
 
 -- Closing
 
@@ -142,6 +143,32 @@ pub record Cleared (b : Book) (h : ℕ) : Type 0 where
   pub borders : (border : ℕ) (export : Bool) (es : List ℕ) → 1 ≤ border → border ≤ 4 → capacityOf (b .capacities) border export ≡ some es
       → Kept (record { border = border; export = export; energy = hourly es h }) (figuresAt b h .offers) (executionsAt b h) (figuresAt b h .executions)
 
+-- Lists of calls
+
+-- a book that lists of calls start from: "from a fresh session"
+pub data Begins : Book → Type 0 where
+  opened : (d : Date) → Begins (opening d .book)
+
+-- one of the calls of a list is c, and its answer a
+pub data Got (c : Call) (a : Answer) : List Call → List Answer → Type 0 where
+  now : {cs : List Call} {rs : List Answer} → Got c a (c ∷ cs) (a ∷ rs)
+  next : {d : Call} {e : Answer} {cs : List Call} {rs : List Answer} → Got c a cs rs → Got c a (d ∷ cs) (e ∷ rs)
+
+-- "If closing was accepted"
+abbrev pub ClosingAccepted : List Call → List Answer → Type 0
+ClosingAccepted cs rs = Got close done cs rs
+
+-- "If clearing was accepted": it "answers the step count"
+abbrev pub ClearingAccepted : List Call → List Answer → Type 0
+ClearingAccepted cs rs = (n : ℕ) × Got clear (steps n) cs rs
+
+-- The stage of the book at a list's end, by the list's answers: it is closed exactly where closing was accepted, cleared exactly
+-- where clearing was, and the steps answered then are the book's.
+pub record Staged (b : Book) (cs : List Call) (rs : List Answer) : Type 0 where
+  pub closed : ClosingAccepted cs rs ↔ (b .closed ≡ true)
+  pub cleared : ClearingAccepted cs rs ↔ (b .cleared ≡ true)
+  pub counted : (n : ℕ) → Got clear (steps n) cs rs → n ≡ daySteps b
+
 -- "Demand 3's ceilings and published capacities [..] are by the book's notices at closing; the lodgements it has then are those
 -- standing at closing": one of the calls found the book open and closed it, and the book at the list's end still has what that
 -- call found and froze: date, units, notices, standing lodgements and last number.
@@ -153,9 +180,11 @@ pub record ClosedIn (start : Book) (cs : List Call) : Type 0 where
   pub same : frozen (after start cs) ≡ frozen (after start earlier)
   pub stage : after start cs .closed ≡ true
 
--- Demand 3, of the book at a list's end.
-pub record Demand3 (b : Book) : Type 0 where
+-- Demand 3, of a list of calls and the book at its end.
+pub record Demand3 (start : Book) (cs : List Call) : Type 0 where
+  pub stage : Staged (after start cs) cs (answers start cs)
   -- "If closing was accepted"
-  pub closing : b .closed ≡ true → All (Judgement b) (b .standing)
+  pub found : ClosingAccepted cs (answers start cs) → ClosedIn start cs
+  pub closing : ClosingAccepted cs (answers start cs) → All (Judgement (after start cs)) (after start cs .standing)
   -- "If clearing was accepted too, all that follows holds in each hour."
-  pub clearing : b .cleared ≡ true → (h : ℕ) → 1 ≤ h → h ≤ hours b → Cleared b h
+  pub clearing : ClearingAccepted cs (answers start cs) → (h : ℕ) → 1 ≤ h → h ≤ hours (after start cs) → Cleared (after start cs) h
