@@ -22,6 +22,7 @@ pub mod RepeatLaws
 pub mod BorderLaws
 pub mod HourLaws
 pub mod SoundLaws
+pub mod TableLaws
 pub mod BookLaws
 pub mod OrderLaws
 pub mod ClosingLaws
