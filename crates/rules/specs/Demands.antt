@@ -4,7 +4,7 @@ use mathlib.Core.Path.{_≡_}
 use mathlib.Core.Logic.{_↔_}
 use mathlib.Core.Bool.{Bool, true, false, cond, _&&_, _||_, Bool·beq}
 use mathlib.Core.List.{List, [], _∷_, _++_, map}
-use mathlib.Core.Option.{some}
+use mathlib.Core.Option.{some, none}
 use lib.Dec.{ltb, eqb}
 use lib.IntN.{ℤ, pos, _+ℤ_}
 use lib.Signed.{_≤ℤ_, _<ℤ_}
@@ -17,6 +17,7 @@ use Rattle.rules.specs.Closing.{Verdict, hidden, limit, isAccepted, judg
 use Rattle.rules.specs.Share.{share}
 use Rattle.rules.specs.Match.{Offer}
 use Rattle.rules.specs.Borders.{Directed, Execution, runs, marketBalance, executionBalance, toward}
+use Rattle.rules.specs.Withdrawal.{Ends}
 use Rattle.rules.specs.Executions.{bilateralExcess}
 use Rattle.rules.specs.Clearing.{hourOfDay, figuresAt, daySteps}
 use Rattle.rules.specs.Queries.{matchedAt, executedAt}
@@ -89,6 +90,10 @@ pub record CutDown (before after : Execution) : Type 0 where
   pub holder : after .holder ≡ before .holder
   pub energy : after .energy ≤ before .energy
 
+-- one that is not cut, if it runs at a border in a direction
+pub record Uncut (border : ℕ) (export : Bool) (before after : Execution) : Type 0 where
+  pub energy : runs border export (before .holder) ≡ true → after .energy ≡ before .energy
+
 -- "Some execution there in a direction is cut": it has less energy after than before
 pub data SomeCut (c : Directed) : List Execution → List Execution → Type 0 where
   this : {x y : Execution} {xs ys : List Execution} → runs (c .border) (c .export) (x .holder) ≡ true → y .energy < x .energy → SomeCut c (x ∷ xs) (y ∷ ys)
@@ -138,10 +143,14 @@ pub record Cleared (b : Book) (h : ℕ) : Type 0 where
   pub ceilings : (u : ℕ) → matchedAt b u h + executedAt b u h ≤ ceiling (b .capacities) (unitOf (b .units) u) h
   -- no execution gains by the cut
   pub executions : Each CutDown (executionsAt b h) (figuresAt b h .executions)
+  -- "while a market balance passes its maximum": at the end none does
+  pub withdrawal : Ends (figuresAt b h .maxima) (hourOfDay b (acceptedAt b) h .offers) (record { offers = figuresAt b h .offers; steps = figuresAt b h .steps })
   -- "Market plus bilateral balance at each border keeps within each published capacity", and what is cut there: at each of
   -- the 4 borders in each direction for which the notice has energies es
   pub borders : (border : ℕ) (export : Bool) (es : List ℕ) → 1 ≤ border → border ≤ 4 → capacityOf (b .capacities) border export ≡ some es
       → Kept (record { border = border; export = export; energy = hourly es h }) (figuresAt b h .offers) (executionsAt b h) (figuresAt b h .executions)
+  -- "Absent means no maximum": in a direction without capacity no execution is cut
+  pub uncut : (border : ℕ) (export : Bool) → capacityOf (b .capacities) border export ≡ none → Each (Uncut border export) (executionsAt b h) (figuresAt b h .executions)
 
 -- Lists of calls
 
