@@ -1,6 +1,7 @@
 -- Demand 3 holds of the lent session: the responses tell what the contracts under them promise.
 use mathlib.Core.Path.{_≡_, refl, ap, _∙_}
 use mathlib.Core.List.{List, [], _∷_, map}
+use Rattle.rules.specs.Book.{Book}
 use Rattle.rules.specs.DayBook as D
 use Rattle.session.specs.Steps.{said}
 use Rattle.session.specs.declared.Session.{Session}
@@ -10,7 +11,7 @@ use Rattle.daybook.proofs.DemandLaws.{demand-3}
 use Rattle.told.specs.Told.{ofAnswer}
 use Rattle.response.specs.Effects.{Stepped}
 use Rattle.told.specs.declared.Response.{Response}
-use Rattle.gate.specs.Lent.{Lends, registers, notifies, avails, lodges, annuls, closes, clears, LentTo, ended, then, LentDemanded}
+use Rattle.gate.specs.Lent.{Lends, registers, notifies, avails, lodges, annuls, closes, clears, LentTo, ended, then, Started, opened, LentDemanded}
 
 -- the call's own contract, with the answer that its response tells
 pub record Made (s : Session) (c : D.Call) (r : Stepped) : Type 0 where
@@ -43,13 +44,17 @@ ran s (c ∷ cs) t _ (then {r = r} {ws = ws} l rest) =
       calls = ap (λ w. w ∷ ws) (m .told) ∙ ap (λ (l : List Response). ofAnswer (m .answer) ∷ l) (a .calls);
     }
 
+-- what opening gave, told as its answer
+started : {s : Session} {b : Book} → Started s b → R.Started s b
+started (opened d o p) = R.opened d (record { answer = p .answer; session = o .session }) (p .opens)
+
 pub lent-demand-3 : LentDemanded
-lent-demand-3 d o cs t ws told p l asked =
-    let a = ran (o .session) cs t ws l in
+lent-demand-3 s b cs t ws told start l asked =
+    let a = ran s cs t ws l in
     record {
       answers = a .answers;
       replies = λ q. asked q .reply;
       calls = a .calls;
       queries = λ q. asked q .told;
-      demand = demand-3 d (record { answer = p .answer; session = o .session }) cs t (map said (a .answers)) (λ q. asked q .reply) (p .opens) (a .ran) (λ q. asked q .answered);
+      demand = demand-3 s b cs t (map said (a .answers)) (λ q. asked q .reply) (started start) (a .ran) (λ q. asked q .answered);
     }

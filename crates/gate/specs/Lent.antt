@@ -5,6 +5,7 @@ use mathlib.Core.Path.{_≡_}
 use mathlib.Core.List.{List, [], _∷_, map}
 use lib.ListN.{length}
 use Rattle.rules.specs.Hours.{Date}
+use Rattle.rules.specs.Book.{Book}
 use Rattle.rules.specs.DayBook as D
 use Rattle.rules.specs.Queries as Q
 use Rattle.session.specs.Image.{unitIn, keyIn}
@@ -41,15 +42,19 @@ pub data LentTo : Session → List D.Call → Session → List Response → Type
   then : {s t : Session} {c : D.Call} {r : Stepped} {cs : List D.Call} {ws : List Response}
       → Lends s c r → LentTo (r .session) cs t ws → LentTo s (c ∷ cs) t (r .response ∷ ws)
 
+-- a session that lists of calls start from, "a fresh session", and the book that it stands for
+pub data Started : Session → Book → Type 0 where
+  opened : (d : Date) (o : Opening) → OpensAs d o → Started (o .session) (D.opening d .book)
+
 -- The responses tell answers and replies of which demand 3 holds.
-pub record Lent (d : Date) (cs : List D.Call) (ws : List Response) (told : Q.Query → Response) : Type 0 where
+pub record Lent (b : Book) (cs : List D.Call) (ws : List Response) (told : Q.Query → Response) : Type 0 where
   pub answers : List Answer
   pub replies : Q.Query → Reply
   pub calls : ws ≡ map ofAnswer answers
   pub queries : (q : Q.Query) → told q ≡ ofReply (replies q)
-  pub demand : Demand3 (D.opening d .book) cs (map said answers) replies
+  pub demand : Demand3 b cs (map said answers) replies
 
--- for every date and list of calls, from the session that opening gave
+-- for every session that lists of calls start from, and every list
 abbrev pub LentDemanded : Type 0
-LentDemanded = (d : Date) (o : Opening) (cs : List D.Call) (t : Session) (ws : List Response) (told : Q.Query → Response)
-    → OpensAs d o → LentTo (o .session) cs t ws → ((q : Q.Query) → AnsweredAs t q (told q)) → Lent d cs ws told
+LentDemanded = (s : Session) (b : Book) (cs : List D.Call) (t : Session) (ws : List Response) (told : Q.Query → Response)
+    → Started s b → LentTo s cs t ws → ((q : Q.Query) → AnsweredAs t q (told q)) → Lent b cs ws told
