@@ -34,30 +34,30 @@ module _ (s : Session) (k : Key) where
   Held r = (b : B.Book) → s ≡ image b → r ≡ D.badHolder b (keyIn k)
 
   pub annul-2 : s .closed ≡ true → Judges s call (No 2 0)
-  unfolding D.rowsOf D.changeRow row firstRow
+  unfolding D.rowsOf D.gateRow D.callRows D.changeRow row firstRow
   annul-2 h b e = rw (closed-as s b e, h)
 
   pub annul-5 : s .closed ≡ false → bad ≡ true → Judges s call (No 5 0)
-  unfolding D.rowsOf D.changeRow row firstRow
+  unfolding D.rowsOf D.gateRow D.callRows D.changeRow row firstRow
   annul-5 h t b e = rw (t, closed-as s b e, h)
 
   pub annul-6 : (r : Bool) → s .closed ≡ false → bad ≡ false → Held r → r ≡ true → Judges s call (No 6 0)
-  unfolding D.rowsOf D.changeRow row firstRow
+  unfolding D.rowsOf D.gateRow D.callRows D.changeRow row firstRow
   annul-6 r h t o u b e = rw (t, sym (o b e) ∙ u, closed-as s b e, h)
 
   -- p is the place of the key's lodgement
   module _ (p : ℕ) (at : p ≡ keyPlace s k) where
     pub annul-13 : (r : Bool) → s .closed ≡ false → bad ≡ false → Held r → r ≡ false → s .standing ≤ p → Judges s call (No 13 0)
-    unfolding D.rowsOf D.changeRow row firstRow
+    unfolding D.rowsOf D.gateRow D.callRows D.changeRow row firstRow
     annul-13 r h t o u w b e = rw (t, sym (o b e) ∙ u, stands-at s b e k p at, le-ltb p (s .standing) w, closed-as s b e, h)
 
     pub annul-0 : (r : Bool) → s .closed ≡ false → bad ≡ false → Held r → r ≡ false → p < s .standing → Judges s call Clear
-    unfolding D.rowsOf D.changeRow row firstRow
+    unfolding D.rowsOf D.gateRow D.callRows D.changeRow row firstRow
     annul-0 r h t o u w b e = rw (t, sym (o b e) ∙ u, stands-at s b e k p at, lt-ltb p (s .standing) w, closed-as s b e, h)
 
     -- "annulling drops the key's lodgement"
     pub annulled : leftOf (s .standing) p < 128 → Entered s call (standingTurn s (struckAt s p))
-    unfolding told isRefusal D.reply D.rowsOf D.applied
+    unfolding told isRefusal D.reply D.rowsOf D.gateRow D.callRows D.applied
     annulled free = record {
       book = λ b sound o e. record { answer = refl; session = taken-image s k p (leftOf (s .standing) p) at refl free b sound (open-row b _ o) e };
       fine = refl;

@@ -47,19 +47,19 @@ module _ (s : Session) (ps : List Published) where
   off-range-as = any-map publishedIn U.badPublished ps
 
   pub capacity-2 : s .closed ≡ true → Judges s call (No 2 0)
-  unfolding D.rowsOf D.changeRow row firstRow
+  unfolding D.rowsOf D.gateRow D.callRows D.changeRow row firstRow
   capacity-2 h b e = rw (closed-as s b e, h)
 
   pub capacity-4 : s .closed ≡ false → any (offHours (s .hours)) ps ≡ true → Judges s call (No 4 0)
-  unfolding D.rowsOf D.changeRow row firstRow
+  unfolding D.rowsOf D.gateRow D.callRows D.changeRow row firstRow
   capacity-4 h k b e = rw (off-hours-as b e, k, closed-as s b e, h)
 
   pub capacity-5 : s .closed ≡ false → any (offHours (s .hours)) ps ≡ false → any offRange ps ≡ true → Judges s call (No 5 0)
-  unfolding D.rowsOf D.changeRow row firstRow
+  unfolding D.rowsOf D.gateRow D.callRows D.changeRow row firstRow
   capacity-5 h k r b e = rw (off-hours-as b e, k, off-range-as, r, closed-as s b e, h)
 
   pub capacity-0 : s .closed ≡ false → any (offHours (s .hours)) ps ≡ false → any offRange ps ≡ false → Judges s call Clear
-  unfolding D.rowsOf D.changeRow row firstRow
+  unfolding D.rowsOf D.gateRow D.callRows D.changeRow row firstRow
   capacity-0 h k r b e = rw (off-hours-as b e, k, off-range-as, r, closed-as s b e, h)
 
 -- Entering
@@ -85,7 +85,7 @@ unfolding image verdictsIn hoursIn D.applied D.withCapacities B.hours
 capacity-image b cs k c = rw (k, c)
 
 of-hours : (b : B.Book) (cs : U.Capacities) → firstRow (D.rowsOf b (D.capacity cs)) ≡ none → any (U.notOfHours (B.hours b)) cs ≡ false
-unfolding D.rowsOf row
+unfolding D.rowsOf D.gateRow D.callRows row
 of-hours b cs o = all-head (all-tail (accepted-rows _ o))
 
 hours-fit : (b : B.Book) → B.hours b ≤ 25
@@ -94,7 +94,7 @@ hours-fit b = hours-most (b .date)
 
 pub capacity-entered : (s : Session) (ps : List Published) (ns : List Notice) (a : Response) → ns ≡ map directionAs ps → a ≡ accepted
     → Entered s (D.capacity (capacitiesIn ps)) (capacityTurn s (record { change = record { capacities = ns; changed = true }; answer = a }))
-unfolding told isRefusal D.reply D.rowsOf
+unfolding told isRefusal D.reply D.rowsOf D.gateRow D.callRows
 capacity-entered s ps ns a q f = rw f (record {
   book = λ b sound o e.
       let k = q ∙ directions-as (B.hours b) (hours-fit b) ps (of-hours b (capacitiesIn ps) o) in

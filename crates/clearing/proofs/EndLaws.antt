@@ -22,7 +22,7 @@ use Rattle.rules.specs.DayBook as D
 use Rattle.rules.proofs.BoolLaws.{by-bool, neither}
 use Rattle.rules.proofs.ListLaws.{all-head}
 use Rattle.rules.proofs.RefusalLaws.{accepted-rows}
-use Rattle.rules.proofs.BookLaws.{verdicts-kept, figures-kept}
+use Rattle.rules.proofs.BookLaws.{frozen-judgements, frozen-figures}
 use Rattle.arrays.proofs.PlaceLaws.{zeros}
 use Rattle.hour.specs.declared.Hour.{Hour}
 use Rattle.hour.specs.declared.Figures.{Figures}
@@ -139,27 +139,27 @@ hours-next s k figures steps x r a c q h b sound closed e =
 
 -- The call
 
-module _ (b : B.Book) (o : firstRow (D.rowsOf b D.clear) ≡ nothing) where
-  closed-now : b .closed ≡ true
-  unfolding D.rowsOf row
-  closed-now = not-false (b .closed) (neither (not (b .closed)) (b .cleared) (all-head (accepted-rows _ o)) .0)
+closed-now : (b : B.Book) → firstRow (D.rowsOf b D.clear) ≡ nothing → b .closed ≡ true
+unfolding D.rowsOf D.gateRow row
+closed-now b o = not-false (b .closed) (neither (not (b .closed)) (b .cleared) (all-head (accepted-rows _ o)) .0)
 
-  after-clear : D.after b (D.clear ∷ []) ≡ D.applied b D.clear
-  unfolding D.after D.turn D.turned
-  after-clear = ap (λ x. D.turned b D.clear x .book) o
+module _ (b : B.Book) where
+  -- clearing changes nothing of what closing froze, and so no verdict and no figure
+  same-frozen : B.frozen (D.applied b D.clear) ≡ B.frozen b
+  unfolding B.frozen D.applied D.withStage
+  same-frozen = refl
 
-  -- clearing changes no verdict and no figure
   same-verdicts : I.verdictsIn (D.applied b D.clear) ≡ I.verdictsIn b
   unfolding I.verdictsIn C.verdicts D.applied D.withStage
   same-verdicts =
       ap (λ js. cond (b .closed) (map (λ l. C.verdictAmong js (l .number)) (b .standing)) [])
-      (ap C.judgements (sym after-clear) ∙ verdicts-kept b (D.clear ∷ []) closed-now)
+      (frozen-judgements (D.applied b D.clear) b same-frozen)
 
   same-figures : (h : ℕ) → I.figuresAs (D.applied b D.clear) h ≡ I.figuresAs b h
   unfolding D.applied D.withStage
   same-figures h =
       figures-as (D.applied b D.clear) h
-      ∙ (ap (λ x. clearedAs x (map I.unitOf (b .units))) (ap (λ (k : B.Book). R.figuresAt k h) (sym after-clear) ∙ figures-kept b (D.clear ∷ []) h closed-now)
+      ∙ (ap (λ x. clearedAs x (map I.unitOf (b .units))) (frozen-figures (D.applied b D.clear) b h same-frozen)
       ∙ sym (figures-as b h))
 
   all-figures : (hs : List ℕ) → map (I.figuresAs b) hs ≡ map (I.figuresAs (D.applied b D.clear)) hs
@@ -198,7 +198,7 @@ clear-entered s figures steps d = record {
       let n = hours-as s b e in
       record {
         answer = ap T.told (day-steps b steps (g .1 ∙ ap (λ k. sumOf (λ h. R.figuresAt b h .steps) (from 1 k)) (sym n)));
-        session = ap (λ (x : Session). withFigures x true figures) e ∙ cleared-image b o figures (g .0 ∙ ap (λ k. pad 25 I.noFigures (map (I.figuresAs b) (from 1 k))) (sym n));
+        session = ap (λ (x : Session). withFigures x true figures) e ∙ cleared-image b figures (g .0 ∙ ap (λ k. pad 25 I.noFigures (map (I.figuresAs b) (from 1 k))) (sym n));
       };
   fine = refl;
 }

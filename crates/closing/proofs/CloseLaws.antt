@@ -5,10 +5,10 @@ use mathlib.Core.Bool.{true, false}
 use mathlib.Core.List.{List, [], map}
 use lib.ListN.{length, getD, replicate}
 use Rattle.rules.specs.Refusals.{row, firstRow}
-use Rattle.rules.specs.Book.{Book, hours}
+use Rattle.rules.specs.Book.{Book, hours, frozen}
 use Rattle.rules.specs.Closing as C
 use Rattle.rules.specs.DayBook as D
-use Rattle.rules.proofs.BookLaws.{stage-judgements}
+use Rattle.rules.proofs.BookLaws.{frozen-judgements}
 use Rattle.session.specs.Laid.{pad}
 use Rattle.session.specs.Image.{image, verdictAs, noVerdict, verdictsIn, hoursIn}
 use Rattle.answer.specs.Told.{told, isRefusal}
@@ -29,17 +29,17 @@ use Rattle.turns.proofs.RoomLaws.{kept-start}
 -- 2: "closing [..] twice"
 module _ (s : Session) where
   pub close-2 : s .closed ≡ true → Judges s D.close (No 2 0)
-  unfolding D.rowsOf D.changeRow row firstRow
+  unfolding D.rowsOf D.gateRow D.callRows D.changeRow row firstRow
   close-2 h b e = rw (closed-as s b e, h)
 
   pub close-0 : s .closed ≡ false → Judges s D.close Clear
-  unfolding D.rowsOf D.changeRow row firstRow
+  unfolding D.rowsOf D.gateRow D.callRows D.changeRow row firstRow
   close-0 h b e = rw (closed-as s b e, h)
 
 -- the verdicts are those of the book before closing
 stage-verdicts : (b : Book) → C.verdicts (D.withStage b true (b .cleared)) ≡ C.verdicts b
-unfolding C.verdicts D.withStage
-stage-verdicts b = ap (λ js. map (λ l. C.verdictAmong js (l .number)) (b .standing)) (stage-judgements b true (b .cleared))
+unfolding C.verdicts D.withStage frozen
+stage-verdicts b = ap (λ js. map (λ l. C.verdictAmong js (l .number)) (b .standing)) (frozen-judgements (D.withStage b true (b .cleared)) b refl)
 
 stage-image : (b : Book) → b .cleared ≡ false → withVerdicts (image b) true (pad 128 noVerdict (map verdictAs (C.verdicts (D.withStage b true (b .cleared))))) ≡ image (D.withStage b true (b .cleared))
 unfolding image verdictsIn hoursIn D.withStage hours
@@ -53,7 +53,7 @@ pub close-entered : (s : Session) (none : Verdict) (xs ys zs : List Verdict) (ro
     → ((p h : ℕ) → p < s .enrolled → h < 25 → getD room (p * 25 + h) 0 ≡ ceilingAt (s .units) (s .notices) (s .capacities) p h)
     → PassesTurn s 0 (replicate 128 none) room xs rest → PassesTurn s 1 xs rest ys last → PassesTurn s 2 ys last zs end → length zs ≡ 128
     → Entered s D.close (closedTurn s zs)
-unfolding told isRefusal D.reply D.rowsOf
+unfolding told isRefusal D.reply D.rowsOf D.gateRow D.callRows
 close-entered s none xs ys zs room rest last end w blank top p q r h = record {
   book = λ b sound o e.
       let n = standing-as s b e in

@@ -22,10 +22,11 @@ use Rattle.session.specs.Steps.{Met, As, Opens}
 use Rattle.session.specs.declared.Session.{Session}
 use Rattle.session.specs.declared.Turn.{Turn}
 use Rattle.session.specs.declared.Opened.{Opened}
-use Rattle.session.proofs.SoundLaws.{turn-sound}
+use Rattle.session.proofs.SoundLaws.{opening-sound, turn-sound}
 use Rattle.session.proofs.LaidLaws.{map-last}
 use Rattle.log.specs.Calls.{callOf, directionsOf, isCall, starts, sizeOf, firstCall, onward, callsIn, bytesIn, answerWord}
-use Rattle.daybook.specs.Replays.{RunsRecord, Replays, Running, wordOf}
+use Rattle.daybook.specs.declared.Reached.{Reached}
+use Rattle.daybook.specs.Replays.{RunsRecord, Reruns, ReplaysOn, Replays, Running, wordOf}
 use Rattle.daybook.proofs.RunLaws.{other, notice-typed}
 use Rattle.daybook.proofs.CallLaws.{met-as}
 
@@ -211,13 +212,11 @@ running-on b log old s at n words whole k size to word p r w less is same head e
 
 -- The end
 
-module _ (d : Date) (log : List ℕ) (N : ℕ) (old words : List ℕ) (o : Opened) (s : Session) (at n : ℕ)
-    (w : Running (D.opening d .book) log N old s at n words) (p : Opens d o) where
-  ended : callsIn (N - n) (drop at log) ≡ [] → bytesIn (N - n) (drop at log) ≡ 0 → Replays d log N old words (record { opened = o .answer; session = s; calls = n; read = at })
+module _ (b : Book) (log : List ℕ) (N : ℕ) (old words : List ℕ) (s : Session) (at n : ℕ) (w : Running b log N old s at n words) where
+  ended : callsIn (N - n) (drop at log) ≡ [] → bytesIn (N - n) (drop at log) ≡ 0 → Reruns b log N old words (record { session = s; calls = n; read = at })
   ended none-left no-bytes =
       let all : callsIn N log ≡ w .done = w .ahead ∙ (ap (λ (t : List D.Call). w .done ++ t) none-left ∙ append-nil (w .done)) in
       record {
-        opened = p .answer;
         calls = rw all (sym (w .many));
         read = sym (w .bytes ∙ omega (arith, no-bytes));
         session = rw all (w .session);
@@ -225,10 +224,15 @@ module _ (d : Date) (log : List ℕ) (N : ℕ) (old words : List ℕ) (o : Opene
       }
 
   -- there is room for no more
-  pub ended-full : N ≤ n → Replays d log N old words (record { opened = o .answer; session = s; calls = n; read = at })
+  pub ended-full : N ≤ n → Reruns b log N old words (record { session = s; calls = n; read = at })
   unfolding callsIn bytesIn
   ended-full h = let z : N - n ≡ 0 = omega arith in ended (rw z) (rw z)
 
   -- what follows is no call
-  pub ended-stopped : false ≡ starts (drop at log) → Replays d log N old words (record { opened = o .answer; session = s; calls = n; read = at })
+  pub ended-stopped : false ≡ starts (drop at log) → Reruns b log N old words (record { session = s; calls = n; read = at })
   ended-stopped h = ended (no-calls (N - n) (drop at log) h) (no-call-bytes (N - n) (drop at log) h)
+
+-- from the session that opening gave
+pub replays-opened : (d : Date) (log : List ℕ) (N : ℕ) (old words : List ℕ) (o : Opened) (r : Reached) → Opens d o → ReplaysOn (o .session) log N old words r
+    → Replays d log N old words (record { opened = o .answer; session = r .session; calls = r .calls; read = r .read })
+replays-opened d log N old words o r p w = record { opened = p .answer; run = w .book (D.opening d .book) (opening-sound d) (p .session) }

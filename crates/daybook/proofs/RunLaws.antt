@@ -4,19 +4,19 @@ use mathlib.Core.Path.{_≡_, refl, ap, ap₂, sym, _∙_}
 use mathlib.Core.List.{List, [], _∷_}
 use native.Mathlib.Omega.{arith}
 use lib.ListN.{length, length-map}
-use Rattle.rules.specs.Hours.{Date}
 use Rattle.rules.specs.Units.{Capacities}
 use Rattle.rules.specs.Book as B
 use Rattle.rules.specs.DayBook as D
 use Rattle.rules.specs.Sound.{WellTyped}
+use Rattle.rules.specs.Demands.{Begins}
+use Rattle.rules.specs.Demands as M
 use Rattle.answer.specs.declared.Response.{Response}
 use Rattle.session.specs.Image.{image, Sound, publishedIn}
-use Rattle.session.specs.Steps.{Met, As, Opens}
+use Rattle.session.specs.Steps.{Met, As}
 use Rattle.session.specs.declared.Session.{Session}
 use Rattle.session.specs.declared.Turn.{Turn}
-use Rattle.session.specs.declared.Opened.{Opened}
 use Rattle.session.proofs.SoundLaws.{opening-sound, turn-sound}
-use Rattle.daybook.specs.Runs.{Called, registers, notifies, avails, lodges, annuls, closes, clears, Ran, ended, then, Agrees}
+use Rattle.daybook.specs.Runs.{Called, registers, notifies, avails, lodges, annuls, closes, clears, Ran, ended, then, Started, opened, Agrees}
 
 -- a call that is no capacity notice says nothing of directions
 abbrev pub isNotice : D.Call → ℕ
@@ -72,6 +72,9 @@ agree b g e (then {c = c} {r = r} k ran) =
     let rest = agree (D.turn b c .book) (turn-sound b c (called-typed k) g) (m .session) ran in
     record { sound = rest .sound; session = rest .session; answers = ap₂ (λ (a : Response) (l : List Response). a ∷ l) (m .answer) (rest .answers) }
 
--- from opening
-pub day-book : (d : Date) (o : Opened) {t : Session} {cs : List D.Call} {rs : List Response} → Opens d o → Ran (o .session) cs t rs → Agrees (D.opening d .book) cs t rs
-day-book d o p ran = agree (D.opening d .book) (opening-sound d) (p .session) ran
+-- what lists of calls start from: a book that the rules' lists start from, sound, and the session stands for it
+pub started : {s : Session} {b : B.Book} → Started s b → Begins b × Sound b × (s ≡ image b)
+started (opened d o p) = (M.opened d, opening-sound d, p .session)
+
+pub day-book : {s t : Session} {b : B.Book} {cs : List D.Call} {rs : List Response} → Started s b → Ran s cs t rs → Agrees b cs t rs
+day-book {b = b} start ran = let k = started start in agree b (k .1) (k .2) ran

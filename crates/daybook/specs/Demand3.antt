@@ -5,26 +5,23 @@ use mathlib.Core.Path.{_≡_}
 use mathlib.Core.Logic.{_↔_}
 use mathlib.Core.Bool.{Bool, true, false, Bool·beq}
 use mathlib.Core.List.{List, map}
-use mathlib.Core.Option.{some}
+use mathlib.Core.Option.{some, none}
 use lib.Dec.{eqb}
 use lib.IntN.{ℤ, pos, _+ℤ_}
 use lib.Signed.{_≤ℤ_, _<ℤ_}
-use Rattle.rules.specs.Lists.{All, Some, keep, sumOf, hourly}
-use Rattle.rules.specs.Hours.{Date}
+use Rattle.rules.specs.Lists.{All, Some, Each, keep, sumOf, hourly}
 use Rattle.rules.specs.Units.{Registered, capacityOf, ceiling}
 use Rattle.rules.specs.Lodging.{Lodgement, isHidden}
 use Rattle.rules.specs.Book.{Book, hours, linesOf}
 use Rattle.rules.specs.Borders.{positive, toward, executionBalance}
 use Rattle.rules.specs.Queries as Q
 use Rattle.rules.specs.DayBook as D
-use Rattle.rules.specs.Demands.{ClosedIn, Passes, ChosenAt, Kept, executionsAt, acceptedExecuted}
-use Rattle.rules.specs.Clearing.{figuresAt}
-use Rattle.answer.specs.Told.{told, shown, hidden, limit}
+use Rattle.rules.specs.Demands.{Got, ClosedIn, Passes, ChosenAt, CutDown, Kept, executionsAt, acceptedExecuted}
+use Rattle.rules.specs.Clearing.{figuresAt, daySteps}
+use Rattle.answer.specs.Told.{told, shown, accepted, hidden, limit, steps}
 use Rattle.answer.specs.declared.Response.{Response}
-use Rattle.session.specs.Steps.{Opens}
 use Rattle.session.specs.declared.Session.{Session}
-use Rattle.session.specs.declared.Opened.{Opened}
-use Rattle.daybook.specs.Runs.{Ran}
+use Rattle.daybook.specs.Runs.{Ran, Started}
 use Rattle.queries.specs.Replies.{Answered}
 
 -- What the session's queries reply: a reply for each query, of which that query's own contract holds. (A number that no
@@ -89,11 +86,30 @@ module _ (b : Book) (response : Q.Query → Response) where
     pub record Holds : Type 0 where
       -- "Matched sales equal matched purchases"
       pub balanced : sumOf matchedOf (keep (λ r. Bool·beq (r .unit .purchase) false) (b .units)) ≡ sumOf matchedOf (keep (λ r. Bool·beq (r .unit .purchase) true) (b .units))
+      -- no execution gains by the cut, and no unit executes more than was accepted
+      pub executions : Each CutDown (executionsAt b h) (figuresAt b h .executions)
+      pub gains : All (λ r. executedOf r ≤ acceptedExecuted b (r .unit .number) h) (b .units)
       -- "and no unit's energy passes its ceiling": "matched plus executed, after cuts"
       pub ceilings : All (λ r. matchedOf r + executedOf r ≤ ceiling (linesOf b) r h) (b .units)
       -- the borders, for each direction given energies es by the last notice
       pub borders : (border : ℕ) (export : Bool) (es : List ℕ) → 1 ≤ border → border ≤ 4 → capacityOf (b .capacities) border export ≡ some es
           → Carried border export (hourly es h)
+      -- "Absent means no maximum": in a direction without capacity none is cut
+      pub uncut : (border : ℕ) (export : Bool) → capacityOf (b .capacities) border export ≡ none → Some (IsCut border export) (b .units) → ⊥
+
+-- "If closing was accepted"
+abbrev pub ClosingAccepted : List D.Call → List Response → Type 0
+ClosingAccepted cs rs = Got D.close accepted cs rs
+
+-- "If clearing was accepted": it "answers the step count"
+abbrev pub ClearingAccepted : List D.Call → List Response → Type 0
+ClearingAccepted cs rs = (n : ℕ) × Got D.clear (steps n) cs rs
+
+-- The stage of the book at a list's end, by the list's answers, as the rules' `Staged` says it of the book's.
+pub record Staged (b : Book) (cs : List D.Call) (rs : List Response) : Type 0 where
+  pub closed : ClosingAccepted cs rs ↔ (b .closed ≡ true)
+  pub cleared : ClearingAccepted cs rs ↔ (b .cleared ≡ true)
+  pub counted : (n : ℕ) → Got D.clear (steps n) cs rs → n ≡ daySteps b
 
 -- What holds after some calls from a book; `D.after start cs` is the book after them.
 pub record Demand3 (start : Book) (cs : List D.Call) (rs : List Response) (response : Q.Query → Response) : Type 0 where
@@ -101,16 +117,18 @@ pub record Demand3 (start : Book) (cs : List D.Call) (rs : List Response) (respo
   pub answers : rs ≡ map told (D.answers start cs)
   -- "and each verdict and figure at the list's end"
   pub figures : (q : Q.Query) → response q ≡ shown (Q.query (D.after start cs) q)
+  -- the book is closed exactly where an answer says that closing was accepted, cleared exactly where one says it of clearing
+  pub stage : Staged (D.after start cs) cs rs
   -- "Demand 3's ceilings and published capacities [..] are by the book's notices at closing; the lodgements it has then are
   -- those standing at closing": the book at the list's end still holds what the call that closed it found
-  pub found : D.after start cs .closed ≡ true → ClosedIn start cs
+  pub found : ClosingAccepted cs rs → ClosedIn start cs
   -- "If closing was accepted"
-  pub closing : D.after start cs .closed ≡ true → All (Judged (D.after start cs) response) (D.after start cs .standing)
+  pub closing : ClosingAccepted cs rs → All (Judged (D.after start cs) response) (D.after start cs .standing)
   -- "If clearing was accepted too, all that follows holds in each hour."
-  pub clearing : D.after start cs .cleared ≡ true → (h : ℕ) → 1 ≤ h → h ≤ hours (D.after start cs) → Holds (D.after start cs) response h
+  pub clearing : ClearingAccepted cs rs → (h : ℕ) → 1 ≤ h → h ≤ hours (D.after start cs) → Holds (D.after start cs) response h
 
--- Demand 3: for every date and list of calls, from the session that opening gave, each call on the session the last one left,
--- and whatever the queries of the session at the list's end response
+-- Demand 3: for every session that lists of calls start from and every list, each call on the session the last one left, and
+-- whatever the queries of the session at the list's end answer
 abbrev pub Demanded : Type 0
-Demanded = (d : Date) (o : Opened) (cs : List D.Call) (t : Session) (rs : List Response) (response : Q.Query → Response)
-    → Opens d o → Ran (o .session) cs t rs → Asked t response → Demand3 (D.opening d .book) cs rs response
+Demanded = (s : Session) (b : Book) (cs : List D.Call) (t : Session) (rs : List Response) (response : Q.Query → Response)
+    → Started s b → Ran s cs t rs → Asked t response → Demand3 b cs rs response

@@ -3,13 +3,15 @@ use mathlib.Core.Path.{_≡_}
 use mathlib.Core.List.{List, [], _∷_, map}
 use Prim.Native.Nat.{ℕ}
 use lib.ListN.{length}
+use Rattle.rules.specs.Hours.{Date}
 use Rattle.rules.specs.Book as B
 use Rattle.rules.specs.DayBook as D
 use Rattle.answer.specs.Told.{told}
 use Rattle.answer.specs.declared.Response.{Response}
 use Rattle.session.specs.Image.{image, Sound, unitIn, keyIn}
-use Rattle.session.specs.Steps.{Met}
+use Rattle.session.specs.Steps.{Met, Opens}
 use Rattle.session.specs.declared.Session.{Session}
+use Rattle.session.specs.declared.Opened.{Opened}
 use Rattle.session.specs.declared.Turn.{Turn}
 use Rattle.session.specs.declared.Unit.{Unit}
 use Rattle.session.specs.declared.Key.{Key}
@@ -34,6 +36,10 @@ pub data Ran : Session → List D.Call → Session → List Response → Type 0 
   ended : {s : Session} → Ran s [] s []
   then : {s t : Session} {c : D.Call} {r : Turn} {cs : List D.Call} {rs : List Response}
       → Called s c r → Ran (r .session) cs t rs → Ran s (c ∷ cs) t (r .answer ∷ rs)
+
+-- a session that lists of calls start from, "a fresh session", and the book that it stands for
+pub data Started : Session → B.Book → Type 0 where
+  opened : (d : Date) (o : Opened) → Opens d o → Started (o .session) (D.opening d .book)
 
 -- "every answer [..] is that of document 01's day book", and the session at the list's end stands for the book
 pub record Agrees (b : B.Book) (cs : List D.Call) (t : Session) (rs : List Response) : Type 0 where

@@ -1,5 +1,6 @@
 // Demand 3: specs/Demand3.antt states it over every list of calls, proofs/DemandLaws.antt proves it. `replay` runs a log of
-// calls: every answer and the session at its end are the day book's, so that a recovery and a rehearsal can run on it.
+// calls, `replay_on` from a session: every answer and the session at its end are the day book's, so that a recovery and a
+// rehearsal can run on it.
 ghost use mathlib.Core.Path.{_≡_};
 ghost use mathlib.Core.Bool.{true};
 ghost use Prim.Native.Nat.{_+_, _*_, _≤_};
@@ -7,7 +8,7 @@ ghost use lib.ListN.{length, drop, getD};
 ghost use Rattle.calendar.specs.View.{dateIn};
 ghost use Rattle.session.specs.Steps.{Met};
 ghost use Rattle.log.specs.Calls.{callOf, starts, sizeOf};
-ghost use Rattle.daybook.specs.Replays.{RunsRecord, Replays};
+ghost use Rattle.daybook.specs.Replays.{RunsRecord, ReplaysOn, Replays};
 use answer::Response;
 use bits::byte_at;
 use calendar::Date;
@@ -16,8 +17,15 @@ use notices::Availability;
 use session::Session;
 use session::Turn;
 
-// A log run: the date's answer, the session at its end, how many calls were run and the bytes of their records. Fewer bytes
-// than the log has: there was room for no more answers, or what follows is no call.
+// A log run: the session at its end, how many calls were run and the bytes of their records. Fewer bytes than the log has: there
+// was room for no more answers, or what follows is no call.
+pub struct Reached {
+    pub session: Session,
+    pub calls: usize,
+    pub read: usize,
+}
+
+// The same from a fresh session, with the date's answer.
 pub struct Replayed {
     pub opened: Response,
     pub session: Session,
@@ -131,13 +139,11 @@ fn record_at(log: &[u8], at: usize) -> Head
     Head { whole, kind, size }
 }
 
-// Runs the calls of a log from a fresh session of the date, one after the other, and writes down each answer.
-pub fn replay(date: Date, log: &[u8], answers: &mut [u64]) -> Replayed
-    ensures { λ r. ⌜ Replays (dateIn date) (now (log .entry)) (length (now (answers .entry))) (now (answers .entry)) (now (answers .exit)) r ⌝ }
+// Runs the calls of a log from a session, one after the other, and writes down each answer.
+pub fn replay_on(start: Session, log: &[u8], answers: &mut [u64]) -> Reached
+    ensures { λ r. ⌜ ReplaysOn start (now (log .entry)) (length (now (answers .entry))) (now (answers .entry)) (now (answers .exit)) r ⌝ }
 {
-    let opening = session::open(date);
-    let opened = opening.answer;
-    let mut s = opening.session;
+    let mut s = start;
     let mut at: usize = 0;
     let mut calls: usize = 0;
     while calls < answers.len() {
@@ -156,10 +162,26 @@ pub fn replay(date: Date, log: &[u8], answers: &mut [u64]) -> Replayed
         calls += 1;
         at = to;
     }
-    Replayed {
-        opened,
+    Reached {
         session: s,
         calls,
         read: at,
+    }
+}
+
+// Runs the calls of a log from a fresh session of the date.
+pub fn replay(date: Date, log: &[u8], answers: &mut [u64]) -> Replayed
+    ensures { λ r. ⌜ Replays (dateIn date) (now (log .entry)) (length (now (answers .entry))) (now (answers .entry)) (now (answers .exit)) r ⌝ }
+{
+    let opening = session::open(date);
+    let opened = opening.answer;
+    let start = opening.session;
+    let run = replay_on(start, log, answers);
+    let session = run.session;
+    Replayed {
+        opened,
+        session,
+        calls: run.calls,
+        read: run.read,
     }
 }

@@ -26,14 +26,14 @@ module _ (s : Session) (bytes : List ℕ) where
   module _ (m : Fields) (said : fieldsIn m ≡ messageOf bytes) where
     -- a message of the right form is judged by its fields
     pub lodge-judged : {top : ℕ} → formOf bytes .top ≡ top → s .closed ≡ false → wrongForm bytes ≡ false → (j : Judged) → JudgesFields s top (fieldsIn m) j → Judges s (D.lodge bytes) j
-    unfolding D.rowsOf D.lodgeRows D.changeRow fieldRows lastRows wrongRange
+    unfolding D.rowsOf D.gateRow D.callRows D.lodgeRows D.changeRow fieldRows lastRows wrongRange
     lodge-judged most h f j l b e =
         l b e
         ∙ (ap₂ (λ t n. judgement (firstRow (fieldRows b t n))) (sym most) said
         ∙ sym (ap judgement (past (b .closed) (wrongForm bytes) (fieldRows b (formOf bytes .top) (messageOf bytes)) (closed-as s b e ∙ h) f)))
 
     pub lodge-entered : (r : Turn) → EnteredFields s m r → Entered s (D.lodge bytes) r
-    unfolding D.rowsOf D.lodgeRows D.applied D.reply
+    unfolding D.rowsOf D.gateRow D.callRows D.lodgeRows D.applied D.reply
     lodge-entered r n = record {
       book = λ b sound o e. rw (← said) (n .book b sound (open-row b _ o) e);
       fine = n .fine;

@@ -57,26 +57,26 @@ module _ (s : Session) (n count : ℕ) (es : List ℕ) where
   call = D.available n (counted count es)
 
   pub available-2 : s .closed ≡ true → Judges s call (No 2 0)
-  unfolding D.rowsOf D.changeRow row firstRow
+  unfolding D.rowsOf D.gateRow D.callRows D.changeRow row firstRow
   available-2 h b e = rw (closed-as s b e, h)
 
   pub available-4 : s .closed ≡ false → eqb count (s .hours) ≡ false → Judges s call (No 4 0)
-  unfolding D.rowsOf D.changeRow row firstRow
+  unfolding D.rowsOf D.gateRow D.callRows D.changeRow row firstRow
   available-4 h k b e = rw (length-counted count es, hours-as s b e, k, closed-as s b e, h)
 
   pub available-5 : s .closed ≡ false → eqb count (s .hours) ≡ true → (U.badNumber n || U.badEnergies (counted count es)) ≡ true → Judges s call (No 5 0)
-  unfolding D.rowsOf D.changeRow row firstRow
+  unfolding D.rowsOf D.gateRow D.callRows D.changeRow row firstRow
   available-5 h k r b e = rw (length-counted count es, hours-as s b e, k, r, closed-as s b e, h)
 
   -- p is the place of the unit
   module _ (p : ℕ) (at : p ≡ placeOf (numberIs n) (take (s .enrolled) (s .units))) where
     pub available-6 : s .closed ≡ false → eqb count (s .hours) ≡ true → U.badNumber n ≡ false → U.badEnergies (counted count es) ≡ false → s .enrolled ≤ p → Judges s call (No 6 0)
-    unfolding D.rowsOf D.changeRow D.unregistered row firstRow
+    unfolding D.rowsOf D.gateRow D.callRows D.changeRow D.unregistered row firstRow
     available-6 h k r q t b e =
         rw (length-counted count es, hours-as s b e, k, r, q, registered-at s b e n p at, le-ltb p (s .enrolled) t, closed-as s b e, h)
 
     pub available-0 : s .closed ≡ false → eqb count (s .hours) ≡ true → U.badNumber n ≡ false → U.badEnergies (counted count es) ≡ false → p < s .enrolled → Judges s call Clear
-    unfolding D.rowsOf D.changeRow D.unregistered row firstRow
+    unfolding D.rowsOf D.gateRow D.callRows D.changeRow D.unregistered row firstRow
     available-0 h k r q t b e =
         rw (length-counted count es, hours-as s b e, k, r, q, registered-at s b e n p at, lt-ltb p (s .enrolled) t, closed-as s b e, h)
 
@@ -122,7 +122,7 @@ module _ (n : ℕ) (es : List ℕ) where
 
 -- a count that no row refuses is the day's
 pub count-of-hours : (b : B.Book) (n count : ℕ) (es : List ℕ) → firstRow (D.rowsOf b (D.available n (counted count es))) ≡ nothing → count ≤ 25
-unfolding D.rowsOf row B.hours
+unfolding D.rowsOf D.gateRow D.callRows row B.hours
 count-of-hours b n count es o =
     let k = not-false (eqb (length (counted count es)) (B.hours b)) (all-head (all-tail (accepted-rows _ o))) in
     omega (arith, eqb-true (length (counted count es)) (B.hours b) k, length-counted count es, hours-most (b .date))
@@ -130,7 +130,7 @@ count-of-hours b n count es o =
 -- a notice at a unit's place
 available-entered : (s : Session) (n count : ℕ) (es : List ℕ) (d : Unit) (p : ℕ) → p ≡ placeOf (numberIs n) (take (s .enrolled) (s .units)) → p < s .enrolled
     → Entered s (D.available n (counted count es)) (registryTurn s (notedAt s p (getD (s .units) p d) count es))
-unfolding told isRefusal D.reply D.rowsOf
+unfolding told isRefusal D.reply D.rowsOf D.gateRow D.callRows
 available-entered s n count es d p at h = record {
   book = λ b sound o e.
       let k = kept-as count es (count-of-hours b n count es o) in

@@ -19,11 +19,11 @@ use Rattle.pending.specs.declared.Pending.{Pending}
 
 module _ (s : Session) (bytes : List ℕ) where
   pub lodge-2 : s .closed ≡ true → Judges s (D.lodge bytes) (No 2 0)
-  unfolding D.rowsOf D.lodgeRows D.changeRow row firstRow
+  unfolding D.rowsOf D.gateRow D.callRows D.lodgeRows D.changeRow row firstRow
   lodge-2 h b e = rw (closed-as s b e, h)
 
   pub lodge-3 : s .closed ≡ false → wrongForm bytes ≡ true → Judges s (D.lodge bytes) (No 3 0)
-  unfolding D.rowsOf D.lodgeRows D.changeRow row firstRow
+  unfolding D.rowsOf D.gateRow D.callRows D.lodgeRows D.changeRow row firstRow
   lodge-3 h f b e = rw (f, closed-as s b e, h)
 
   -- refused: nothing further is read

@@ -58,28 +58,28 @@ module _ (s : Session) (u : Unit) where
   second = any (besideUnit u) (take (s .enrolled) (s .units))
 
   pub register-2 : s .closed ≡ true → Judges s call (No 2 0)
-  unfolding D.rowsOf D.changeRow row firstRow
+  unfolding D.rowsOf D.gateRow D.callRows D.changeRow row firstRow
   register-2 h b e = rw (closed-as s b e, h)
 
   pub register-5 : s .closed ≡ false → bad ≡ true → Judges s call (No 5 0)
-  unfolding D.rowsOf D.changeRow row firstRow
+  unfolding D.rowsOf D.gateRow D.callRows D.changeRow row firstRow
   register-5 h k b e = rw (k, closed-as s b e, h)
 
   pub register-7 : s .closed ≡ false → bad ≡ false → taken ≡ true → Judges s call (No 7 0)
-  unfolding D.rowsOf D.changeRow row firstRow
+  unfolding D.rowsOf D.gateRow D.callRows D.changeRow row firstRow
   register-7 h k t b e = rw (k, registered-as s b e (u .number), t, closed-as s b e, h)
 
   pub register-8 : s .closed ≡ false → bad ≡ false → taken ≡ false → second ≡ true → Judges s call (No 8 0)
-  unfolding D.rowsOf D.changeRow row firstRow
+  unfolding D.rowsOf D.gateRow D.callRows D.changeRow row firstRow
   register-8 h k t g b e = rw (k, registered-as s b e (u .number), t, second-as s b e u, g, closed-as s b e, h)
 
   pub register-9 : s .closed ≡ false → bad ≡ false → taken ≡ false → second ≡ false → 64 ≤ s .enrolled → Judges s call (No 9 0)
-  unfolding D.rowsOf D.changeRow D.unitsFull row firstRow
+  unfolding D.rowsOf D.gateRow D.callRows D.changeRow D.unitsFull row firstRow
   register-9 h k t g f b e =
       rw (k, registered-as s b e (u .number), t, second-as s b e u, g, enrolled-as s b e, le-leb 64 (s .enrolled) f, closed-as s b e, h)
 
   pub register-0 : s .closed ≡ false → bad ≡ false → taken ≡ false → second ≡ false → s .enrolled < 64 → Judges s call Clear
-  unfolding D.rowsOf D.changeRow D.unitsFull row firstRow
+  unfolding D.rowsOf D.gateRow D.callRows D.changeRow D.unitsFull row firstRow
   register-0 h k t g f b e =
       rw (k, registered-as s b e (u .number), t, second-as s b e u, g, enrolled-as s b e, lt-leb 64 (s .enrolled) f, closed-as s b e, h)
 
@@ -105,7 +105,7 @@ enrolled-image b u h k c =
     )
 
 pub unit-entered : (s : Session) (u : Unit) → s .enrolled < 64 → Entered s (D.register (unitIn u)) (record { session = withUnit s u; answer = accepted })
-unfolding told isRefusal D.reply D.rowsOf
+unfolding told isRefusal D.reply D.rowsOf D.gateRow D.callRows
 unit-entered s u h = record {
   book = λ b sound o e.
       let n = enrolled-as s b e in

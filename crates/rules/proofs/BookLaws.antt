@@ -9,19 +9,19 @@ use native.Mathlib.Omega.{arith}
 use lib.Dec.{leb, ltb, eqb}
 use lib.ListN.{length, length-append, length-map}
 use borrow.Author.Tests.{leb-false, ltb-true, ltb-false, eqb-true, eqb-false, eq-eqb, lt-ltb, not-false, not-true}
-use Rattle.rules.specs.Lists.{All, none, more, empty, keep, any, first, from, hourly}
+use Rattle.rules.specs.Lists.{All, none, more, empty, keep, any, first, sumOf, from, hourly}
 use Rattle.rules.specs.Refusals.{Row, row, firstRow}
 use Rattle.rules.specs.Hours.{Hours·all, Date, isDate, dateRow}
 use Rattle.rules.specs.Units.{TradingUnit, Registered, Published, Capacities, maxEnergy, domestic, badUnit, badNumber, badEnergies, badPublished, notOfHours, sameBorderSide, hasNumber, isRegistered, unitOf, nobody}
 use Rattle.rules.specs.Message.{Fields, names, messageOf, wrongForm, badMap, badFields, wrongRange}
 use Rattle.rules.specs.Lodging.{Key, Lodgement, keyOf, energyAt, sameKey, stands, without, namesBeyond, badKey}
-use Rattle.rules.specs.Book.{Book, hours, limitsOf, fresh}
+use Rattle.rules.specs.Book.{Book, hours, limitsOf, fresh, Frozen, frozen}
 use Rattle.rules.specs.Judging.{isAccepted, verdictAmong}
 use Rattle.rules.specs.Closing.{judge, judgements, acceptedAt}
-use Rattle.rules.specs.Clearing.{hourOfDay, clearHour, figuresAt}
-use Rattle.rules.specs.DayBook.{Call, register, capacity, available, lodge, annul, close, clear, changeRow, unregistered, badHolder, isSecond, unitsFull, full, lodgeRows, rowsOf, withUnits, withCapacities, withStanding, withStage, notify, entry, applied, turned, turn, after, openedWith, opening}
+use Rattle.rules.specs.Clearing.{hourOfDay, clearHour, figuresAt, daySteps}
+use Rattle.rules.specs.DayBook.{Call, register, capacity, available, lodge, annul, close, clear, changeRow, unregistered, badHolder, isSecond, unitsFull, full, gateRow, lodgeRows, callRows, rowsOf, withUnits, withCapacities, withStanding, withStage, notify, entry, applied, turned, turn, after, openedWith, opening, Answer, done, steps, reply, answers}
 use Rattle.rules.specs.Sound.{OfDay, absent, energies, UnitsSound, HasUnit, Lodged, StandingSound, Sound, WellTyped}
-use Rattle.rules.specs.Demands.{ClosedIn}
+use Rattle.rules.specs.Demands.{Begins, opened, Got, now, next, Staged, ClosedIn}
 use Rattle.rules.proofs.BoolLaws.{by-bool, not-both, of-not, neither, both, of-both, beq-true, of-beq}
 use Rattle.rules.proofs.ListLaws.{keep-passes, length-keep, length-drop-one, any-longer, first-longer, all-map, all-head, all-tail, all-keep, all-mapped, all-replicate, all-from, any-false, hourly-beyond}
 use Rattle.rules.proofs.ElementLaws.{all-last, pairwise-last, all-both, pairwise-keep, pairwise-map}
@@ -129,9 +129,9 @@ pub record Admitted (b : Book) (bytes : List ℕ) : Type 0 where
 
 -- a message that is accepted has it
 pub admitted : (b : Book) (bytes : List ℕ) → firstRow (rowsOf b (lodge bytes)) ≡ nothing → Admitted b bytes
-unfolding rowsOf lodgeRows row
+unfolding rowsOf callRows lodgeRows row
 admitted b bytes h =
-    let r2 = all-tail (accepted-rows (lodgeRows b bytes) h) in
+    let r2 = all-tail (accepted-rows (rowsOf b (lodge bytes)) h) in
     let r3 = all-tail r2 in
     let r4 = all-tail r3 in
     let r5 = all-tail r4 in
@@ -251,7 +251,7 @@ holders-sound H f s =
 
 -- an accepted call leaves a sound book
 applied-sound : (b : Book) (c : Call) → firstRow (rowsOf b c) ≡ nothing → Sound b → Sound (applied b c)
-unfolding applied rowsOf row changeRow unregistered isSecond unitsFull withUnits withCapacities withStanding withStage hours entry keyOf
+unfolding applied rowsOf gateRow callRows row changeRow unregistered isSecond unitsFull withUnits withCapacities withStanding withStage hours entry keyOf
 applied-sound b (register u) h s =
     let r5 = all-tail (accepted-rows (rowsOf b (register u)) h) in
     let r7 = all-tail r5 in
@@ -361,9 +361,24 @@ pub opening-directions : (d : Date) → length (opening d .book .capacities) ≡
 unfolding fresh
 opening-directions d = rw (opening-fresh d .2)
 
+-- and one that is not cleared
+pub opening-uncleared : (d : Date) → opening d .book .cleared ≡ false
+unfolding fresh
+opening-uncleared d = rw (opening-fresh d .2)
+
+-- so is every book that lists of calls start from
+pub begins-sound : {b : Book} → Begins b → Sound b
+begins-sound (opened d) = opening-sound d
+
+pub begins-open : {b : Book} → Begins b → (b .closed ≡ false) × (b .cleared ≡ false)
+begins-open (opened d) = (opening-open d, opening-uncleared d)
+
+pub begins-directions : {b : Book} → Begins b → length (b .capacities) ≡ 8
+begins-directions (opened d) = opening-directions d
+
 -- the book is sound after every list of calls
-pub sound-after : (d : Date) (cs : List Call) → Sound (after (opening d .book) cs)
-sound-after d cs = calls-sound (opening d .book) cs (opening-sound d)
+pub sound-after : {b : Book} → Begins b → (cs : List Call) → Sound (after b cs)
+sound-after {b} g cs = calls-sound b cs (begins-sound g)
 
 -- Eight directions
 
@@ -394,73 +409,119 @@ calls-directions b none h = h
 calls-directions b (more {x = c} w t) h = calls-directions (turn b c .book) t (turn-directions b c w h)
 
 -- where each capacity notice has its 8 directions, so has the book's
-pub directions-after : (d : Date) {cs : List Call} → All WellTyped cs → length (after (opening d .book) cs .capacities) ≡ 8
-directions-after d w = calls-directions (opening d .book) w (opening-directions d)
+pub directions-after : {b : Book} {cs : List Call} → Begins b → All WellTyped cs → length (after b cs .capacities) ≡ 8
+directions-after {b} g w = calls-directions b w (begins-directions g)
+
+-- What closing froze
+
+-- a book that has it, open
+abbrev thawed : Frozen → Book
+thawed f = record { date = f .date; units = f .units; capacities = f .capacities; standing = f .standing; last = f .last; closed = false; cleared = false }
+
+-- what a book shares with the open one is the same of all books that have what it froze
+of-frozen : {A : Type 0} (f : Book → A) → ((b : Book) → f (thawed (frozen b)) ≡ f b) → (a b : Book) → frozen a ≡ frozen b → f a ≡ f b
+of-frozen f same a b e = sym (same a) ∙ (ap (λ (z : Frozen). f (thawed z)) e ∙ same b)
+
+-- verdicts follow from it alone
+judgements-thawed : (b : Book) → judgements (thawed (frozen b)) ≡ judgements b
+unfolding judgements judge hours limitsOf frozen
+judgements-thawed b = refl
+
+pub frozen-judgements : (a b : Book) → frozen a ≡ frozen b → judgements a ≡ judgements b
+frozen-judgements = of-frozen judgements judgements-thawed
+
+-- so do figures
+figures-thawed : (h : ℕ) (b : Book) → figuresAt (thawed (frozen b)) h ≡ figuresAt b h
+unfolding figuresAt acceptedAt hourOfDay frozen
+figures-thawed h b = ap (λ js. clearHour (hourOfDay b (keep (λ l. isAccepted (verdictAmong js (l .number))) (b .standing)) h)) (judgements-thawed b)
+
+pub frozen-figures : (a b : Book) (h : ℕ) → frozen a ≡ frozen b → figuresAt a h ≡ figuresAt b h
+frozen-figures a b h e = of-frozen (λ k. figuresAt k h) (figures-thawed h) a b e
+
+-- and the count of steps
+steps-thawed : (b : Book) → daySteps (thawed (frozen b)) ≡ daySteps b
+unfolding daySteps acceptedAt hourOfDay hours frozen
+steps-thawed b =
+    ap (λ js. let accepted = keep (λ l. isAccepted (verdictAmong js (l .number))) (b .standing) in sumOf (λ h. clearHour (hourOfDay b accepted h) .steps) (from 1 (hours b))) (judgements-thawed b)
+
+pub frozen-steps : (a b : Book) → frozen a ≡ frozen b → daySteps a ≡ daySteps b
+frozen-steps = of-frozen daySteps steps-thawed
 
 -- After closing
 
--- a closed book, written by its stage
-closed-stage : (b k : Book) → b .closed ≡ true → k ≡ b → k ≡ withStage b true (k .cleared)
-unfolding withStage
-closed-stage b k h e = e ∙ ap (λ x. withStage b x (b .cleared)) h ∙ ap (λ (j : Book). withStage b true (j .cleared)) (sym e)
-
 -- a change after closing is refused
-change-refused : (b : Book) (c : Call) (rows : List Row) → b .closed ≡ true → rowsOf b c ≡ changeRow b ∷ rows → turn b c .book ≡ b
-unfolding turn turned changeRow row firstRow
-change-refused b c rows h e = rw (e, h)
+change-refused : (b : Book) (c : Call) → b .closed ≡ true → gateRow b c ≡ changeRow b → turn b c .book ≡ b
+unfolding turn turned rowsOf changeRow row firstRow
+change-refused b c h e = rw (e, h)
 
--- clearing it is said in it
-clear-closed : (b : Book) → b .closed ≡ true → turn b clear .book ≡ withStage b true (turn b clear .book .cleared)
-unfolding turn turned applied withStage
-clear-closed b h = go (firstRow (rowsOf b clear))
+-- clearing changes nothing of what is frozen
+clear-frozen : (b : Book) → frozen (turn b clear .book) ≡ frozen b
+unfolding turn turned applied withStage frozen
+clear-frozen b = go (firstRow (rowsOf b clear))
   where
-    go : (o : Option Row) → turned b clear o .book ≡ withStage b true (turned b clear o .book .cleared)
-    go nothing = ap (λ x. withStage b x true) h
-    go (some r) = closed-stage b b h refl
+    go : (o : Option Row) → frozen (turned b clear o .book) ≡ frozen b
+    go nothing = refl
+    go (some r) = refl
 
--- a call on a closed book changes at most whether it is cleared
-turn-closed : (b : Book) (c : Call) → b .closed ≡ true → turn b c .book ≡ withStage b true (turn b c .book .cleared)
-unfolding rowsOf lodgeRows
-turn-closed b (register u) h = closed-stage b _ h (change-refused b (register u) _ h refl)
-turn-closed b (capacity cs) h = closed-stage b _ h (change-refused b (capacity cs) _ h refl)
-turn-closed b (available n es) h = closed-stage b _ h (change-refused b (available n es) _ h refl)
-turn-closed b (lodge bytes) h = closed-stage b _ h (change-refused b (lodge bytes) _ h refl)
-turn-closed b (annul k) h = closed-stage b _ h (change-refused b (annul k) _ h refl)
-turn-closed b close h = closed-stage b _ h (change-refused b close _ h refl)
-turn-closed b clear h = clear-closed b h
+-- nor does any call on a closed book
+turn-closed : (b : Book) (c : Call) → b .closed ≡ true → frozen (turn b c .book) ≡ frozen b
+unfolding gateRow
+turn-closed b (register u) h = ap frozen (change-refused b (register u) h refl)
+turn-closed b (capacity cs) h = ap frozen (change-refused b (capacity cs) h refl)
+turn-closed b (available n es) h = ap frozen (change-refused b (available n es) h refl)
+turn-closed b (lodge bytes) h = ap frozen (change-refused b (lodge bytes) h refl)
+turn-closed b (annul k) h = ap frozen (change-refused b (annul k) h refl)
+turn-closed b close h = ap frozen (change-refused b close h refl)
+turn-closed b clear h = clear-frozen b
 
--- the book is as it was at closing, but for whether it is cleared
-pub after-closed : (b : Book) (cs : List Call) → b .closed ≡ true → after b cs ≡ withStage b true (after b cs .cleared)
-unfolding after withStage
-after-closed b [] h = closed-stage b b h refl
-after-closed b (c ∷ cs) h =
-    let e = turn-closed b c h in
-    after-closed (turn b c .book) cs (ap (λ (k : Book). k .closed) e) ∙ ap (λ (k : Book). withStage k true (after (turn b c .book) cs .cleared)) e
+-- no call opens a book again, or takes its figures back
+applied-stays : (b : Book) (c : Call) → (b .closed ≡ true → applied b c .closed ≡ true) × (b .cleared ≡ true → applied b c .cleared ≡ true)
+unfolding applied withUnits withCapacities withStanding withStage
+applied-stays b (register u) = (λ h. h, λ h. h)
+applied-stays b (capacity cs) = (λ h. h, λ h. h)
+applied-stays b (available n es) = (λ h. h, λ h. h)
+applied-stays b (lodge bytes) = (λ h. h, λ h. h)
+applied-stays b (annul k) = (λ h. h, λ h. h)
+applied-stays b close = (λ h. refl, λ h. h)
+applied-stays b clear = (λ h. h, λ h. refl)
 
-module _ (b : Book) (x y : Bool) where
-  -- the stage of a book changes nothing that is judged
-  pub stage-judgements : judgements (withStage b x y) ≡ judgements b
-  unfolding judgements judge withStage hours limitsOf
-  stage-judgements = refl
+turn-stays : (b : Book) (c : Call) → (b .closed ≡ true → turn b c .book .closed ≡ true) × (b .cleared ≡ true → turn b c .book .cleared ≡ true)
+unfolding turn turned
+turn-stays b c = go (firstRow (rowsOf b c))
+  where
+    go : (o : Option Row) → (b .closed ≡ true → turned b c o .book .closed ≡ true) × (b .cleared ≡ true → turned b c o .book .cleared ≡ true)
+    go nothing = applied-stays b c
+    go (some r) = (λ h. h, λ h. h)
 
-  -- and changes no figure
-  stage-figures : (h : ℕ) → figuresAt (withStage b x y) h ≡ figuresAt b h
-  unfolding figuresAt acceptedAt hourOfDay withStage
-  stage-figures h = ap (λ js. clearHour (hourOfDay b (keep (λ l. isAccepted (verdictAmong js (l .number))) (b .standing)) h)) stage-judgements
+pub stays-closed : (b : Book) (cs : List Call) → b .closed ≡ true → after b cs .closed ≡ true
+unfolding after
+stays-closed b [] h = h
+stays-closed b (c ∷ cs) h = stays-closed (turn b c .book) cs (turn-stays b c .0 h)
 
--- every verdict is that of the book at closing, whatever is called afterwards
+pub stays-cleared : (b : Book) (cs : List Call) → b .cleared ≡ true → after b cs .cleared ≡ true
+unfolding after
+stays-cleared b [] h = h
+stays-cleared b (c ∷ cs) h = stays-cleared (turn b c .book) cs (turn-stays b c .1 h)
+
+-- what closing froze is the same after every list of calls
+pub after-closed : (b : Book) (cs : List Call) → b .closed ≡ true → frozen (after b cs) ≡ frozen b
+unfolding after
+after-closed b [] h = refl
+after-closed b (c ∷ cs) h = after-closed (turn b c .book) cs (turn-stays b c .0 h) ∙ turn-closed b c h
+
+-- so every verdict is that of the book at closing, whatever is called afterwards
 pub verdicts-kept : (b : Book) (cs : List Call) → b .closed ≡ true → judgements (after b cs) ≡ judgements b
-verdicts-kept b cs h = ap judgements (after-closed b cs h) ∙ stage-judgements b true (after b cs .cleared)
+verdicts-kept b cs h = frozen-judgements (after b cs) b (after-closed b cs h)
 
 -- and so is every figure
 pub figures-kept : (b : Book) (cs : List Call) (h : ℕ) → b .closed ≡ true → figuresAt (after b cs) h ≡ figuresAt b h
-figures-kept b cs h e = ap (λ (k : Book). figuresAt k h) (after-closed b cs e) ∙ stage-figures b true (after b cs .cleared) h
+figures-kept b cs h e = frozen-figures (after b cs) b h (after-closed b cs e)
 
 -- The call that closed it
 
 -- closing an open book is accepted
 close-open : (b : Book) → b .closed ≡ false → turn b close .book ≡ withStage b true (b .cleared)
-unfolding turn turned rowsOf changeRow row firstRow applied
+unfolding turn turned rowsOf gateRow callRows changeRow row firstRow applied
 close-open b h = rw h
 
 -- no other call closes one
@@ -485,23 +546,106 @@ turn-closes b c = go (firstRow (rowsOf b c))
 
 -- the first call closes the book
 closed-here : (b : Book) (c : Call) (cs : List Call) → b .closed ≡ false → c ≡ close → ClosedIn b (c ∷ cs)
-unfolding after withStage
+unfolding after withStage frozen
 closed-here b c cs h e =
     rw e (record {
       earlier = [];
       rest = cs;
       calls = refl;
       found = h;
-      same = after-closed (turn b close .book) cs (ap (λ (k : Book). k .closed) (close-open b h)) ∙ ap (λ (k : Book). withStage k true (after (turn b close .book) cs .cleared)) (close-open b h);
+      same = after-closed (turn b close .book) cs (ap (λ (k : Book). k .closed) (close-open b h)) ∙ ap frozen (close-open b h);
+      stage = stays-closed (turn b close .book) cs (ap (λ (k : Book). k .closed) (close-open b h));
     })
 
 -- or a later one does
 closed-later : (b : Book) (c : Call) (cs : List Call) → ClosedIn (turn b c .book) cs → ClosedIn b (c ∷ cs)
 unfolding after
-closed-later b c cs k = record { earlier = c ∷ k .earlier; rest = k .rest; calls = ap {B = List Call} (λ ds. c ∷ ds) (k .calls); found = k .found; same = k .same }
+closed-later b c cs k = record { earlier = c ∷ k .earlier; rest = k .rest; calls = ap {B = List Call} (λ ds. c ∷ ds) (k .calls); found = k .found; same = k .same; stage = k .stage }
 
 -- a book that is closed was closed by one of the calls, and holds what that call found
 pub closed-in : (b : Book) (cs : List Call) → b .closed ≡ false → after b cs .closed ≡ true → ClosedIn b cs
 unfolding after
 closed-in b [] h k = not-both k h
 closed-in b (c ∷ cs) h k = ⊎-elim (λ e. closed-here b c cs h e) (λ e. closed-later b c cs (closed-in (turn b c .book) cs (e ∙ h) k)) (turn-closes b c)
+
+-- The answers
+
+-- a closing answered as done closed the book
+close-answered : (b : Book) → done ≡ turn b close .answer → turn b close .book .closed ≡ true
+unfolding turn turned applied withStage
+close-answered b h = go (firstRow (rowsOf b close)) h
+  where
+    go : (o : Option Row) → done ≡ turned b close o .answer → turned b close o .book .closed ≡ true
+    go nothing h = refl
+    go (some r) h = let z : _≡_ {A = ℕ} 0 1 = cc in absurd (omega arith)
+
+got-closed : (b : Book) {cs : List Call} {rs : List Answer} → rs ≡ answers b cs → Got close done cs rs → after b cs .closed ≡ true
+unfolding after answers
+got-closed b e (now {cs = cs}) = let h : done ≡ turn b close .answer = cc in stays-closed (turn b close .book) cs (close-answered b h)
+got-closed b e (next {d = d} {cs = cs} {rs = rs} g) = let t : rs ≡ answers (turn b d .book) cs = cc in got-closed (turn b d .book) t g
+
+-- a clearing answered by steps cleared the book, which was closed, and they are the book's
+clear-answered : (b : Book) (n : ℕ) → steps n ≡ turn b clear .answer → (turn b clear .book .cleared ≡ true) × (b .closed ≡ true) × (n ≡ daySteps b)
+unfolding turn turned applied reply withStage rowsOf gateRow row
+clear-answered b n h = go (firstRow (rowsOf b clear)) refl h
+  where
+    go : (o : Option Row) → firstRow (rowsOf b clear) ≡ o → steps n ≡ turned b clear o .answer → (turned b clear o .book .cleared ≡ true) × (b .closed ≡ true) × (n ≡ daySteps b)
+    go nothing e h = (refl, not-false _ (neither _ _ (all-head (accepted-rows (rowsOf b clear) e)) .0), cc)
+    go (some r) e h = let z : _≡_ {A = ℕ} 0 1 = cc in absurd (omega arith)
+
+got-cleared : (b : Book) (n : ℕ) {cs : List Call} {rs : List Answer} → rs ≡ answers b cs → Got clear (steps n) cs rs → (after b cs .cleared ≡ true) × (n ≡ daySteps (after b cs))
+unfolding after answers
+got-cleared b n e (now {cs = cs}) =
+    let h : steps n ≡ turn b clear .answer = cc in
+    let k = clear-answered b n h in
+    (stays-cleared (turn b clear .book) cs (k .0), k .2 ∙ sym (frozen-steps (after b (clear ∷ cs)) b (after-closed b (clear ∷ cs) (k .1))))
+got-cleared b n e (next {d = d} {cs = cs} {rs = rs} g) = let t : rs ≡ answers (turn b d .book) cs = cc in got-cleared (turn b d .book) n t g
+
+got-now : {c d : Call} {a r : Answer} {cs : List Call} {rs : List Answer} → d ≡ c → r ≡ a → Got c a (d ∷ cs) (r ∷ rs)
+got-now e f = rw (e, f) now
+
+-- closing an open book is answered as done
+close-done : (b : Book) → b .closed ≡ false → turn b close .answer ≡ done
+unfolding turn turned rowsOf gateRow callRows changeRow row firstRow reply
+close-done b h = rw h
+
+closed-got : (b : Book) (cs : List Call) → b .closed ≡ false → after b cs .closed ≡ true → Got close done cs (answers b cs)
+unfolding after answers
+closed-got b [] h k = not-both k h
+closed-got b (c ∷ cs) h k =
+    ⊎-elim (λ e. got-now e (ap (λ d. turn b d .answer) e ∙ close-done b h)) (λ e. next (closed-got (turn b c .book) cs (e ∙ h) k)) (turn-closes b c)
+
+-- only a clearing clears a book
+clears : (b : Book) (c : Call) → ((c ≡ clear) × (reply b c ≡ steps (daySteps b))) ⊎ (applied b c .cleared ≡ b .cleared)
+unfolding applied reply withUnits withCapacities withStanding withStage
+clears b (register u) = inr refl
+clears b (capacity cs) = inr refl
+clears b (available n es) = inr refl
+clears b (lodge bytes) = inr refl
+clears b (annul k) = inr refl
+clears b close = inr refl
+clears b clear = inl (refl, refl)
+
+-- one that is not refused
+turn-clears : (b : Book) (c : Call) → ((c ≡ clear) × (turn b c .answer ≡ steps (daySteps b))) ⊎ (turn b c .book .cleared ≡ b .cleared)
+unfolding turn turned
+turn-clears b c = go (firstRow (rowsOf b c))
+  where
+    go : (o : Option Row) → ((c ≡ clear) × (turned b c o .answer ≡ steps (daySteps b))) ⊎ (turned b c o .book .cleared ≡ b .cleared)
+    go nothing = clears b c
+    go (some r) = inr refl
+
+cleared-got : (b : Book) (cs : List Call) → b .cleared ≡ false → after b cs .cleared ≡ true → (n : ℕ) × Got clear (steps n) cs (answers b cs)
+unfolding after answers
+cleared-got b [] h k = not-both k h
+cleared-got b (c ∷ cs) h k =
+    ⊎-elim (λ e. (daySteps b, got-now (e .0) (e .1))) (λ e. let g = cleared-got (turn b c .book) cs (e ∙ h) k in (g .0, next (g .1))) (turn-clears b c)
+
+-- what the answers say of the stage of a book that was open, and not cleared
+pub staged : (b : Book) (cs : List Call) → b .closed ≡ false → b .cleared ≡ false → Staged (after b cs) cs (answers b cs)
+staged b cs h k =
+    record {
+      closed = (λ g. got-closed b refl g, λ e. closed-got b cs h e);
+      cleared = (λ g. got-cleared b (g .0) refl (g .1) .0, λ e. cleared-got b cs k e);
+      counted = λ n g. got-cleared b n refl g .1;
+    }

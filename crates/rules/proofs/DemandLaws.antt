@@ -1,29 +1,31 @@
 -- Demand 3, proved of the book after every list of calls.
 use Prim.Native.Nat.{ℕ, zero, suc, _+_, _≤_}
-use mathlib.Core.Path.{_≡_, refl, ap}
-use mathlib.Core.Bool.{Bool, true, false, cond, not}
+use mathlib.Core.Path.{_≡_, refl, ap, ap₂, sym, _∙_}
+use mathlib.Core.Bool.{Bool, true, false, cond, not, Bool·beq}
 use mathlib.Core.List.{List, map}
-use mathlib.Core.Option.{some}
+use mathlib.Core.Option.{some, none as nothing}
 use native.Mathlib.Omega.{arith}
 use lib.Dec.{ltb, eqb}
 use borrow.Author.Tests.{eqb-true}
-use Rattle.rules.specs.Lists.{All, none, more, keep, sum, sumOf, hourly}
-use Rattle.rules.specs.Hours.{Date}
-use Rattle.rules.specs.Units.{Registered, Capacities, capacityOf, hasNumber, nobody, unitOf, isRegistered}
+use Rattle.rules.specs.Lists.{All, none, more, Each, keep, any, sum, sumOf, hourly}
+use Rattle.rules.specs.Units.{Registered, Published, Capacities, capacityOf, hasNumber, nobody, unitOf, isRegistered}
 use Rattle.rules.specs.Lodging.{Lodgement, energyAt}
 use Rattle.rules.specs.Book.{Book, hours, ceilingOf}
 use Rattle.rules.specs.Closing.{acceptedAt}
-use Rattle.rules.specs.Borders.{Directed}
-use Rattle.rules.specs.Clearing.{holderOf, offerAt, executionAt, published, borderCapacities, capacitiesAt, hourOfDay}
+use Rattle.rules.specs.Match.{Holder}
+use Rattle.rules.specs.Borders.{Directed, runs}
+use Rattle.rules.specs.Clearing.{holderOf, offerAt, executionAt, published, borderCapacities, capacitiesAt, hourOfDay, figuresAt}
 use Rattle.rules.specs.Queries.{matchedAt, executedAt}
-use Rattle.rules.specs.DayBook.{Call, after, opening}
+use Rattle.rules.specs.DayBook.{Call, after}
 use Rattle.rules.specs.Sound.{Sound}
-use Rattle.rules.specs.Demands.{Cleared, ClosedIn, Demand3}
-use Rattle.rules.proofs.ListLaws.{all-map, all-head, all-keep, first-passes, all-parts}
+use Rattle.rules.specs.Demands.{Begins, Uncut, executionsAt, Cleared, Demand3}
+use Rattle.rules.proofs.BoolLaws.{of-not, both, beq-true}
+use Rattle.rules.proofs.ListLaws.{all-map, all-head, all-append, all-keep, of-any-false, first-passes, all-parts}
+use Rattle.rules.proofs.ElementLaws.{each-weaken}
 use Rattle.rules.proofs.SumLaws.{sum-keep, sum-some, sum-two}
 use Rattle.rules.proofs.HourLaws.{unit-energy}
 use Rattle.rules.proofs.SoundLaws.{figures-cleared}
-use Rattle.rules.proofs.BookLaws.{sound-after, closed-in, opening-open}
+use Rattle.rules.proofs.BookLaws.{begins-open, sound-after, closed-in, staged}
 use Rattle.rules.proofs.ClosingLaws.{energyOn, closing-exactly, accepted-within}
 
 -- Ceilings
@@ -106,6 +108,40 @@ module _ {P : Directed → Type 0} (cs : Capacities) (h : ℕ) where
       go (suc (suc (suc (suc zero)))) low high a1 a2 a3 a4 = a4
       go (suc (suc (suc (suc (suc n))))) low high a1 a2 a3 a4 = absurd (omega arith)
 
+-- What is absent
+
+module _ (cs : Capacities) (h border : ℕ) (export : Bool) (absent : capacityOf cs border export ≡ nothing) where
+  -- a direction that is published is another one
+  published-other : (k : ℕ) (way : Bool) (p : Published) → capacityOf cs k way ≡ p → All (λ d. (d .border ≡ border) × (d .export ≡ export) → ⊥) (published h k way p)
+  unfolding published
+  published-other k way nothing e = none
+  published-other k way (some es) e =
+      more (λ q. let f : some es ≡ nothing = sym e ∙ (ap₂ (λ i w. capacityOf cs i w) (q .0) (q .1) ∙ absent) in let z : _≡_ {A = ℕ} 0 1 = cc in omega arith) none
+
+  border-other : (k : ℕ) → All (λ d. (d .border ≡ border) × (d .export ≡ export) → ⊥) (borderCapacities cs h k)
+  unfolding borderCapacities
+  border-other k = all-append (published-other k true (capacityOf cs k true) refl) (published-other k false (capacityOf cs k false) refl)
+
+  all-other : All (λ d. (d .border ≡ border) × (d .export ≡ export) → ⊥) (capacitiesAt cs h)
+  unfolding capacitiesAt
+  all-other = all-append (border-other 1) (all-append (border-other 2) (all-append (border-other 3) (border-other 4)))
+
+  -- what runs in it runs in no published one
+  runs-other : (x : Holder) → runs border export x ≡ true → any (λ d. runs (d .border) (d .export) x) (capacitiesAt cs h) ≡ false
+  unfolding runs
+  runs-other x r =
+      let a = both (eqb (x .border) border) (Bool·beq (x .purchase) export) r in
+      of-any-false _ (all-map (λ d f. of-not _ (λ t.
+      let k = both (eqb (x .border) (d .border)) (Bool·beq (x .purchase) (d .export)) t in
+      f (sym (eqb-true _ _ (k .0)) ∙ eqb-true _ _ (a .0), sym (beq-true (x .purchase) (d .export) (k .1)) ∙ beq-true (x .purchase) export (a .1)))) all-other)
+
+-- so no execution is cut there
+pub absent-uncut : (b : Book) (h border : ℕ) (export : Bool) → Sound b → capacityOf (b .capacities) border export ≡ nothing
+    → Each (Uncut border export) (executionsAt b h) (figuresAt b h .executions)
+unfolding hourOfDay
+absent-uncut b h border export s e =
+    each-weaken (λ x y k. record { energy = λ r. k (runs-other (b .capacities) h border export e (x .holder) r) }) (figures-cleared b h (s .standing .rising) .uncut)
+
 -- Demand 3
 
 -- of an hour of a sound book
@@ -117,17 +153,20 @@ hour-demanded b s h low high =
       balanced = k .balanced;
       ceilings = λ u. ceilings-kept b s u h low high;
       executions = k .executions;
+      withdrawal = record { none-over = k .no-overrun; counted = k .steps };
       borders = λ border export es l u e. of-capacities (b .capacities) h border export es l u e (k .borders);
+      uncut = λ border export e. absent-uncut b h border export s e;
     }
 
--- of a sound book
-pub demanded : (b : Book) → Sound b → Demand3 b
-demanded b s = record { closing = λ e. closing-exactly b (s .standing .rising); clearing = λ e h low high. hour-demanded b s h low high }
-
--- if closing was accepted one of the calls closed the book, and the book still holds what that call found
-pub closing-found : (d : Date) (cs : List Call) → after (opening d .book) cs .closed ≡ true → ClosedIn (opening d .book) cs
-closing-found d cs h = closed-in (opening d .book) cs (opening-open d) h
-
--- of the book after every list of calls
-pub demand-3 : (d : Date) (cs : List Call) → Demand3 (after (opening d .book) cs)
-demand-3 d cs = demanded (after (opening d .book) cs) (sound-after d cs)
+-- of a list of calls, from every book that lists start from
+pub book-demand-3 : {b : Book} → Begins b → (cs : List Call) → Demand3 b cs
+book-demand-3 {b} g cs =
+    let start = begins-open g in
+    let stage = staged b cs (start .0) (start .1) in
+    let sound = sound-after g cs in
+    record {
+      stage = stage;
+      found = λ a. closed-in b cs (start .0) (stage .closed .0 a);
+      closing = λ a. closing-exactly (after b cs) (sound .standing .rising);
+      clearing = λ a h low high. hour-demanded (after b cs) sound h low high;
+    }

@@ -110,6 +110,11 @@ pub each-map : {A B : Type 0} {R : A → B → Type 0} (f : A → B) {xs : List 
 each-map f none = each0
 each-map f (more h t) = each h (each-map f t)
 
+-- what follows from what holds at each place
+pub each-weaken : {A B : Type 0} {R S : A → B → Type 0} → ((x : A) (y : B) → R x y → S x y) → {xs : List A} {ys : List B} → Each R xs ys → Each S xs ys
+each-weaken f each0 = each0
+each-weaken f (each {x} {y} h t) = each (f x y h) (each-weaken f t)
+
 module _ {A : Type 0} {R : A → A → Type 0} where
   -- a list against itself
   pub each-refl : ((x : A) → R x x) → (xs : List A) → Each R xs xs

@@ -23,6 +23,7 @@ pub mod RepeatLaws
 pub mod BorderLaws
 pub mod HourLaws
 pub mod SoundLaws
+pub mod TableLaws
 pub mod BookLaws
 pub mod OrderLaws
 pub mod JudgingLaws

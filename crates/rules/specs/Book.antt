@@ -39,6 +39,17 @@ ceilingOf b u h = ceiling (linesOf b) (unitOf (b .units) u) h
 unfoldable pub fresh : Date → Book
 fresh d = record { date = d; units = []; capacities = replicate 8 none; standing = []; last = 0; closed = false; cleared = false }
 
+-- What closing freezes: all that the book keeps but whether it is closed or cleared. Verdicts and figures follow from it alone.
+pub record Frozen : Type 0 where
+  pub date : Date
+  pub units : List Registered
+  pub capacities : Capacities
+  pub standing : List Lodgement
+  pub last : ℕ
+
+unfoldable pub frozen : Book → Frozen
+frozen b = record { date = b .date; units = b .units; capacities = b .capacities; standing = b .standing; last = b .last }
+
 unfoldable pub Book·all : Unit {0}
-unfolding hours limitsOf ceilingOf fresh
+unfolding hours limitsOf ceilingOf fresh frozen
 Book·all = tt

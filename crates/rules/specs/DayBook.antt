@@ -56,11 +56,20 @@ unitsFull b = leb 64 (length (b .units))
 unfoldable pub full : Book → Key → Bool
 full b k = (leb 128 (length (b .standing)) && not (stands (b .standing) k)) || leb 65535 (b .last)
 
+-- 2, gate: whether the book is at the stage that the call asks for
+unfoldable pub gateRow : Book → Call → Row
+gateRow b (register u) = changeRow b
+gateRow b (capacity cs) = changeRow b
+gateRow b (available n es) = changeRow b
+gateRow b (lodge bytes) = changeRow b
+gateRow b (annul k) = changeRow b
+gateRow b close = changeRow b  -- "closing [..] twice"
+gateRow b clear = row 2 (not (b .closed) || b .cleared)  -- "clearing [..] before closing", "clearing twice"
+
 unfoldable pub lodgeRows : Book → List ℕ → List Row
 lodgeRows b bytes =
     let m = messageOf bytes in
-    changeRow b
-    ∷ row 3 (wrongForm bytes)
+    row 3 (wrongForm bytes)
     ∷ row 4 (badMap (m .map) || namesBeyond (hours b) (m .map))
     ∷ row 5 (wrongRange bytes)
     ∷ row 6 (badHolder b (keyOf m))
@@ -68,17 +77,20 @@ lodgeRows b bytes =
     ∷ limitRows (hours b) (m .energies) (judgedAt (b .standing) m)
     (judgedBy (linesOf b) (unitOf (b .units) (m .unit)) (m .default))
 
+-- the call's own rows, after the gate's
+unfoldable pub callRows : Book → Call → List Row
+callRows b (register u) =
+    row 5 (badUnit u) ∷ row 7 (isRegistered (b .units) (u .number)) ∷ row 8 (isSecond b u) ∷ row 9 (unitsFull b) ∷ []
+callRows b (capacity cs) = row 4 (any (notOfHours (hours b)) cs) ∷ row 5 (any badPublished cs) ∷ []
+callRows b (available n es) =
+    row 4 (not (eqb (length es) (hours b))) ∷ row 5 (badNumber n || badEnergies es) ∷ row 6 (unregistered b n) ∷ []
+callRows b (lodge bytes) = lodgeRows b bytes
+callRows b (annul k) = row 5 (badKey k) ∷ row 6 (badHolder b k) ∷ row 13 (not (stands (b .standing) k)) ∷ []
+callRows b close = []
+callRows b clear = []
+
 unfoldable pub rowsOf : Book → Call → List Row
-rowsOf b (register u) =
-    changeRow b ∷ row 5 (badUnit u) ∷ row 7 (isRegistered (b .units) (u .number)) ∷ row 8 (isSecond b u) ∷ row 9 (unitsFull b) ∷ []
-rowsOf b (capacity cs) = changeRow b ∷ row 4 (any (notOfHours (hours b)) cs) ∷ row 5 (any badPublished cs) ∷ []
-rowsOf b (available n es) =
-    changeRow b ∷ row 4 (not (eqb (length es) (hours b))) ∷ row 5 (badNumber n || badEnergies es) ∷ row 6 (unregistered b n) ∷ []
-rowsOf b (lodge bytes) = lodgeRows b bytes
-rowsOf b (annul k) =
-    changeRow b ∷ row 5 (badKey k) ∷ row 6 (badHolder b k) ∷ row 13 (not (stands (b .standing) k)) ∷ []
-rowsOf b close = changeRow b ∷ []  -- "closing [..] twice"
-rowsOf b clear = row 2 (not (b .closed) || b .cleared) ∷ []  -- "clearing [..] before closing", "clearing twice"
+rowsOf b c = gateRow b c ∷ callRows b c
 
 -- The book after an accepted call
 
@@ -189,5 +201,5 @@ unfoldable pub opening : Date → Turn
 opening d = openedWith d (firstRow (dateRow d ∷ []))
 
 unfoldable pub DayBook·all : Unit {0}
-unfolding changeRow unregistered badHolder isSecond unitsFull full lodgeRows rowsOf withUnits withCapacities withStanding withStage notify entry applied reply turned turn after answers openedWith opening
+unfolding changeRow unregistered badHolder isSecond unitsFull full gateRow lodgeRows callRows rowsOf withUnits withCapacities withStanding withStage notify entry applied reply turned turn after answers openedWith opening
 DayBook·all = tt

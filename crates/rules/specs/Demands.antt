@@ -4,23 +4,25 @@ use mathlib.Core.Path.{_≡_}
 use mathlib.Core.Logic.{_↔_}
 use mathlib.Core.Bool.{Bool, true, false, cond, _&&_, Bool·beq}
 use mathlib.Core.List.{List, [], _∷_, _++_, map}
-use mathlib.Core.Option.{some}
+use mathlib.Core.Option.{some, none}
 use lib.Dec.{eqb}
 use lib.IntN.{ℤ, pos, _+ℤ_}
 use lib.Signed.{_≤ℤ_, _<ℤ_}
 use Rattle.rules.specs.Lists.{All, Each, keep, sum, sumOf, hourly}
+use Rattle.rules.specs.Hours.{Date}
 use Rattle.rules.specs.Units.{Registered, capacityOf}
 use Rattle.rules.specs.Lodging.{Lodgement, energyAt, isHidden, passedAt}
-use Rattle.rules.specs.Book.{Book, hours, limitsOf, ceilingOf}
+use Rattle.rules.specs.Book.{Book, hours, limitsOf, ceilingOf, frozen}
 use Rattle.rules.specs.Judging.{Verdict, hidden, limit, isAccepted, turnBy, isBefore, verdictAmong}
 use Rattle.rules.specs.Closing.{closingTurns, judgements, acceptedAt}
 use Rattle.rules.specs.Share.{share}
 use Rattle.rules.specs.Match.{Offer}
 use Rattle.rules.specs.Borders.{Directed, Execution, runs, atBorder, marketBalance, executionBalance, toward}
+use Rattle.rules.specs.Withdrawal.{Ends}
 use Rattle.rules.specs.Executions.{bilateralExcess}
-use Rattle.rules.specs.Clearing.{hourOfDay, figuresAt}
+use Rattle.rules.specs.Clearing.{hourOfDay, figuresAt, daySteps}
 use Rattle.rules.specs.Queries.{matchedAt, executedAt}
-use Rattle.rules.specs.DayBook.{Call, close, withStage, after}
+use Rattle.rules.specs.DayBook.{Call, Answer, close, clear, done, steps, after, answers, opening}
 
 -- Closing
 
@@ -92,6 +94,10 @@ pub record CutDown (before after : Execution) : Type 0 where
   pub holder : after .holder ≡ before .holder
   pub energy : after .energy ≤ before .energy
 
+-- one that is not cut, if it runs at a border in a direction
+pub record Uncut (border : ℕ) (export : Bool) (before after : Execution) : Type 0 where
+  pub energy : runs border export (before .holder) ≡ true → after .energy ≡ before .energy
+
 -- "Some execution there in a direction is cut": it has less energy after than before
 pub data SomeCut (c : Directed) : List Execution → List Execution → Type 0 where
   this : {x y : Execution} {xs ys : List Execution} → runs (c .border) (c .export) (x .holder) ≡ true → y .energy < x .energy → SomeCut c (x ∷ xs) (y ∷ ys)
@@ -142,24 +148,57 @@ pub record Cleared (b : Book) (h : ℕ) : Type 0 where
   pub ceilings : (u : ℕ) → matchedAt b u h + executedAt b u h ≤ ceilingOf b u h
   -- no execution gains by the cut
   pub executions : Each CutDown (executionsAt b h) (figuresAt b h .executions)
+  -- "while a market balance passes its maximum": at the end none does
+  pub withdrawal : Ends (figuresAt b h .maxima) (hourOfDay b (acceptedAt b) h .offers) (record { offers = figuresAt b h .offers; steps = figuresAt b h .steps })
   -- "Market plus bilateral balance at each border keeps within each published capacity", and what is cut there: at each of
   -- the 4 borders in each direction for which the notice has energies es
   pub borders : (border : ℕ) (export : Bool) (es : List ℕ) → 1 ≤ border → border ≤ 4 → capacityOf (b .capacities) border export ≡ some es
       → Kept (record { border = border; export = export; energy = hourly es h }) (figuresAt b h .offers) (executionsAt b h) (figuresAt b h .executions)
+  -- "Absent means no maximum": in a direction without capacity no execution is cut
+  pub uncut : (border : ℕ) (export : Bool) → capacityOf (b .capacities) border export ≡ none → Each (Uncut border export) (executionsAt b h) (figuresAt b h .executions)
+
+-- Lists of calls
+
+-- a book that lists of calls start from: "from a fresh session"
+pub data Begins : Book → Type 0 where
+  opened : (d : Date) → Begins (opening d .book)
+
+-- one of the calls of a list is c, and its answer a
+pub data Got {A : Type 0} (c : Call) (a : A) : List Call → List A → Type 0 where
+  now : {cs : List Call} {rs : List A} → Got c a (c ∷ cs) (a ∷ rs)
+  next : {d : Call} {e : A} {cs : List Call} {rs : List A} → Got c a cs rs → Got c a (d ∷ cs) (e ∷ rs)
+
+-- "If closing was accepted"
+abbrev pub ClosingAccepted : List Call → List Answer → Type 0
+ClosingAccepted cs rs = Got close done cs rs
+
+-- "If clearing was accepted": it "answers the step count"
+abbrev pub ClearingAccepted : List Call → List Answer → Type 0
+ClearingAccepted cs rs = (n : ℕ) × Got clear (steps n) cs rs
+
+-- The stage of the book at a list's end, by the list's answers: it is closed exactly where closing was accepted, cleared exactly
+-- where clearing was, and the steps answered then are the book's.
+pub record Staged (b : Book) (cs : List Call) (rs : List Answer) : Type 0 where
+  pub closed : ClosingAccepted cs rs ↔ (b .closed ≡ true)
+  pub cleared : ClearingAccepted cs rs ↔ (b .cleared ≡ true)
+  pub counted : (n : ℕ) → Got clear (steps n) cs rs → n ≡ daySteps b
 
 -- "Demand 3's ceilings and published capacities [..] are by the book's notices at closing; the lodgements it has then are those
--- standing at closing": one of the calls found the book open and closed it, and the book at the list's end holds what that
--- call found, units, notices, standing lodgements and last number.
+-- standing at closing": one of the calls found the book open and closed it, and the book at the list's end still has what that
+-- call found and froze: date, units, notices, standing lodgements and last number.
 pub record ClosedIn (start : Book) (cs : List Call) : Type 0 where
   pub earlier : List Call
   pub rest : List Call
   pub calls : cs ≡ earlier ++ (close ∷ rest)
   pub found : after start earlier .closed ≡ false
-  pub same : after start cs ≡ withStage (after start earlier) true (after start cs .cleared)
+  pub same : frozen (after start cs) ≡ frozen (after start earlier)
+  pub stage : after start cs .closed ≡ true
 
--- Demand 3, of the book at a list's end.
-pub record Demand3 (b : Book) : Type 0 where
+-- Demand 3, of a list of calls and the book at its end.
+pub record Demand3 (start : Book) (cs : List Call) : Type 0 where
+  pub stage : Staged (after start cs) cs (answers start cs)
   -- "If closing was accepted"
-  pub closing : b .closed ≡ true → All (Judgement b) (b .standing)
+  pub found : ClosingAccepted cs (answers start cs) → ClosedIn start cs
+  pub closing : ClosingAccepted cs (answers start cs) → All (Judgement (after start cs)) (after start cs .standing)
   -- "If clearing was accepted too, all that follows holds in each hour."
-  pub clearing : b .cleared ≡ true → (h : ℕ) → 1 ≤ h → h ≤ hours b → Cleared b h
+  pub clearing : ClearingAccepted cs (answers start cs) → (h : ℕ) → 1 ≤ h → h ≤ hours (after start cs) → Cleared (after start cs) h

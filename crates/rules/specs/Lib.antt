@@ -16,6 +16,7 @@ pub mod Executions
 pub mod Clearing
 pub mod Queries
 pub mod DayBook
+pub mod Table
 pub mod Sound
 pub mod Demands
 pub mod Figures

@@ -1,5 +1,5 @@
 -- "When the gate says no": the table's rows and the one that is given.
-use Prim.Native.Nat.{ℕ}
+use Prim.Native.Nat.{ℕ, suc}
 use mathlib.Core.Bool.{Bool, cond, not}
 use mathlib.Core.List.{List, [], _∷_}
 use mathlib.Core.Option.{Option, some, none}
@@ -25,6 +25,19 @@ unfoldable pub firstRow : List Row → Option Row
 firstRow [] = none
 firstRow (r ∷ rs) = cond (r .applies) (some r) (firstRow rs)
 
+-- The table's order: its numbers, row by row.
+unfoldable pub tableOrder : List ℕ
+tableOrder = 1 ∷ 2 ∷ 3 ∷ 4 ∷ 5 ∷ 6 ∷ 7 ∷ 8 ∷ 9 ∷ 10 ∷ 11 ∷ 12 ∷ 13 ∷ 14 ∷ []
+
+-- the place of a number in an order, counted from 1; behind all for one that is not there
+unfoldable pub placeIn : List ℕ → ℕ → ℕ
+placeIn [] n = 1
+placeIn (m ∷ ms) n = cond (eqb m n) 1 (suc (placeIn ms n))
+
+-- a row's place in the table
+unfoldable pub placeOf : Row → ℕ
+placeOf r = placeIn tableOrder (r .number)
+
 -- What is answered where a value is asked for: a refusal (number and hour), or the value.
 pub data Outcome (A : Type 0) : Type 0 where
   refused : ℕ → ℕ → Outcome A
@@ -39,5 +52,5 @@ unfoldable pub outcome : {A : Type 0} → List Row → A → Outcome A
 outcome rows a = unless (firstRow rows) a
 
 unfoldable pub Refusals·all : Unit {0}
-unfolding row limitRow firstRow unless outcome
+unfolding row limitRow firstRow tableOrder placeIn placeOf unless outcome
 Refusals·all = tt

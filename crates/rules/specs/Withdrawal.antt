@@ -1,5 +1,6 @@
 -- "Withdrawal step", and its repetition.
-use Prim.Native.Nat.{ℕ, zero, suc, min, max}
+use Prim.Native.Nat.{ℕ, zero, suc, _≤_, min, max}
+use mathlib.Core.Path.{_≡_}
 use mathlib.Core.Bool.{Bool, true, false, cond, not, _&&_, Bool·beq}
 use mathlib.Core.List.{List, [], _∷_, map}
 use mathlib.Core.Option.{Option, some, none}
@@ -130,6 +131,12 @@ stepBound os = sumOf (λ o. o .offered) os
 -- from the first match to the last
 unfoldable pub withdraw : List Directed → List Offer → Withdrawn
 withdraw ms first = repeat (stepBound first) ms first 0
+
+-- The bound cuts no withdrawal short, `Ends` says: at the end no market balance passes its maximum, and no more steps were made than
+-- tenths of MWh were offered. (It holds in every hour of a book: `Cleared`, specs/Demands.antt.)
+pub record Ends (ms : List Directed) (before : List Offer) (last : Withdrawn) : Type 0 where
+  pub none-over : overruns ms (last .offers) ≡ []
+  pub counted : last .steps ≤ stepBound before
 
 unfoldable pub Withdrawal·all : Unit {0}
 unfolding excessOf overruns runsIn runsAmong keepMatched pricesOver further extreme purchasesBelow salesAbove choose groupOf inGroup givesWay amounts deductions allDeductions remain takeFrom step repeat stepBound withdraw
