@@ -1,5 +1,6 @@
 pub mod Elements
 pub mod ArrayLaws
+pub mod Owed
 pub mod Outcomes
 pub mod Cell
 pub mod SessionCell
