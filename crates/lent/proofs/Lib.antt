@@ -5,3 +5,4 @@ pub mod Outcomes
 pub mod Cell
 pub mod SessionCell
 pub mod Searched
+pub mod Settled
