@@ -20,8 +20,7 @@ use types.Part.{Part, whole, sub, look-in, store-in}
 use denote.RattleType.{flat}
 use denote.Laws.{valss}
 use denote.Array.{arrayVal}
-use denote.Struct.Struct.{layout}
-use denote.Struct.Declared.{Declared, fields, shape}
+use denote.Struct.Declared.{Declared, fields}
 use denote.Struct.Laws as LL
 use Rattle.session.specs.declared.Session.{Session}
 use Rattle.session.proofs.Session as T
@@ -68,11 +67,6 @@ module _ {M : Type 1} {𝓤 : URA M} {H : Heap 𝓤} {A : Atoms 𝓤} {K : Type 
   pub field-read : K → {q : Share} {ν : Sym} {τs : Tys} {b o : ℕ} {vs : Vals} {τ : Ty} {d : ℕ} {v : Val} (n k : ℕ) → nth 𝓤 H A n Γ ≡ ‵ (fat q (tyStruct ν τs) b o (vstruct vs)) → fieldAt zero τs k ≡ some (τ, d) → getV vs k ≡ v
       → Reads K W Γ τ b (o + d) v
   field-read t n k at e g = entry-read t n at (sub t k e (whole t)) g
-
-  -- a field of a struct of a declared type there, of which the machine value is known
-  pub part-read : K → (T : Declared) (L : LL.Laws T) (k : ℕ) {q : Share} {b o : ℕ} {τ : Ty} (d : T .D) (v : Val) (n : ℕ) → nth 𝓤 H A n Γ ≡ ‵ (fat q (layout (shape T)) b o (LL.val T L d))
-      → fieldOf (layout (shape T)) k ≡ some (τ, lies (layout (shape T)) k) → getV (values T L d) k ≡ v → Reads K W Γ τ b (o + lies (layout (shape T)) k) v
-  part-read t T L k d v n at e g = field-read t n k at e g
 
   pub nested-read : K → {q : Share} {ν μ : Sym} {τs σs : Tys} {b o : ℕ} {vs us : Vals} {τ : Ty} {d c : ℕ} {v : Val} (n k j : ℕ) → nth 𝓤 H A n Γ ≡ ‵ (fat q (tyStruct ν τs) b o (vstruct vs))
       → fieldAt zero τs k ≡ some (tyStruct μ σs, d) → getV vs k ≡ vstruct us → fieldAt zero σs j ≡ some (τ, c) → getV us j ≡ v → Reads K W Γ τ b (o + d + c) v

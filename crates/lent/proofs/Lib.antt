@@ -3,6 +3,7 @@ pub mod ArrayLaws
 pub mod Owed
 pub mod Outcomes
 pub mod Cell
+pub mod Parts
 pub mod SessionCell
 pub mod Searched
 pub mod Settled

@@ -49,9 +49,10 @@ use Rattle.session.specs.declared.Session.{Session}
 use Rattle.session.proofs.PlaceLaws.{reach, reach-start, reach-here, reach-next, reach-end}
 use Rattle.session.proofs.Session as T
 use Rattle.session.proofs.Session.Laws as T′
+use Rattle.lent.proofs.ArrayLaws.{type}
 use Rattle.lent.proofs.Outcomes.{decide, reflected, refuted, is-true, is-false}
 use Rattle.lent.proofs.Cell.{lies, sv}
-use Rattle.lent.proofs.SessionCell.{Good, Held, Listed, type, get-all, length-of, at-held, read-held, at-array}
+use Rattle.lent.proofs.SessionCell.{Good, Held, Listed, get-all, length-of, at-held, read-held, at-array}
 use Rattle.lent.proofs.unit_at as shape
 
 -- what is searched: an array of the session, of which the first elements count, by the number of each

@@ -61,11 +61,11 @@ use Rattle.response.proofs.Lodged as G
 use Rattle.response.proofs.Lodged.Laws as G′
 use Rattle.told.proofs.Response as N
 use Rattle.told.proofs.Response.Laws as N′
-use Rattle.lent.proofs.ArrayLaws.{One}
+use Rattle.lent.proofs.ArrayLaws.{typed, One}
 use Rattle.lent.proofs.Owed.{known}
 use Rattle.lent.proofs.Outcomes.{decide, reflected, refuted, is-true, is-false}
 use Rattle.lent.proofs.Cell.{sv, field-read, nested-read}
-use Rattle.lent.proofs.SessionCell.{Good, lodgements, energies, standing, last, typed, put-at, length-of, good-at, with-at, at-held, store-held, at-array, read-at, store-at}
+use Rattle.lent.proofs.SessionCell.{Good, lodgements, energies, standing, last, put-at, length-of, good-at, with-at, at-held, store-held, at-array, read-at, store-at}
 use Rattle.lent.proofs.settle_standing.Key.{name as #entry}
 use Rattle.lent.proofs.settle_standing as f
 use Rattle.lent.proofs.settle_standing.Statement as stated
