@@ -7,3 +7,4 @@ pub mod Parts
 pub mod SessionCell
 pub mod Searched
 pub mod Settled
+pub mod Moved
