@@ -1,5 +1,5 @@
 -- The cell of a lent session: its fields and their elements, each by its own name, so that a walk names the session's type and does not spell it out. Where a field lies and how
--- large an element is comes from the session's type; of a field its number is said once, here.
+-- long an element is comes from the session's type; a field's number stands in its record here and nowhere else.
 use mathlib.Core.Path.{_≡_, refl}
 use Prim.Native.Nat.{ℕ, _+_, _*_, _<_}
 use mathlib.Core.Bool.{Bool}
