@@ -1,6 +1,10 @@
 pub mod Elements
 pub mod ArrayLaws
+pub mod Owed
 pub mod Outcomes
 pub mod Cell
+pub mod Parts
 pub mod SessionCell
 pub mod Searched
+pub mod Settled
+pub mod Moved

@@ -4,6 +4,7 @@
 use mathlib.Core.Path.{_≡_, refl, sym, _∙_}
 use Prim.Native.Nat.{ℕ, _+_, _-_, _*_, _<_, _≤_, _^_}
 use mathlib.Core.Bool.{Bool, true, false}
+use mathlib.Core.Option.{some}
 use mathlib.Core.List.{[], _∷_, List}
 use mathlib.Core.WellFounded.{WellFounded, InvImage·wf}
 use native.Mathlib.Omega.{arith}
@@ -19,12 +20,13 @@ use base.Fml.{GName, Lft, Share, ftrue, fat, froom, fdies, flft, fres, fobor, fs
 use lib.Dec.{T as Tᵇ, eqb, ltb, ltb→lt, nltb→le}
 use lib.ListN.{length, getD, take}
 use lib.WfN.{Nat·lt-wfRel}
+use prog.Memory.{size, fieldOf}
 use prog.Wp.{Heap, Env, Out, Wp, afterSeq, afterBlock, afterTurn, atReturn, Calls, Loops, WpFn, Tables}
 use prog.Wp.{returns as returned}
 use ghost.Atoms.{Atoms}
 use contract.Monad.{fact}
 use types.Kit.{Given, Item, Post, ‵, runs, post, anyQ, atRet, Sq, _⊛_, _$_, _∵_, !, qed, by, move, keep, drop, use1, split, join, fsplit, fsplit3, fjoin, fjoin3, feqI, rewrite, suffices, frame, done}
-use types.Run.{Reads, Walks as Walks′, look, store, init, forget, stop, hop, from, load, of-opd, lit, bin, addr, assigns, assigns-last, first, stays, leaves-loop, skips, branches, blocks, exec, Below, again, loops, returns-within, enter, alloc1, alloc0, params1, pass1, pass0, free1, free0}
+use types.Run.{Reads, look, store, init, forget, stop, hop, fld, from, load, of-opd, lit, bin, addr, assigns, assigns-last, first, stays, leaves-loop, skips, branches, blocks, exec, Below, again, loops, returns-within, enter, alloc1, alloc0, params1, pass1, pass0, free1, free0}
 use sound.WpLaws.{WpFn-mono}
 use denote.RattleType.{owns}
 use denote.Laws.{Is, shows}
@@ -35,6 +37,7 @@ use denote.Builtin.{u32, usize}
 use denote.Signature.{plain}
 use denote.Steps.{looks, shuts, owned, peeks, nothing}
 use denote.Struct.Steps.{spelt}
+use denote.Struct.Field.{usize-field}
 use denote.Struct.Laws as LL
 use denote.Triple.Clauses.{Clauses, closing}
 use denote.Triple.Entry.{onEntry}
@@ -46,77 +49,79 @@ use Rattle.session.specs.declared.Session.{Session}
 use Rattle.session.proofs.PlaceLaws.{reach, reach-start, reach-here, reach-next, reach-end}
 use Rattle.session.proofs.Session as T
 use Rattle.session.proofs.Session.Laws as T′
+use Rattle.lent.proofs.ArrayLaws.{type}
 use Rattle.lent.proofs.Outcomes.{decide, reflected, refuted, is-true, is-false}
-use Rattle.lent.proofs.Cell.{sv}
-use Rattle.lent.proofs.SessionCell.{Good}
+use Rattle.lent.proofs.Cell.{lies, sv}
+use Rattle.lent.proofs.SessionCell.{Good, Held, Listed, get-all, length-of, at-held, read-held, at-array}
 use Rattle.lent.proofs.unit_at as shape
 
 -- what is searched: an array of the session, of which the first elements count, by the number of each
-pub record Searched : Type 1 where
-  pub element : Type 0
-  pub blank : element
-  pub number-of : element → ℕ
-  pub list : Session → List element
-  pub count : Session → ℕ
-  pub many : ℕ
-  -- where it lies: fields and their places, and the elements' type and size
-  pub counter : ℕ
-  pub counter-at : ℕ
-  pub array : ℕ
-  pub array-at : ℕ
-  pub arrayTy : Ty
-  pub type : Ty
-  pub wide : ℕ
+pub record Searched : Type 2 where
+  pub array : Listed
+  pub counter : Held usize-field LL.usize-laws
+  pub blank : array .element .Value
+  pub number-of : array .element .Value → ℕ
+  -- which of an element's fields its number is
   pub numbered : ℕ
-  pub number-at : ℕ
 
 module _ (g : Searched) where
-  abbrev has : ℕ → g .element → Bool
+  abbrev many : ℕ
+  many = g .array .many
+
+  abbrev list : Session → List (g .array .element .Value)
+  list s = get-all (g .array) s
+
+  abbrev count : Session → ℕ
+  count s = g .counter .get s
+
+  -- an element's type, how long it is, and where its number lies in it
+  abbrev elementTy : Ty
+  elementTy = type (g .array .element)
+
+  abbrev wide : ℕ
+  wide = size elementTy
+
+  abbrev number-at : ℕ
+  number-at = lies elementTy (g .numbered)
+
+  abbrev has : ℕ → g .array .element .Value → Bool
   has n x = eqb (g .number-of x) n
 
   abbrev pub number : Session → ℕ → ℕ
-  number s i = g .number-of (getD (g .list s) i (g .blank))
+  number s i = g .number-of (getD (list s) i (g .blank))
 
   -- the place of a number, and the place that is come to from one
   abbrev place-of : Session → ℕ → ℕ
-  place-of s n = placeOf (has n) (take (g .count s) (g .list s))
+  place-of s n = placeOf (has n) (take (count s) (list s))
 
   abbrev reached : Session → ℕ → ℕ → ℕ
-  reached s n i = reach (has n) (g .list s) (g .count s) i
+  reached s n i = reach (has n) (list s) (count s) i
 
--- what the walk needs of it: that the numbers fit, and where the parts lie
+-- what the walk needs of it: that the numbers fit, and that an element's number is read
 pub record Laws (g : Searched) : Type 2 where
-  pub many-fits : Tᵇ (ltb (g .many) (2 ^ 64))
-  pub wide-fits : Tᵇ (ltb (g .wide) (2 ^ 64))
-  pub low : (i : ℕ) → i < g .many → i * g .wide < 2 ^ 64
-  pub below : (i : ℕ) → i ≤ g .many → i < 2 ^ 64
-  pub guards : (s : Session) → Within s → g .count s ≤ g .many
-  pub counted : (s : Session) → Good s → g .count s < 2 ^ 64
-  pub long : (s : Session) → Good s → length (g .list s) ≡ g .many
-  pub small : (s : Session) → Good s → (i : ℕ) → i < g .many → number g s i < 2 ^ 32
-  pub at-counter : {M : Type 1} {𝓤 : URA M} {H : Heap 𝓤} {A : Atoms 𝓤} {K : Type 0} {W : Given 𝓤 H A} {Γ : List (Item 𝓤)}
-      → K → {E : Env 𝓤 H} {b o : ℕ} → Walks′ K W Γ E (T′.mir, b, o) (field (g .counter) ∷ []) (tyInt w64, b, o + g .counter-at)
-  pub read-counter : {M : Type 1} {𝓤 : URA M} {H : Heap 𝓤} {A : Atoms 𝓤} {K : Type 0} {W : Given 𝓤 H A} {Γ : List (Item 𝓤)}
-      → K → {q : Share} {b o : ℕ} (s : Session) → Reads K W (‵ (fat q T′.mir b o (sv s)) ∷ Γ) (tyInt w64) b (o + g .counter-at) (vint w64 (g .count s))
-  pub at-array : {M : Type 1} {𝓤 : URA M} {H : Heap 𝓤} {A : Atoms 𝓤} {K : Type 0} {W : Given 𝓤 H A} {Γ : List (Item 𝓤)}
-      → K → {E : Env 𝓤 H} {b o : ℕ} → Walks′ K W Γ E (T′.mir, b, o) (field (g .array) ∷ []) (g .arrayTy, b, o + g .array-at)
-  pub at-number : {M : Type 1} {𝓤 : URA M} {H : Heap 𝓤} {A : Atoms 𝓤} {K : Type 0} {W : Given 𝓤 H A} {Γ : List (Item 𝓤)}
-      → K → {E : Env 𝓤 H} {b o : ℕ} → Walks′ K W Γ E (g .type, b, o) (field (g .numbered) ∷ []) (tyInt w32, b, o + g .number-at)
+  pub many-fits : Tᵇ (ltb (many g) (2 ^ 64))
+  pub wide-fits : Tᵇ (ltb (wide g) (2 ^ 64))
+  pub low : (i : ℕ) → i < many g → i * wide g < 2 ^ 64
+  pub below : (i : ℕ) → i ≤ many g → i < 2 ^ 64
+  pub guards : (s : Session) → Within s → count g s ≤ many g
+  pub small : (s : Session) → Good s → (i : ℕ) → i < many g → number g s i < 2 ^ 32
+  pub is-number : fieldOf (elementTy g) (g .numbered) ≡ some (tyInt w32, number-at g)
   pub read-number : {M : Type 1} {𝓤 : URA M} {H : Heap 𝓤} {A : Atoms 𝓤} {K : Type 0} {W : Given 𝓤 H A} {Γ : List (Item 𝓤)}
-      → K → {q : Share} {b o : ℕ} (s : Session) → Good s → (i : ℕ) → i < g .many → Reads K W (‵ (fat q T′.mir b o (sv s)) ∷ Γ) (tyInt w32) b (i * g .wide + (o + g .array-at) + g .number-at) (vint w32 (number g s i))
+      → K → {q : Share} {b o : ℕ} (s : Session) → Good s → (i : ℕ) → i < many g
+      → Reads K W (‵ (fat q T′.mir b o (sv s)) ∷ Γ) (tyInt w32) b (i * wide g + (o + lies T′.mir (g .array .whole .number)) + number-at g) (vint w32 (number g s i))
 
-module _ (g : Searched) (law : Laws g) (s : Session) (good : Good s) (few : g .count s ≤ g .many) (n i : ℕ) where
-  enough : g .count s ≤ length (g .list s)
-  enough = omega (arith, few, law .long s good)
+module _ (g : Searched) (law : Laws g) (s : Session) (good : Good s) (few : count g s ≤ many g) (n i : ℕ) where
+  enough : count g s ≤ length (list g s)
+  enough = omega (arith, few, length-of (g .array) s good)
 
-  here : i < g .count s → eqb (number g s i) n ≡ true → reached g s n i ≡ i
-  here h e = reach-here (has g n) (g .blank) (g .list s) (g .count s) i h enough e
+  here : i < count g s → eqb (number g s i) n ≡ true → reached g s n i ≡ i
+  here h e = reach-here (has g n) (g .blank) (list g s) (count g s) i h enough e
 
-  next-one : i < g .count s → eqb (number g s i) n ≡ false → reached g s n i ≡ reached g s n (i + 1)
-  next-one h e = reach-next (has g n) (g .blank) (g .list s) (g .count s) i h enough e
+  next-one : i < count g s → eqb (number g s i) n ≡ false → reached g s n i ≡ reached g s n (i + 1)
+  next-one h e = reach-next (has g n) (g .blank) (list g s) (count g s) i h enough e
 
-  at-end : i ≡ g .count s → reached g s n i ≡ g .count s
-  at-end e = reach-end (has g n) (g .list s) (g .count s) i e enough
+  at-end : i ≡ count g s → reached g s n i ≡ count g s
+  at-end e = reach-end (has g n) (list g s) (count g s) i e enough
 
 -- the MIR of such a function
 
@@ -127,7 +132,7 @@ abbrev step : Body
 step = assign (place 4 []) (op2 (add unsigned) (copy (place 4 [])) (int w64 1))
 
 abbrev turn : Searched → Body
-turn g = seq (assign (place 6 []) (op2 (lt unsigned) (copy (place 4 [])) (copy (place 3 [])))) (seq (branch (copy (place 6 [])) skip (exit 1)) (seq (assign (place 7 []) (op2 (mul unsigned) (copy (place 4 [])) (int w64 (g .wide)))) (seq (assign (place 8 []) (addrOf (place 1 (deref T′.mir ∷ field (g .array) ∷ [])))) (seq (assign (place 9 []) (op2 offset (copy (place 8 [])) (copy (place 7 [])))) (seq (assign (place 10 []) (rvOpd (copy (place 9 (deref (g .type) ∷ field (g .numbered) ∷ []))))) (seq (assign (place 6 []) (op2 eq (copy (place 10 [])) (copy (place 2 [])))) (seq (branch (copy (place 6 [])) (seq (assign (place 0 []) (rvOpd (copy (place 4 [])))) return) skip) step)))))))
+turn g = seq (assign (place 6 []) (op2 (lt unsigned) (copy (place 4 [])) (copy (place 3 [])))) (seq (branch (copy (place 6 [])) skip (exit 1)) (seq (assign (place 7 []) (op2 (mul unsigned) (copy (place 4 [])) (int w64 (wide g)))) (seq (assign (place 8 []) (addrOf (place 1 (deref T′.mir ∷ field (g .array .whole .number) ∷ [])))) (seq (assign (place 9 []) (op2 offset (copy (place 8 [])) (copy (place 7 [])))) (seq (assign (place 10 []) (rvOpd (copy (place 9 (deref (elementTy g) ∷ field (g .numbered) ∷ []))))) (seq (assign (place 6 []) (op2 eq (copy (place 10 [])) (copy (place 2 [])))) (seq (branch (copy (place 6 [])) (seq (assign (place 0 []) (rvOpd (copy (place 4 [])))) return) skip) step)))))))
 
 abbrev after : Body
 after = seq (assign (place 0 []) (rvOpd (copy (place 3 [])))) return
@@ -144,7 +149,7 @@ function g = record {
   outlives = [];
   params = 2;
   locals = local (tyInt w64) valueLocal ∷ local refTy valueLocal ∷ local (tyInt w32) valueLocal ∷ local (tyInt w64) valueLocal ∷ local (tyInt w64) valueLocal ∷ local tyBool valueLocal ∷ local tyBool valueLocal ∷ local (tyInt w64) valueLocal ∷ local tyPtr valueLocal ∷ local tyPtr valueLocal ∷ local (tyInt w32) valueLocal ∷ [];
-  body = seq (assign (place 3 []) (rvOpd (copy (place 1 (deref T′.mir ∷ field (g .counter) ∷ []))))) (seq (assign (place 5 []) (op2 (lt unsigned) (int w64 (g .many)) (copy (place 3 [])))) (seq (branch (copy (place 5 [])) (seq (assign (place 0 []) (rvOpd (int w64 0))) return) skip) (rest g)));
+  body = seq (assign (place 3 []) (rvOpd (copy (place 1 (deref T′.mir ∷ field (g .counter .number) ∷ []))))) (seq (assign (place 5 []) (op2 (lt unsigned) (int w64 (many g)) (copy (place 3 [])))) (seq (branch (copy (place 5 [])) (seq (assign (place 0 []) (rvOpd (int w64 0))) return) skip) (rest g)));
 }
 
 -- its promise
@@ -198,36 +203,36 @@ module _ (g : Searched) (law : Laws g) {M : Type 1} (𝓤 : URA M) (H : Heap �
 
     -- The loop
 
-    module _ (few : g .count h ≤ g .many) where
+    module _ (few : count g h ≤ many g) where
       -- the place that it has come to
       abbrev Upto : Type 0
-      Upto = (i : ℕ) × (i ≤ g .count h) × (reached g h t i ≡ place-of g h t)
+      Upto = (i : ℕ) × (i ≤ count g h) × (reached g h t i ≡ place-of g h t)
 
       abbrev Nearer : Upto → Upto → Type 0
-      Nearer v u = g .count h - v .0 < g .count h - u .0
+      Nearer v u = count g h - v .0 < count g h - u .0
 
       Nearer-wf : WellFounded Nearer
-      Nearer-wf = InvImage·wf (λ (u : Upto). g .count h - u .0) (Nat·lt-wfRel .wf)
+      Nearer-wf = InvImage·wf (λ (u : Upto). count g h - u .0) (Nat·lt-wfRel .wf)
 
-      module _ (u : Upto) (less : u .0 < g .count h) where
-        inside : u .0 < g .many
+      module _ (u : Upto) (less : u .0 < count g h) where
+        inside : u .0 < many g
         inside = omega (arith, less, few)
 
         fits : u .0 + 1 < 2 ^ 64
         fits = law .below (u .0 + 1) (omega (arith, less, few))
 
-        further : u .0 + 1 ≤ g .count h
+        further : u .0 + 1 ≤ count g h
         further = omega (arith, less)
 
         abbrev next : eqb (number g h (u .0)) t ≡ false → Upto
         next e = (u .0 + 1, further, sym (next-one g law h was few t (u .0) less e) ∙ u .2)
 
         nearer : (e : eqb (number g h (u .0)) t ≡ false) → Nearer (next e) u
-        nearer e = add-one-dec (g .count h) (u .0) less
+        nearer e = add-one-dec (count g h) (u .0) less
 
       -- what the loop keeps: the borrow, open; _10; …; .. _0; …; res
       abbrev At : Upto → List (Item 𝓤)
-      At u = ‵ (fat q′ T′.mir b o (sv h)) ∷ ‵ (T.the-row .own h (sv h ∷ [])) ∷ ‵ (fobor κ q (partAt T.the-row q′ h b o)) ∷ ‵ (fshr-bor κ (λ s. partAt T.the-row s h b o)) ∷ ‵ (froom (tyInt w32) l₁₀ 0) ∷ ‵ (fdies (tyInt w32) l₁₀) ∷ ‵ (froom tyPtr l₉ 0) ∷ ‵ (fdies tyPtr l₉) ∷ ‵ (froom tyPtr l₈ 0) ∷ ‵ (fdies tyPtr l₈) ∷ ‵ (froom (tyInt w64) l₇ 0) ∷ ‵ (fdies (tyInt w64) l₇) ∷ ‵ (froom tyBool l₆ 0) ∷ ‵ (fdies tyBool l₆) ∷ ‵ (froom tyBool l₅ 0) ∷ ‵ (fdies tyBool l₅) ∷ ‵ (fat fullShare (tyInt w64) l₄ 0 (vint w64 (u .0))) ∷ ‵ (fdies (tyInt w64) l₄) ∷ ‵ (fat fullShare (tyInt w64) l₃ 0 (vint w64 (g .count h))) ∷ ‵ (fdies (tyInt w64) l₃) ∷ ‵ (fat fullShare (tyInt w32) l₂ 0 (vint w32 t)) ∷ ‵ (fdies (tyInt w32) l₂) ∷ ‵ (fat fullShare refTy l₁ 0 (vptr b o)) ∷ ‵ (fdies refTy l₁) ∷ ‵ (froom (tyInt w64) l₀ 0) ∷ ‵ (fdies (tyInt w64) l₀) ∷ ‵ (fres γ (T.the-row .coded .code h)) ∷ []
+      At u = ‵ (fat q′ T′.mir b o (sv h)) ∷ ‵ (T.the-row .own h (sv h ∷ [])) ∷ ‵ (fobor κ q (partAt T.the-row q′ h b o)) ∷ ‵ (fshr-bor κ (λ s. partAt T.the-row s h b o)) ∷ ‵ (froom (tyInt w32) l₁₀ 0) ∷ ‵ (fdies (tyInt w32) l₁₀) ∷ ‵ (froom tyPtr l₉ 0) ∷ ‵ (fdies tyPtr l₉) ∷ ‵ (froom tyPtr l₈ 0) ∷ ‵ (fdies tyPtr l₈) ∷ ‵ (froom (tyInt w64) l₇ 0) ∷ ‵ (fdies (tyInt w64) l₇) ∷ ‵ (froom tyBool l₆ 0) ∷ ‵ (fdies tyBool l₆) ∷ ‵ (froom tyBool l₅ 0) ∷ ‵ (fdies tyBool l₅) ∷ ‵ (fat fullShare (tyInt w64) l₄ 0 (vint w64 (u .0))) ∷ ‵ (fdies (tyInt w64) l₄) ∷ ‵ (fat fullShare (tyInt w64) l₃ 0 (vint w64 (count g h))) ∷ ‵ (fdies (tyInt w64) l₃) ∷ ‵ (fat fullShare (tyInt w32) l₂ 0 (vint w32 t)) ∷ ‵ (fdies (tyInt w32) l₂) ∷ ‵ (fat fullShare refTy l₁ 0 (vptr b o)) ∷ ‵ (fdies refTy l₁) ∷ ‵ (froom (tyInt w64) l₀ 0) ∷ ‵ (fdies (tyInt w64) l₀) ∷ ‵ (fres γ (T.the-row .coded .code h)) ∷ []
 
       abbrev Turned : Upto → Out → SProp 𝓤
       Turned u = afterTurn 𝓤 H (Below 𝓤 H A Nearer At u) (afterBlock 𝓤 H (afterSeq 𝓤 H (Wp 𝓤 H C Λ En after (atReturn 𝓤 H En Ends)) (atReturn 𝓤 H En Ends)))
@@ -236,13 +241,13 @@ module _ (g : Searched) (law : Laws g) {M : Type 1} (𝓤 : URA M) (H : Heap �
       unfolding afterTurn
       turns u =
           assigns ! (bin ! (load ! (from ! (stop !)) (look ! 16 refl)) (load ! (from ! (stop !)) (look ! 18 refl)) tt) (from ! (stop !)) (init ! 12 refl (tt, tt)) $
-          decide (ltb (u .0) (g .count h))
-          (λ e. let less = ltb→lt (u .0) (g .count h) (reflected e) in
+          decide (ltb (u .0) (count g h))
+          (λ e. let less = ltb→lt (u .0) (count g h) (reflected e) in
           rewrite ! 12 (λ (y : Bool). ‵ (fat fullShare tyBool l₆ 0 (vbool y))) e refl $ stays ! (load ! (from ! (stop !)) (look ! 12 refl)) $
           assigns ! (bin ! (load ! (from ! (stop !)) (look ! 16 refl)) (lit ! (law .wide-fits)) (record { fits = law .low (u .0) (inside u less) })) (from ! (stop !)) (init ! 10 refl (tt, record { fits = law .low (u .0) (inside u less) })) $
-          assigns ! (addr ! (from ! (hop ! (look ! 22 refl) (law .at-array !)))) (from ! (stop !)) (init ! 8 refl (tt, tt)) $
+          assigns ! (addr ! (from ! (hop ! (look ! 22 refl) (at-array ! (g .array))))) (from ! (stop !)) (init ! 8 refl (tt, tt)) $
           assigns ! (bin ! (load ! (from ! (stop !)) (look ! 8 refl)) (load ! (from ! (stop !)) (look ! 10 refl)) tt) (from ! (stop !)) (init ! 6 refl (tt, tt)) $
-          assigns ! (of-opd ! (load ! (from ! (hop ! (look ! 6 refl) (law .at-number !))) (law .read-number ! h was (u .0) (inside u less)))) (from ! (stop !)) (init ! 4 refl (tt, record { fits = law .small h was (u .0) (inside u less) })) $
+          assigns ! (of-opd ! (load ! (from ! (hop ! (look ! 6 refl) (fld ! (law .is-number) (stop !)))) (law .read-number ! h was (u .0) (inside u less)))) (from ! (stop !)) (init ! 4 refl (tt, record { fits = law .small h was (u .0) (inside u less) })) $
           assigns ! (bin ! (load ! (from ! (stop !)) (look ! 4 refl)) (load ! (from ! (stop !)) (look ! 20 refl)) tt) (from ! (stop !)) (store ! 12 refl (tt, tt)) $
           first ! $ branches ! (load ! (from ! (stop !)) (look ! 12 refl))
           (λ y. assigns ! (of-opd ! (load ! (from ! (stop !)) (look ! 16 refl))) (from ! (stop !)) (init ! 24 refl (tt, record { fits = omega (arith, fits u less) })) $
@@ -251,14 +256,14 @@ module _ (g : Searched) (law : Laws g) {M : Type 1} (𝓤 : URA M) (H : Heap �
           (λ n. skips ! $ exec ! C Λ En step (anyQ (Turned u)) $
           assigns-last ! (bin ! (load ! (from ! (stop !)) (look ! 16 refl)) (lit ! tt) (record { fits = fits u less })) (from ! (stop !)) (store ! 16 refl (tt, record { fits = fits u less })) $
           forget ! 4 refl $ forget ! 6 refl $ forget ! 8 refl $ forget ! 10 refl $ forget ! 12 refl $ again ! Nearer At u (next u less (is-false _ n)) (nearer u less (is-false _ n))))
-          (λ e. let over : u .0 ≡ g .count h = omega (arith, u .1, nltb→le (u .0) (g .count h) (refuted e)) in
+          (λ e. let over : u .0 ≡ count g h = omega (arith, u .1, nltb→le (u .0) (count g h) (refuted e)) in
           rewrite ! 12 (λ (y : Bool). ‵ (fat fullShare tyBool l₆ 0 (vbool y))) e refl $ leaves-loop ! (load ! (from ! (stop !)) (look ! 12 refl)) $ exec ! C Λ En after (atRet En Ends) $
-          assigns ! (of-opd ! (load ! (from ! (stop !)) (look ! 18 refl))) (from ! (stop !)) (init ! 24 refl (tt, record { fits = law .counted h was })) $
+          assigns ! (of-opd ! (load ! (from ! (stop !)) (look ! 18 refl))) (from ! (stop !)) (init ! 24 refl (tt, record { fits = g .counter .good h was .1 })) $
           forget ! 12 refl $ forget ! 16 refl $ forget ! 18 refl $
-          leaves (g .count h) (law .counted h was) (λ w. sym (at-end g law h was few t (u .0) over) ∙ u .2) _ refl)
+          leaves (count g h) (g .counter .good h was .1) (λ w. sym (at-end g law h was few t (u .0) over) ∙ u .2) _ refl)
 
-      looped : Sq W (At (0, omega arith, reach-start (has g t) (g .list h) (g .count h))) (runs C Λ En (looping g) (atRet En Ends))
-      looped = first ! $ blocks ! $ loops ! 𝓣 Nearer Nearer-wf At turns (0, omega arith, reach-start (has g t) (g .list h) (g .count h))
+      looped : Sq W (At (0, omega arith, reach-start (has g t) (list g h) (count g h))) (runs C Λ En (looping g) (atRet En Ends))
+      looped = first ! $ blocks ! $ loops ! 𝓣 Nearer Nearer-wf At turns (0, omega arith, reach-start (has g t) (list g h) (count g h))
 
   walk : (𝓣 : Tables 𝓤 H) → ent 𝓤 (onEntry 𝓤 H A shape.signature (κ, tt) (q, tt) x at) (WpFn 𝓤 H (𝓣 .C) (𝓣 .Λ) (function g) (vptr b o ∷ vint w32 t ∷ []) Ends)
   walk 𝓣 =
@@ -270,14 +275,14 @@ module _ (g : Searched) (law : Laws g) {M : Type 1} (𝓤 : URA M) (H : Heap �
       move ! (1 ∷ []) $ peeks ! T.the-row (Is T.the-row) (shows 𝓤 H A T.the-row) h (LL.vals T.the-type T′.the-laws h) (λ was. move ! (1 ∷ 0 ∷ []) $
       use1 W (‵ (fat q′ T′.mir b o (sv h))) (W .laws .raw-at q′ T′.mir b o (sv h)) $
       -- [a share of the session's cell; what it owns; what shuts it; the fractured borrow; _10; …; .. _0; …; res; …]
-      assigns ! (of-opd ! (load ! (from ! (hop ! (look ! 22 refl) (law .at-counter !))) (law .read-counter ! h))) (from ! (stop !)) (init ! 18 refl (tt, record { fits = law .counted h was })) $
+      assigns ! (of-opd ! (load ! (from ! (hop ! (look ! 22 refl) (at-held ! (g .counter)))) (read-held ! (g .counter) h))) (from ! (stop !)) (init ! 18 refl (tt, record { fits = g .counter .good h was .1 })) $
       assigns ! (bin ! (lit ! (law .many-fits)) (load ! (from ! (stop !)) (look ! 18 refl)) tt) (from ! (stop !)) (init ! 14 refl (tt, tt)) $
       first ! $ branches ! (load ! (from ! (stop !)) (look ! 14 refl))
       (λ y. assigns ! (of-opd ! (lit ! tt)) (from ! (stop !)) (init ! 24 refl (tt, record { fits = omega arith })) $ forget ! 14 refl $ forget ! 18 refl $
-      keep ! (0 ∷ 1 ∷ 2 ∷ 3 ∷ 4 ∷ 5 ∷ 6 ∷ 7 ∷ 8 ∷ 9 ∷ 10 ∷ 11 ∷ 12 ∷ 13 ∷ 14 ∷ 15 ∷ 16 ∷ 17 ∷ 18 ∷ 19 ∷ 20 ∷ 21 ∷ 22 ∷ 23 ∷ 24 ∷ 25 ∷ 26 ∷ []) $ leaves was 𝓣 q′ l₀ l₁ l₂ l₃ l₄ l₅ l₆ l₇ l₈ l₉ l₁₀ 0 (omega arith) (λ w. absurd (omega (arith, law .guards h w, ltb→lt (g .many) (g .count h) y))) _ refl)
+      keep ! (0 ∷ 1 ∷ 2 ∷ 3 ∷ 4 ∷ 5 ∷ 6 ∷ 7 ∷ 8 ∷ 9 ∷ 10 ∷ 11 ∷ 12 ∷ 13 ∷ 14 ∷ 15 ∷ 16 ∷ 17 ∷ 18 ∷ 19 ∷ 20 ∷ 21 ∷ 22 ∷ 23 ∷ 24 ∷ 25 ∷ 26 ∷ []) $ leaves was 𝓣 q′ l₀ l₁ l₂ l₃ l₄ l₅ l₆ l₇ l₈ l₉ l₁₀ 0 (omega arith) (λ w. absurd (omega (arith, law .guards h w, ltb→lt (many g) (count g h) y))) _ refl)
       (λ n. skips ! $ exec ! (𝓣 .C) (𝓣 .Λ) (En was 𝓣 q′ l₀ l₁ l₂ l₃ l₄ l₅ l₆ l₇ l₈ l₉ l₁₀) (rest g) (atRet (En was 𝓣 q′ l₀ l₁ l₂ l₃ l₄ l₅ l₆ l₇ l₈ l₉ l₁₀) Ends) $
       assigns ! (of-opd ! (lit ! tt)) (from ! (stop !)) (init ! 16 refl (tt, record { fits = omega arith })) $ forget ! 14 refl $
-      keep ! (0 ∷ 1 ∷ 2 ∷ 3 ∷ 4 ∷ 5 ∷ 6 ∷ 7 ∷ 8 ∷ 9 ∷ 10 ∷ 11 ∷ 12 ∷ 13 ∷ 14 ∷ 15 ∷ 16 ∷ 17 ∷ 18 ∷ 19 ∷ 20 ∷ 21 ∷ 22 ∷ 23 ∷ 24 ∷ 25 ∷ 26 ∷ []) $ looped was 𝓣 q′ l₀ l₁ l₂ l₃ l₄ l₅ l₆ l₇ l₈ l₉ l₁₀ (nltb→le (g .many) (g .count h) n)))))))))))))))
+      keep ! (0 ∷ 1 ∷ 2 ∷ 3 ∷ 4 ∷ 5 ∷ 6 ∷ 7 ∷ 8 ∷ 9 ∷ 10 ∷ 11 ∷ 12 ∷ 13 ∷ 14 ∷ 15 ∷ 16 ∷ 17 ∷ 18 ∷ 19 ∷ 20 ∷ 21 ∷ 22 ∷ 23 ∷ 24 ∷ 25 ∷ 26 ∷ []) $ looped was 𝓣 q′ l₀ l₁ l₂ l₃ l₄ l₅ l₆ l₇ l₈ l₉ l₁₀ (nltb→le (many g) (count g h) n)))))))))))))))
 
 module _ (g : Searched) (law : Laws g) {M : Type 1} (𝓤 : URA M) (H : Heap 𝓤) (A : Atoms 𝓤) (W : Given 𝓤 H A) where
   walks : (𝓣 : Tables 𝓤 H) → Walks 𝓤 H A shape.ended stayed (WpFn 𝓤 H (𝓣 .C) (𝓣 .Λ) (function g)) (clauses g 𝓤)
