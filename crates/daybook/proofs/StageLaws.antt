@@ -1,5 +1,5 @@
 -- What a list's answers tell of its stage, as the rules say it of the book's own answers.
-use Prim.Native.Nat.{ℕ, min}
+use Prim.Native.Nat.{ℕ}
 use mathlib.Core.Path.{_≡_, refl, ap, sym}
 use mathlib.Core.List.{List, [], _∷_, map}
 use native.Mathlib.Omega.{arith}
@@ -28,9 +28,9 @@ rest (w ∷ ws) = ws
 -- and where no other answer is told so, it is that answer
 got-told : {c : D.Call} (a : D.Answer) {cs : List D.Call} (rs : List D.Answer) {ws : List Response} {w : Response}
     → ((x : D.Answer) → told x ≡ w → x ≡ a) → ws ≡ map told rs → Got c w cs ws → Got c a cs rs
-got-told a [] only f now = let z : _≡_ {A = ℕ} 1 0 = ap (λ (l : List Response). min 1 (length l)) f in absurd (omega arith)
+got-told a [] only f now = absurd (omega (arith, ap (λ (l : List Response). length l) f))
 got-told a (x ∷ rs) only f now = let k : x ≡ a = only x (sym (ap first f)) in rw k now
-got-told a [] only f (next g) = let z : _≡_ {A = ℕ} 1 0 = ap (λ (l : List Response). min 1 (length l)) f in absurd (omega arith)
+got-told a [] only f (next g) = absurd (omega (arith, ap (λ (l : List Response). length l) f))
 got-told a (x ∷ rs) only f (next g) = next (got-told a rs only (ap rest f) g)
 
 only-done : (x : D.Answer) → told x ≡ accepted → x ≡ D.done

@@ -13,7 +13,7 @@ same-length : tie.Need-same-length
 same-length c = search needs
 
 returns : tie.Need-returns
-returns c = replays-opened _ _ _ _ _ _ _ (c .before .before .before .before .before .before .«open» .ensures) (c .before .before .before .replay-on .ensures)
+returns c = replays-opened _ _ _ _ _ _ _ (c .before .before .before .before .before .before .before .«open» .ensures) (c .before .before .before .replay-on .ensures)
 
 pub replay-spec : {M : Type 1} → statement M
 replay-spec = tie.close (tie.spec open-requires replay-on-requires same-length returns)

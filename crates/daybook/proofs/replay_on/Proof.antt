@@ -45,19 +45,19 @@ answer-word-requires : tie.Need-answer-word-requires Inv-loop μ-loop
 answer-word-requires c κs = search needs
 
 mul-answers : tie.Need-mul-answers Inv-loop μ-loop
-mul-answers c = let g = c .before .before .before .before .before .before .before .before .before .before .before .before .good in let k = c .before .before .before .before .before .before .before .before .before .loop .inv .1 in record { fits = omega arith }
+mul-answers c = let g = c .before .before .before .before .before .before .before .before .before .before .before .before .before .good in let k = c .before .before .before .before .before .before .before .before .before .before .loop .inv .1 in record { fits = omega arith }
 
 slice-write-answers : tie.Need-slice-write-answers Inv-loop μ-loop
 slice-write-answers c = search needs
 
 add-calls : tie.Need-add-calls Inv-loop μ-loop
-add-calls c = let g = c .before .before .before .before .before .before .before .before .before .before .before .before .good in let k = c .before .before .before .before .before .before .before .before .before .loop .inv .1 in record { fits = omega arith }
+add-calls c = let g = c .before .before .before .before .before .before .before .before .before .before .before .before .before .good in let k = c .before .before .before .before .before .before .before .before .before .before .loop .inv .1 in record { fits = omega arith }
 
 loop-less : tie.Need-loop-less Inv-loop μ-loop
 loop-less c = search needs
 
 loop-again : tie.Need-loop-again Inv-loop μ-loop
-loop-again c = (omega arith, (simp length-set) ∙ c .before .before .before .before .before .before .before .before .before .loop .inv .1, let k = c .before .before .before .before .before .before .before .record-at .ensures .1 (not-false (c .before .before .before .before .before .before .before .record-at .result .whole) (c .before .before .before .before .before .if1 .left)) .2 in omega arith, λ b g e. running-on b _ _ _ _ _ _ _ _ _ _ _ _ _ (c .before .before .before .before .before .before .before .before .before .loop .inv .3 b g e) (omega arith) (not-false (c .before .before .before .before .before .before .before .record-at .result .whole) (c .before .before .before .before .before .if1 .left)) (c .before .before .before .before .before .before .before .record-at .ensures .0) (c .before .before .before .before .before .before .before .record-at .ensures .1 (not-false (c .before .before .before .before .before .before .before .record-at .result .whole) (c .before .before .before .before .before .if1 .left))) refl refl (c .before .before .run .ensures) (c .answer-word .ensures))
+loop-again c = (omega arith, (simp length-set) ∙ c .before .before .before .before .before .before .before .before .before .before .loop .inv .1, let k = c .before .before .before .before .before .before .before .before .record-at .ensures .1 (not-false (c .before .before .before .before .before .before .before .before .record-at .result .whole) (c .before .before .before .before .before .before .if1 .left)) .2 in omega arith, λ b g e. running-on b _ _ _ _ _ _ _ _ _ _ _ _ _ (c .before .before .before .before .before .before .before .before .before .before .loop .inv .3 b g e) (omega arith) (not-false (c .before .before .before .before .before .before .before .before .record-at .result .whole) (c .before .before .before .before .before .before .if1 .left)) (c .before .before .before .before .before .before .before .before .record-at .ensures .0) (c .before .before .before .before .before .before .before .before .record-at .ensures .1 (not-false (c .before .before .before .before .before .before .before .before .record-at .result .whole) (c .before .before .before .before .before .before .if1 .left))) refl refl (c .before .before .before .run .ensures) (c .answer-word .ensures))
 
 same-length : tie.Need-same-length Inv-loop μ-loop
 same-length c = search needs
