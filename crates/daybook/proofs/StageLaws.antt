@@ -10,7 +10,7 @@ use Rattle.rules.specs.Demands.{Got, now, next}
 use Rattle.rules.specs.Demands as M
 use Rattle.answer.specs.Told.{told, accepted, steps}
 use Rattle.answer.specs.declared.Response.{Response}
-use Rattle.daybook.specs.Demand3.{ClosingAccepted, ClearingAccepted, Staged}
+use Rattle.daybook.specs.Demand3.{ClosingAccepted, Staged}
 
 -- an answer that is told is one of the told answers
 told-got : {c : D.Call} {a : D.Answer} {cs : List D.Call} {rs : List D.Answer} → Got c a cs rs → Got c (told a) cs (map told rs)

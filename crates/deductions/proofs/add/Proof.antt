@@ -1,7 +1,8 @@
-use Prim.Native.Nat.{ℕ, _-_, _≤_}
+use Prim.Native.Nat.{ℕ, _*_, _-_, _≤_}
 use mathlib.Core.Path.{refl}
 use lib.ListN.{getD}
 use native.Mathlib.Omega.{arith}
+use Rattle.rules.specs.Units.{maxEnergy}
 use Rattle.deductions.specs.Deductions.{moreAt}
 use Rattle.arrays.proofs.LayLaws.{Laying, laying-start, laying-next, laying-end, set-behind}
 use borrow.Author.Needs.{needs}
@@ -9,7 +10,7 @@ use Rattle.deductions.proofs.add.Statement.{statement}
 use Rattle.deductions.proofs.add.Tie as tie
 
 abbrev Inv-loop : tie.InvT-loop
-Inv-loop sums₀ n deductions i₀ sums i = Laying (moreAt deductions) n sums₀ sums i × ((j : ℕ) → i ≤ j → getD sums j 0 ≤ 899991)
+Inv-loop sums₀ n deductions i₀ sums i = Laying (moreAt deductions) n sums₀ sums i × ((j : ℕ) → i ≤ j → getD sums j 0 ≤ 9 * maxEnergy)
 
 abbrev μ-loop : tie.MeasureT-loop
 μ-loop sums₀ n deductions i₀ sums i = n - i
@@ -19,7 +20,7 @@ add-sums c = let l = c .before .before .before .loop in omega (arith, l .inv .1 
 
 loop-again : tie.Need-loop-again Inv-loop μ-loop
 unfolding moreAt
-loop-again c = let l = c .before .before .before .loop in (laying-next (omega arith) refl (l .inv .0), set-behind 899991 (l .i) _ (l .sums) (l .inv .1))
+loop-again c = let l = c .before .before .before .loop in (laying-next (omega arith) refl (l .inv .0), set-behind (9 * maxEnergy) (l .i) _ (l .sums) (l .inv .1))
 
 returns : tie.Need-returns Inv-loop μ-loop
 returns c = laying-end (omega arith) (c .before .loop .inv .0)
