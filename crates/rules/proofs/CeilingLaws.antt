@@ -55,7 +55,7 @@ pub over-limits : (ls : Lines) (r : Registered) → Bound (ceiling ls r) (limits
 unfolding ceiling limits ownLimits maximumLimit
 over-limits ls r = over-least (λ h. r .unit .maximum) (maximumLimit r) (availableLimit r ∷ borderLimits ls r) (λ h. refl)
 
--- each has a number of the table
+-- none has the number 0, which stands for no refusal
 pub limits-numbered : (ls : Lines) (r : Registered) → All (λ l. eqb (l .number) 0 ≡ false) (limits ls r)
 unfolding limits ownLimits borderLimits maximumLimit availableLimit borderLimit
 limits-numbered ls r = more refl (more refl (more refl none))

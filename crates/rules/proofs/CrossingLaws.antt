@@ -1,5 +1,5 @@
 -- What an energy counts for at its border, and what is left of it when some of that is taken. The laws of flows, steps and cuts
--- rest on the facts here: only this file opens `atBorder` and `keeps`.
+-- rest on the facts here: of this crate only this file opens `atBorder` and `keeps`.
 use Prim.Native.Nat.{ℕ, zero, suc, _+_, _-_, _≤_, _<_}
 use mathlib.Core.Path.{_≡_, refl}
 use native.Mathlib.Omega.{arith}

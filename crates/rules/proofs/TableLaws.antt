@@ -10,21 +10,21 @@ use lib.ListN.{length}
 use borrow.Author.Tests.{leb-true, ltb-true}
 use Rattle.rules.specs.Lists.{All, none, more, here, there, Pairwise, empty, ahead}
 use Rattle.rules.specs.Refusals.{Row, row, limitRow, firstRow, tableOrder, placeIn, placeOf, refused, unless, outcome}
-use Rattle.rules.specs.Hours.{dateRow}
+use Rattle.rules.specs.Hours.{Date, dateRow, hoursAt, clockRows, clockAt, hourRows, hourAt}
 use Rattle.rules.specs.Units.{Registered, Lines, maximumLimit, availableLimit, borderLimit, ownLimits, borderLimits, limits}
-use Rattle.rules.specs.Message.{readRows, writeRows, messageOf}
+use Rattle.rules.specs.Message.{readRows, read, writeRows, write, messageOf}
 use Rattle.rules.specs.Lodging.{limitRows, judgedBy}
 use Rattle.rules.specs.Book.{Book}
 use Rattle.rules.specs.Queries.{Query, verdict, matched, executed, market, bilateral, marketMax, bilateralMax, price, figureRows, unitRows, borderRows, queryRows, shown, query}
-use Rattle.rules.specs.DayBook.{Call, register, capacity, available, lodge, annul, close, clear, Answer, refusal, done, numbered, steps, changeRow, gateRow, lodgeRows, callRows, rowsOf, reply, turned, turn}
-use Rattle.rules.specs.Table.{Ordered, RefusedBy, InTableOrder}
+use Rattle.rules.specs.DayBook.{Call, register, capacity, available, lodge, annul, close, clear, Answer, refusal, done, numbered, steps, changeRow, gateRow, lodgeRows, callRows, rowsOf, reply, turned, turn, openedWith, opening}
+use Rattle.rules.specs.Table.{Ordered, RefusedBy, Refuses, InTableOrder}
 use Rattle.rules.proofs.BoolLaws.{by-bool, both, not-both}
 use Rattle.rules.proofs.ListLaws.{all-map}
 use Rattle.rules.proofs.RefusalLaws.{given-row}
 
 -- Rows in order, by a test of their places
 
--- each place is of the table and above the one before
+-- each number is within the table and above the one before
 unfoldable rise : ℕ → List ℕ → Bool
 rise p [] = true
 rise p (q ∷ qs) = ltb p q && leb q (length tableOrder) && rise q qs
@@ -36,18 +36,26 @@ rise-facts p q qs h =
     let b = both (ltb p q) (leb q (length tableOrder)) (a .0) in
     (ltb-true p q (b .0), leb-true q (length tableOrder) (b .1), a .1)
 
-rise-above : (p : ℕ) (rows : List Row) → rise p (map placeOf rows) ≡ true → All (λ r. p < placeOf r) rows
-rise-above p [] h = none
-rise-above p (r ∷ rows) h =
+rise-above : {A : Type 0} (f : A → ℕ) (p : ℕ) (xs : List A) → rise p (map f xs) ≡ true → All (λ x. p < f x) xs
+rise-above f p [] h = none
+rise-above f p (x ∷ xs) h =
+    let a = rise-facts p (f x) (map f xs) h in
+    more {x = x} (a .0) (all-map (λ q k. omega (arith, a .0, k)) (rise-above f (f x) xs (a .2)))
+
+rise-pairs : {A : Type 0} (f : A → ℕ) (p : ℕ) (xs : List A) → rise p (map f xs) ≡ true → Pairwise (λ x y. f x < f y) xs
+rise-pairs f p [] h = empty
+rise-pairs f p (x ∷ xs) h =
+    let a = rise-facts p (f x) (map f xs) h in
+    ahead (rise-above f (f x) xs (a .2)) (rise-pairs f (f x) xs (a .2))
+
+rise-known : (p : ℕ) (rows : List Row) → rise p (map placeOf rows) ≡ true → All (λ r. placeOf r ≤ length tableOrder) rows
+rise-known p [] h = none
+rise-known p (r ∷ rows) h =
     let a = rise-facts p (placeOf r) (map placeOf rows) h in
-    more {x = r} (a .0) (all-map (λ q k. omega (arith, a .0, k)) (rise-above (placeOf r) rows (a .2)))
+    more {x = r} (a .1) (rise-known (placeOf r) rows (a .2))
 
 rise-ordered : (p : ℕ) (rows : List Row) → rise p (map placeOf rows) ≡ true → Ordered rows
-rise-ordered p [] h = record { known = none; rising = empty }
-rise-ordered p (r ∷ rows) h =
-    let a = rise-facts p (placeOf r) (map placeOf rows) h in
-    let rest = rise-ordered (placeOf r) rows (a .2) in
-    record { known = more {x = r} (a .1) (rest .known); rising = ahead (rise-above (placeOf r) rows (a .2)) (rest .rising) }
+rise-ordered p rows h = record { known = rise-known p rows h; rising = rise-pairs placeOf p rows h }
 
 -- Each call's
 
@@ -140,25 +148,36 @@ refused-call b c n h e = go (firstRow (rowsOf b c)) refl e
     go nothing f e = let z : _≡_ {A = ℕ} 0 1 = sym (accepted-reply b c) ∙ ap refuses e in absurd (omega arith)
     go (some r) f e = refused-by (rowsOf b c) r n h (call-ordered b c) f (cc) (cc)
 
-refused-query : (b : Book) (q : Query) (n h : ℕ) → query b q ≡ refused n h → RefusedBy (queryRows b q) n h
-unfolding query outcome unless
-refused-query b q n h e = go (firstRow (queryRows b q)) refl e
+-- a value that is asked for
+refused-outcome : {A : Type 0} (rows : List Row) (a : A) → Ordered rows → Refuses rows (λ n h. outcome rows a ≡ refused n h)
+unfolding outcome unless
+refused-outcome {A} rows a o = record { ordered = o; lowest = λ n h e. go n h (firstRow rows) refl e }
   where
-    go : (o : Option Row) → firstRow (queryRows b q) ≡ o → unless o (shown b q) ≡ refused n h → RefusedBy (queryRows b q) n h
-    go nothing f e = let z : _≡_ {A = ℕ} 0 1 = cc in absurd (omega arith)
-    go (some r) f e = refused-by (queryRows b q) r n h (query-ordered b q) f (cc) (cc)
+    go : (n h : ℕ) (f : Option Row) → firstRow rows ≡ f → unless f a ≡ refused n h → RefusedBy rows n h
+    go n h nothing f e = let z : _≡_ {A = ℕ} 0 1 = cc in absurd (omega arith)
+    go n h (some r) f e = refused-by rows r n h o f (cc) (cc)
+
+-- opening: a date that is one is answered by no refusal
+refused-opening : (d : Date) → Ordered (dateRow d ∷ []) → Refuses (dateRow d ∷ []) (λ n h. opening d .answer ≡ refusal n h)
+unfolding opening openedWith
+refused-opening d o = record { ordered = o; lowest = λ n h e. go n h (firstRow (dateRow d ∷ [])) refl e }
+  where
+    go : (n h : ℕ) (f : Option Row) → firstRow (dateRow d ∷ []) ≡ f → openedWith d f .answer ≡ refusal n h → RefusedBy (dateRow d ∷ []) n h
+    go n h nothing f e = let z : _≡_ {A = ℕ} 0 1 = ap refuses e in absurd (omega arith)
+    go n h (some r) f e = refused-by (dateRow d ∷ []) r n h o f (cc) (cc)
 
 pub in-table-order : InTableOrder
-unfolding rise row limitRow placeOf placeIn tableOrder dateRow limitRows limits ownLimits borderLimits maximumLimit availableLimit borderLimit readRows writeRows
+unfolding rise row limitRow placeOf placeIn tableOrder dateRow clockRows hourRows limitRows limits ownLimits borderLimits maximumLimit availableLimit borderLimit readRows writeRows hoursAt clockAt hourAt read write query
 in-table-order =
     record {
-      dates = λ d. rise-ordered 0 _ refl;
-      clocks = λ d lacks. rise-ordered 0 _ refl;
-      calls = call-ordered;
-      queries = query-ordered;
+      numbers = rise-pairs (λ n. n) 0 tableOrder refl;
+      opens = λ d. refused-opening d (rise-ordered 0 _ refl);
+      hours = λ d. refused-outcome _ _ (rise-ordered 0 (dateRow d ∷ []) refl);
+      clocks = λ d hour. refused-outcome _ _ (rise-ordered 0 (clockRows d hour) refl);
+      names = λ d c. refused-outcome _ _ (rise-ordered 0 (hourRows d c) refl);
+      reading = λ bytes. refused-outcome _ _ (rise-ordered 0 (readRows bytes) refl);
+      writing = λ room m. refused-outcome _ _ (rise-ordered 0 (writeRows room m) refl);
+      calls = λ b c. record { ordered = call-ordered b c; lowest = refused-call b c };
+      queries = λ b q. refused-outcome _ _ (query-ordered b q);
       verdicts = λ H named load ls r. rise-ordered 0 _ refl;
-      reading = λ bytes. rise-ordered 0 _ refl;
-      writing = λ room m. rise-ordered 0 _ refl;
-      refusedCall = refused-call;
-      refusedQuery = refused-query;
     }

@@ -1,7 +1,7 @@
 -- "Hours of the day": dates, the number of hours of a day, clock names.
 use Prim.Native.Nat.{ℕ, zero, suc, _+_, _*_, _-_, _/_, _%_}
 use mathlib.Core.Bool.{Bool, cond, not, _&&_, _||_, Bool·beq}
-use mathlib.Core.List.{[], _∷_}
+use mathlib.Core.List.{List, [], _∷_}
 use lib.Dec.{leb, ltb, eqb}
 use Rattle.rules.specs.Lists.{lowest}
 use Rattle.rules.specs.Refusals.{Row, row, Outcome, outcome}
@@ -84,13 +84,19 @@ unfoldable pub hoursAt : Date → Outcome ℕ
 hoursAt d = outcome (dateRow d ∷ []) (hoursOf d)
 
 -- the clock name and mark of an hour of a date. 4, hour: "hour outside 1 to H"
+unfoldable pub clockRows : Date → ℕ → List Row
+clockRows d h = dateRow d ∷ row 4 (notAnHour (hoursOf d) h) ∷ []
+
 unfoldable pub clockAt : Date → ℕ → Outcome Clock
-clockAt d h = outcome (dateRow d ∷ row 4 (notAnHour (hoursOf d) h) ∷ []) (clockOf (hoursOf d) h)
+clockAt d h = outcome (clockRows d h) (clockOf (hoursOf d) h)
 
 -- the hour of a clock name and mark of a date. 4, hour: "clock name the day lacks"
+unfoldable pub hourRows : Date → Clock → List Row
+hourRows d c = dateRow d ∷ row 4 (eqb (hourOf (hoursOf d) c) 0) ∷ []
+
 unfoldable pub hourAt : Date → Clock → Outcome ℕ
-hourAt d c = outcome (dateRow d ∷ row 4 (eqb (hourOf (hoursOf d) c) 0) ∷ []) (hourOf (hoursOf d) c)
+hourAt d c = outcome (hourRows d c) (hourOf (hoursOf d) c)
 
 unfoldable pub Hours·all : Unit {0}
-unfolding leap daysOfMonth isDate daysBefore dayNumber lastSunday hoursOf clockName clockOf sameClock hourOf notAnHour dateRow hoursAt clockAt hourAt
+unfolding leap daysOfMonth isDate daysBefore dayNumber lastSunday hoursOf clockName clockOf sameClock hourOf notAnHour dateRow hoursAt clockRows clockAt hourRows hourAt
 Hours·all = tt

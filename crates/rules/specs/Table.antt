@@ -1,19 +1,19 @@
--- "When the gate says no", of everything that the gate can be asked: its rows stand in the table's order, and a refusal is that of
--- the first row of the table that applies.
+-- "When the gate says no", of everything that the gate can be asked: its rows stand in the table's order, and it is refused by the
+-- first row of the table that applies.
 use Prim.Native.Nat.{ℕ, _≤_, _<_}
 use mathlib.Core.Path.{_≡_}
-use mathlib.Core.Bool.{Bool, true}
+use mathlib.Core.Bool.{true}
 use mathlib.Core.List.{List, [], _∷_}
 use lib.ListN.{length}
 use Rattle.rules.specs.Lists.{All, Some, Pairwise}
-use Rattle.rules.specs.Refusals.{Row, row, tableOrder, placeOf, refused}
-use Rattle.rules.specs.Hours.{Date, dateRow}
+use Rattle.rules.specs.Refusals.{Row, tableOrder, placeOf, refused}
+use Rattle.rules.specs.Hours.{Date, Clock, dateRow, hoursAt, clockRows, clockAt, hourRows, hourAt}
 use Rattle.rules.specs.Units.{Registered, Lines, limits}
-use Rattle.rules.specs.Message.{Fields, readRows, writeRows}
+use Rattle.rules.specs.Message.{Fields, readRows, read, writeRows, write}
 use Rattle.rules.specs.Lodging.{limitRows}
 use Rattle.rules.specs.Book.{Book}
 use Rattle.rules.specs.Queries.{Query, queryRows, query}
-use Rattle.rules.specs.DayBook.{Call, refusal, rowsOf, turn}
+use Rattle.rules.specs.DayBook.{Call, refusal, rowsOf, turn, opening}
 
 -- rows in the table's order: each is one of the table's, and stands there behind those that it follows here
 pub record Ordered (rows : List Row) : Type 0 where
@@ -29,16 +29,24 @@ pub record RefusedBy (rows : List Row) (n h : ℕ) : Type 0 where
   pub applies : given .applies ≡ true
   pub lowest : All (λ r. r .applies ≡ true → placeOf given ≤ placeOf r) rows
 
+-- what is asked, with the rows that it can be refused by and what its being refused by a number and an hour is
+pub record Refuses (rows : List Row) (Refused : ℕ → ℕ → Type 0) : Type 0 where
+  pub ordered : Ordered rows
+  pub lowest : (n h : ℕ) → Refused n h → RefusedBy rows n h
+
 pub record InTableOrder : Type 0 where
-  -- opening and the questions about a date, of which the other row is 4
-  pub dates : (d : Date) → Ordered (dateRow d ∷ [])
-  pub clocks : (d : Date) (lacks : Bool) → Ordered (dateRow d ∷ row 4 lacks ∷ [])
-  pub calls : (b : Book) (c : Call) → Ordered (rowsOf b c)
-  pub queries : (b : Book) (q : Query) → Ordered (queryRows b q)
-  -- a verdict's limits
-  pub verdicts : (H : ℕ) (named : List ℕ) (load : ℕ → ℕ) (ls : Lines) (r : Registered) → Ordered (limitRows H named load (limits ls r))
-  pub reading : (bytes : List ℕ) → Ordered (readRows bytes)
-  pub writing : (room : ℕ) (m : Fields) → Ordered (writeRows room m)
+  -- the table's rows are numbered by their order, so that the first in the table has the lowest number
+  pub numbers : Pairwise _<_ tableOrder
+  -- opening, and the questions about a date
+  pub opens : (d : Date) → Refuses (dateRow d ∷ []) (λ n h. opening d .answer ≡ refusal n h)
+  pub hours : (d : Date) → Refuses (dateRow d ∷ []) (λ n h. hoursAt d ≡ refused n h)
+  pub clocks : (d : Date) (hour : ℕ) → Refuses (clockRows d hour) (λ n h. clockAt d hour ≡ refused n h)
+  pub names : (d : Date) (c : Clock) → Refuses (hourRows d c) (λ n h. hourAt d c ≡ refused n h)
+  -- reader and writer
+  pub reading : (bytes : List ℕ) → Refuses (readRows bytes) (λ n h. read bytes ≡ refused n h)
+  pub writing : (room : ℕ) (m : Fields) → Refuses (writeRows room m) (λ n h. write room m ≡ refused n h)
   -- "A call that breaks a rule is refused by the lowest number that applies", and so is a query
-  pub refusedCall : (b : Book) (c : Call) (n h : ℕ) → turn b c .answer ≡ refusal n h → RefusedBy (rowsOf b c) n h
-  pub refusedQuery : (b : Book) (q : Query) (n h : ℕ) → query b q ≡ refused n h → RefusedBy (queryRows b q) n h
+  pub calls : (b : Book) (c : Call) → Refuses (rowsOf b c) (λ n h. turn b c .answer ≡ refusal n h)
+  pub queries : (b : Book) (q : Query) → Refuses (queryRows b q) (λ n h. query b q ≡ refused n h)
+  -- a verdict's limits ("chosen as below"): `Chosen` of specs/Demands.antt says that the first is given
+  pub verdicts : (H : ℕ) (named : List ℕ) (load : ℕ → ℕ) (ls : Lines) (r : Registered) → Ordered (limitRows H named load (limits ls r))

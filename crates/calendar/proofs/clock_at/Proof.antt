@@ -4,7 +4,7 @@ use lib.Dec.{ltb}
 use borrow.Author.Tests.{eq-eqb, ne-eqb, lt-ltb, le-ltb}
 use borrow.Author.Needs.{needs}
 use Rattle.rules.specs.Refusals.{row, outcome, Refusals·all}
-use Rattle.rules.specs.Hours.{dateRow, notAnHour, clockOf, clockAt}
+use Rattle.rules.specs.Hours.{dateRow, notAnHour, clockOf, clockAt, clockRows}
 use Rattle.calendar.specs.View.{dateIn, namedAs}
 use Rattle.calendar.proofs.clock_at.Statement.{statement}
 use Rattle.calendar.proofs.clock_at.Tie as tie
@@ -13,11 +13,11 @@ is-date-requires : tie.Need-is-date-requires
 is-date-requires c κs = search needs
 
 returns : tie.Need-returns
-unfolding namedAs clockAt dateRow notAnHour Refusals·all
+unfolding namedAs clockAt clockRows dateRow notAnHour Refusals·all
 returns c = rw (← c .before .is-date .ensures, c .if1 .taken)
 
 returns-2 : tie.Need-returns-2
-unfolding namedAs clockAt dateRow notAnHour Refusals·all
+unfolding namedAs clockAt clockRows dateRow notAnHour Refusals·all
 returns-2 c = rw (← c .before .before .is-date .ensures, c .before .if1 .left, eq-eqb _ _ (c .if2 .taken))
 
 hours-of-requires : tie.Need-hours-of-requires
@@ -28,7 +28,7 @@ left : (c : tie.After-hours-of) → (
     let a = c .before .before .before .before .args in
     let H = c .hours-of .result in
     clockAt (dateIn (a .d)) (a .hour) ≡ outcome (row 4 (ltb H (a .hour)) ∷ []) (clockOf H (a .hour)))
-unfolding clockAt dateRow notAnHour Refusals·all
+unfolding clockAt clockRows dateRow notAnHour Refusals·all
 left c =
     rw (
       ← c .before .before .before .is-date .ensures,

@@ -5,7 +5,7 @@ use lib.Dec.{eqb}
 use borrow.Author.Tests.{eq-eqb, ne-eqb}
 use borrow.Author.Needs.{needs}
 use Rattle.rules.specs.Refusals.{row, outcome, Refusals·all}
-use Rattle.rules.specs.Hours.{dateRow, hourAt}
+use Rattle.rules.specs.Hours.{dateRow, hourAt, hourRows}
 use Rattle.rules.proofs.HoursLaws.{hours-least, hours-most}
 use Rattle.calendar.specs.View.{dateIn, clockIn, countedAs}
 use Rattle.calendar.proofs.hour_at.Statement.{statement}
@@ -15,7 +15,7 @@ is-date-requires : tie.Need-is-date-requires
 is-date-requires c κs = search needs
 
 returns : tie.Need-returns
-unfolding countedAs hourAt dateRow Refusals·all
+unfolding countedAs hourAt hourRows dateRow Refusals·all
 returns c = rw (← c .before .is-date .ensures, c .if1 .taken)
 
 hours-of-requires : tie.Need-hours-of-requires
@@ -31,7 +31,7 @@ found : (c : tie.After-hour-of) → (
     let a = c .before .before .before .before .args in
     let h = c .hour-of .result in
     hourAt (dateIn (a .d)) (clockIn (a .c)) ≡ outcome (row 4 (eqb h 0) ∷ []) h)
-unfolding hourAt dateRow Refusals·all
+unfolding hourAt hourRows dateRow Refusals·all
 found c =
     rw (
       ← c .before .before .before .is-date .ensures,
