@@ -139,16 +139,16 @@ module _ (s : Session) (top : ℕ) (m : Fields) where
     held b e = ap (λ x. D.badHolder b (keyIn x)) (sym q) ∙ sym (u b e)
 
     pub fields-6 : t ≡ true → JudgesFields s top (fieldsIn m) (No 6 0)
-    unfolding fieldRows row firstRow L.keyOf
+    unfolding fieldRows row firstRow
     fields-6 x b e = rw (hours-as s b e, h, f, held b e, x)
 
     module _ (p : ℕ) (at : p ≡ keyPlace s (keyFor m)) where
       pub fields-9 : t ≡ false → isFull s (keyFor m) p at ≡ true → JudgesFields s top (fieldsIn m) (No 9 0)
-      unfolding fieldRows row firstRow L.keyOf
+      unfolding fieldRows row firstRow
       fields-9 x y b e = rw (hours-as s b e, h, f, held b e, x, full-as s (keyFor m) p at b e, y)
 
       pub fields-limits : t ≡ false → isFull s (keyFor m) p at ≡ false → (j : Judged) → JudgesLimits s (fieldsIn m) j → JudgesFields s top (fieldsIn m) j
-      unfolding fieldRows row firstRow L.keyOf
+      unfolding fieldRows row firstRow
       fields-limits x y j l b e = rw (hours-as s b e, h, f, held b e, x, full-as s (keyFor m) p at b e, y) (l b e)
 
 -- the unit of a message is that of its key

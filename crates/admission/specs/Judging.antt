@@ -8,7 +8,7 @@ use lib.ListN.{take}
 use Rattle.rules.specs.Refusals.{Row, row, firstRow}
 use Rattle.rules.specs.Units as U
 use Rattle.rules.specs.Message.{Fields, badMap, badFields}
-use Rattle.rules.specs.Lodging.{keyOf, judgedAt, judgedBy, limitRows, namesBeyond}
+use Rattle.rules.specs.Lodging.{judgedAt, judgedBy, limitRows, namesBeyond}
 use Rattle.rules.specs.Book.{Book, hours, linesOf}
 use Rattle.rules.specs.DayBook.{badHolder, full}
 use Rattle.session.specs.Image.{image}
@@ -36,12 +36,12 @@ fullAt n last p = (leb 128 n && leb n p) || leb 65535 last
 
 -- limits 10 to 12
 unfoldable pub lastRows : Book → Fields → List Row
-lastRows b m = limitRows (hours b) (m .energies) (judgedAt (b .standing) m) (judgedBy (linesOf b) (U.unitOf (b .units) (m .unit)) (m .default))
+lastRows b m = limitRows (hours b) (m .energies) (judgedAt (b .standing) m) (judgedBy (linesOf b) (U.unitOf (b .units) (m .key .unit)) (m .key .default))
 
 -- the table's rows after 3, energies up to `top`
 unfoldable pub fieldRows : Book → ℕ → Fields → List Row
 fieldRows b top m =
-    row 4 (badMap (m .map) || namesBeyond (hours b) (m .map)) ∷ row 5 (badFields top m) ∷ row 6 (badHolder b (keyOf m)) ∷ row 9 (full b (keyOf m)) ∷ lastRows b m
+    row 4 (badMap (m .map) || namesBeyond (hours b) (m .map)) ∷ row 5 (badFields top m) ∷ row 6 (badHolder b (m .key)) ∷ row 9 (full b (m .key)) ∷ lastRows b m
 
 -- a judgement of a message's fields
 abbrev pub JudgesFields : Session → ℕ → Fields → Judged → Type 0

@@ -5,7 +5,7 @@ use mathlib.Core.Bool.{Bool, true, false, false≢true}
 use native.Mathlib.Omega.{arith}
 use borrow.Author.Tests.{lt-ltb, le-ltb}
 use Rattle.rules.specs.Refusals.{row, firstRow}
-use Rattle.rules.specs.Lodging as L
+use Rattle.rules.specs.Message.{badKey}
 use Rattle.rules.specs.Book as B
 use Rattle.rules.specs.DayBook as D
 use Rattle.session.specs.Image.{image, keyIn}
@@ -27,7 +27,7 @@ module _ (s : Session) (k : Key) where
   call = D.annul (keyIn k)
 
   abbrev bad : Bool
-  bad = L.badKey (keyIn k)
+  bad = badKey (keyIn k)
 
   -- r says whether the key's unit is refused
   abbrev Held : Bool → Type 0

@@ -132,5 +132,5 @@ module _ (k : Key) (ls : List L.Lodgement) where
 -- the energy that a message is judged by
 pub load-as : (s : Session) (b : Book) → s ≡ image b → (m : Fields) (h : ℕ)
     → loadIn (m .energies) (marksFor s m) (take (s .standing) (s .energies)) h ≡ L.judgedAt (b .standing) (fieldsIn m) h
-unfolding loadIn L.judgedAt L.keyOf
+unfolding loadIn L.judgedAt
 load-as s b e m h = rw (lodgements-as s b e, energies-as s b e, marks-as (keyFor m) (b .standing) h)

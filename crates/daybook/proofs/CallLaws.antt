@@ -5,7 +5,7 @@ use mathlib.Core.Bool.{false}
 use mathlib.Core.List.{List}
 use lib.Dec.{eqb}
 use Rattle.rules.specs.Units.{TradingUnit, Capacities}
-use Rattle.rules.specs.Lodging.{Key}
+use Rattle.rules.specs.Message.{Key}
 use Rattle.rules.specs.DayBook as D
 use Rattle.bits.specs.Bits.{wordAt}
 use Rattle.session.specs.Laid.{counted}

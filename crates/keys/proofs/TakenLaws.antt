@@ -9,6 +9,7 @@ use lib.ListN.{length, set, replicate, length-map}
 use lib.Seq.{set-set}
 use borrow.Author.Tests.{eqb-true, lt-ltb, le-ltb, ltb-true, ltb-false}
 use Rattle.rules.specs.Lists.{All, none, more, Pairwise, empty, ahead, keep, any}
+use Rattle.rules.specs.Message as M
 use Rattle.rules.specs.Lodging as L
 use Rattle.rules.specs.Book as B
 use Rattle.rules.specs.DayBook as D
@@ -139,10 +140,10 @@ module _ {A B : Type 0} (p : A → Bool) (f : A → B) where
 -- Keys
 
 fields-same : {x y d e : Bool} {n m c k : ℕ} → x ≡ y → d ≡ e → n ≡ m → c ≡ k
-    → _≡_ {A = L.Key} (record { execution = x; default = d; unit = n; contract = c }) (record { execution = y; default = e; unit = m; contract = k })
+    → _≡_ {A = M.Key} (record { execution = x; default = d; unit = n; contract = c }) (record { execution = y; default = e; unit = m; contract = k })
 fields-same p q r s = rw (p, q, r, s)
 
-same-is : (a b : L.Key) → L.sameKey a b ≡ true → a ≡ b
+same-is : (a b : M.Key) → L.sameKey a b ≡ true → a ≡ b
 unfolding L.sameKey L.sameButDefault
 same-is a b h =
     let t = both (L.sameButDefault a b) (Bool·beq (a .default) (b .default)) h in
@@ -151,7 +152,7 @@ same-is a b h =
     fields-same (beq-true (a .execution) (b .execution) (v .0)) (beq-true (a .default) (b .default) (t .1)) (eqb-true (a .unit) (b .unit) (v .1)) (eqb-true (a .contract) (b .contract) (u .1))
 
 -- no two that stand are of one key
-once-keyed : (k : L.Key) {ls : List L.Lodgement} → Pairwise (λ x y. L.sameKey (x .key) (y .key) ≡ false) ls → Once (λ l. L.sameKey (l .key) k) ls
+once-keyed : (k : M.Key) {ls : List L.Lodgement} → Pairwise (λ x y. L.sameKey (x .key) (y .key) ≡ false) ls → Once (λ l. L.sameKey (l .key) k) ls
 once-keyed k h =
     pairwise-weaken
     (λ x y d e. by-bool (L.sameKey (y .key) k) (λ g. absurd (false≢true (sym d ∙ (ap (L.sameKey (x .key)) (same-is (y .key) k g) ∙ e)))) (λ g. g)) h

@@ -4,19 +4,18 @@ ghost use mathlib.Core.Bool.{false};
 ghost use Prim.Native.Nat.{_≤_, _<_};
 ghost use lib.ListN.{take};
 ghost use Rattle.rules.specs.Lists.{any};
-ghost use Rattle.rules.specs.Lodging.{sameButDefault, sameKey, hides, badKey};
+ghost use Rattle.rules.specs.Message.{badKey};
+ghost use Rattle.rules.specs.Lodging.{sameButDefault, sameKey, hides};
 ghost use Rattle.rules.specs.Book.{Book};
 ghost use Rattle.rules.specs.DayBook.{badHolder};
 ghost use Rattle.session.specs.Image.{image, keyIn};
 ghost use Rattle.session.specs.Parts.{placeOf, Holds};
 ghost use Rattle.keys.specs.Keys.{keyFor, ofKey, leftOf, hiding};
 use message::Fields;
-use ranges::bad_contract;
 use session::Holder;
 use session::Key;
 use session::Lodgement;
 use session::Session;
-use session::units::bad_number;
 
 // The key of a message.
 pub fn key_of(m: Fields) -> Key
@@ -110,10 +109,7 @@ pub fn is_hidden(lodgements: [Lodgement; 128], n: usize, key: Key) -> bool
 pub fn bad_key(key: Key) -> bool
     ensures { λ r. ⌜ r ≡ badKey (keyIn key) ⌝ }
 {
-    if bad_number(key.unit) {
-        return true;
-    }
-    bad_contract(key.execution, key.contract)
+    ranges::bad_key(key.execution, key.unit, key.contract)
 }
 
 // Row 6, of a key, by its unit: "unregistered, or domestic for an execution".

@@ -45,7 +45,7 @@ module _ (s : Session) (f : Fields) (k : Key) (p m : ℕ) (same : k ≡ keyFor f
       record { forward = omega arith; to = room-left; at = room-left; still = λ e. absurd (false≢true (sym e)) }
 
   pub entered : EnteredFields s f (standingTurn s (entering k f p m (s .last + 1)))
-  unfolding told isRefusal D.entry L.keyOf
+  unfolding told isRefusal D.entry
   entered = record {
     book = λ b sound h e.
         let n : s .last + 1 ≡ suc (b .last) = omega (arith, last-as s b e) in

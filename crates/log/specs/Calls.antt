@@ -7,7 +7,7 @@ use lib.Dec.{eqb, leb}
 use lib.ListN.{getD, take, drop, length}
 use Rattle.rules.specs.Lists.{from}
 use Rattle.rules.specs.Units.{TradingUnit, Published, Capacities}
-use Rattle.rules.specs.Lodging.{Key}
+use Rattle.rules.specs.Message.{Key}
 use Rattle.rules.specs.Borders.{positive}
 use Rattle.rules.specs.DayBook.{Call, register, capacity, available, lodge, annul, close, clear}
 use Rattle.bits.specs.Bits.{wordAt}

@@ -49,7 +49,7 @@ unfolding badFrom
 hours-past top m h l i = sym (any-past (badHour top m) 26 h l) ∙ i
 
 module _ (top : ℕ) (m : Fields) (h : ℕ) (set r : Bool) (e : set ≡ names (m .map) h)
-    (f : r ≡ badSlot top (m .execution) set (getD (m .energies) (h - 1) 0) (getD (m .prices) (h - 1) 0)) where
+    (f : r ≡ badSlot top (m .key .execution) set (getD (m .energies) (h - 1) 0) (getD (m .prices) (h - 1) 0)) where
   hour-told : badHour top m h ≡ r
   unfolding badHour badSlot hourly
   hour-told = rw (← e) (sym f)

@@ -11,10 +11,7 @@ use Rattle.message.specs.declared.Written.{Written}
 
 abbrev pub fieldsIn : Fields → M.Fields
 fieldsIn m = record {
-  execution = m .execution;
-  default = m .default;
-  unit = m .unit;
-  contract = m .contract;
+  key = record { execution = m .execution; default = m .default; unit = m .unit; contract = m .contract };
   map = m .map;
   energies = m .energies;
   prices = m .prices;
@@ -29,10 +26,10 @@ unfoldable pub readingAs : Outcome M.Fields → Reading
 readingAs (given m) = record {
   refusal = 0;
   fields = record {
-    execution = m .execution;
-    default = m .default;
-    unit = m .unit;
-    contract = m .contract;
+    execution = m .key .execution;
+    default = m .key .default;
+    unit = m .key .unit;
+    contract = m .key .contract;
     map = m .map;
     energies = m .energies;
     prices = m .prices;

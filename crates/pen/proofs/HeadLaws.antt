@@ -8,7 +8,7 @@ use lib.Dec.{eqb, ltb}
 use borrow.Author.Tests.{ltb-false, not-false, eqb-true}
 use Rattle.rules.specs.Lists.{any, from}
 use Rattle.rules.specs.Units.{badNumber}
-use Rattle.rules.specs.Message.{Form, Fields, bit, bits, hourBits, headBits, badContract, badHour, badFields}
+use Rattle.rules.specs.Message.{Form, Fields, bit, bits, hourBits, headBits, badContract, badKey, badHour, badFields}
 use Rattle.rules.proofs.BoolLaws.{neither}
 use Rattle.rules.proofs.BitLaws.{bits-join}
 use Rattle.pen.proofs.PackLaws.{no-bits}
@@ -24,13 +24,13 @@ unfolding badContract
 contract-fits true n h = number-fits n h
 contract-fits false n h = omega (arith, eqb-true n 0 (not-false (eqb n 0) h))
 
-pub head-fits : (top : ℕ) (m : Fields) → badFields top m ≡ false → (m .unit < 65536) × (m .contract < 65536)
-unfolding badFields
+pub head-fits : (top : ℕ) (m : Fields) → badFields top m ≡ false → (m .key .unit < 65536) × (m .key .contract < 65536)
+unfolding badFields badKey
 head-fits top m h =
-    let u = badNumber (m .unit) in
-    let c = badContract (m .execution) (m .contract) in
+    let u = badNumber (m .key .unit) in
+    let c = badContract (m .key .execution) (m .key .contract) in
     let a = neither u c (neither (u || c) (any (badHour top m) (from 1 25)) h .0) in
-    (number-fits (m .unit) (a .0), contract-fits (m .execution) (m .contract) (a .1))
+    (number-fits (m .key .unit) (a .0), contract-fits (m .key .execution) (m .key .contract) (a .1))
 
 -- The head
 
@@ -42,16 +42,16 @@ head-joined k x d u c rest hx hd hu hc =
     let e = ap (λ l. l ++ bits 16 c) b ∙ bits-join 23 16 (((k * 4 + x) * 2 + d) * 65536 + u) c hc in
     rw (← e) (simp append-assoc)
 
-pub head-word : (f : Form) (top : ℕ) (m : Fields) (x d : ℕ) → x ≡ bit (m .execution) → d ≡ bit (m .default) → x ≤ 1 → d ≤ 1 → badFields top m ≡ false
-    → bits 39 ((((f .number * 4 + x) * 2 + d) * 65536 + m .unit) * 65536 + m .contract) ++ (hourBits (m .map) ++ bits (f .partner) 0) ≡ headBits f m
+pub head-word : (f : Form) (top : ℕ) (m : Fields) (x d : ℕ) → x ≡ bit (m .key .execution) → d ≡ bit (m .key .default) → x ≤ 1 → d ≤ 1 → badFields top m ≡ false
+    → bits 39 ((((f .number * 4 + x) * 2 + d) * 65536 + m .key .unit) * 65536 + m .key .contract) ++ (hourBits (m .map) ++ bits (f .partner) 0) ≡ headBits f m
 unfolding headBits
 head-word f top m x d ex ed hx hd h =
-    rw (← ex, ← ed) (head-joined (f .number) x d (m .unit) (m .contract) (hourBits (m .map) ++ bits (f .partner) 0) (omega arith) (omega arith) (head-fits top m h .0) (head-fits top m h .1))
+    rw (← ex, ← ed) (head-joined (f .number) x d (m .key .unit) (m .key .contract) (hourBits (m .map) ++ bits (f .partner) 0) (omega arith) (omega arith) (head-fits top m h .0) (head-fits top m h .1))
 
 -- of a form with no counterparty
-pub head-word-alone : (f : Form) (top : ℕ) (m : Fields) (x d : ℕ) → f .partner ≡ 0 → x ≡ bit (m .execution) → d ≡ bit (m .default) → x ≤ 1 → d ≤ 1 → badFields top m ≡ false
-    → bits 39 ((((f .number * 4 + x) * 2 + d) * 65536 + m .unit) * 65536 + m .contract) ++ hourBits (m .map) ≡ headBits f m
+pub head-word-alone : (f : Form) (top : ℕ) (m : Fields) (x d : ℕ) → f .partner ≡ 0 → x ≡ bit (m .key .execution) → d ≡ bit (m .key .default) → x ≤ 1 → d ≤ 1 → badFields top m ≡ false
+    → bits 39 ((((f .number * 4 + x) * 2 + d) * 65536 + m .key .unit) * 65536 + m .key .contract) ++ hourBits (m .map) ≡ headBits f m
 head-word-alone f top m x d alone ex ed hx hd h =
-    let n = (((f .number * 4 + x) * 2 + d) * 65536 + m .unit) * 65536 + m .contract in
+    let n = (((f .number * 4 + x) * 2 + d) * 65536 + m .key .unit) * 65536 + m .key .contract in
     let none : hourBits (m .map) ++ bits (f .partner) 0 ≡ hourBits (m .map) = rw (alone, no-bits 0) (append-nil (hourBits (m .map))) in
     ap (λ l. bits 39 n ++ l) (sym none) ∙ head-word f top m x d ex ed hx hd h

@@ -14,8 +14,7 @@ use lib.ListN.{drop, getD}
 use lib.Seq.{getD-drop}
 use borrow.Author.Tests.{ltb-false, not-false, eqb-true, eqb-false, leb-false}
 use Rattle.rules.specs.Lists.{any, from, hourly}
-use Rattle.rules.specs.Units.{badNumber}
-use Rattle.rules.specs.Message.{Fields, bits, slot, slots, slotWidth, priceWidth, topPrice, names, hourBits, badMap, badContract, badHour, badFields}
+use Rattle.rules.specs.Message.{Fields, bits, slot, slots, slotWidth, priceWidth, topPrice, names, hourBits, badMap, badKey, badHour, badFields}
 use Rattle.rules.proofs.BoolLaws.{neither}
 use Rattle.rules.proofs.ListLaws.{any-false, all-from, hourly-suc}
 use Rattle.rules.proofs.BitLaws.{bits-join}
@@ -93,12 +92,12 @@ hour-fits w top x false e p l h =
     record { energy = omega arith; price = price-fits x p (omega arith) }
 
 -- every hour of fields that are not refused, counted from 0, fits its slot
-pub hours-fit : (w top : ℕ) (m : Fields) (i : ℕ) → top < 2 ^ w → badFields top m ≡ false → i < 25 → SlotFits w (m .execution) (getD (m .energies) i 0) (getD (m .prices) i 0)
+pub hours-fit : (w top : ℕ) (m : Fields) (i : ℕ) → top < 2 ^ w → badFields top m ≡ false → i < 25 → SlotFits w (m .key .execution) (getD (m .energies) i 0) (getD (m .prices) i 0)
 unfolding badFields badHour
 hours-fit w top m i fit h l =
-    let b = neither (badNumber (m .unit) || badContract (m .execution) (m .contract)) (any (badHour top m) (from 1 25)) h .1 in
+    let b = neither (badKey (m .key)) (any (badHour top m) (from 1 25)) h .1 in
     rw (hourly-suc (m .energies) i, hourly-suc (m .prices) i) at
-    (hour-fits w top (m .execution) (names (m .map) (suc i)) (hourly (m .energies) (suc i)) (hourly (m .prices) (suc i)) fit (all-from 1 25 (suc i) (any-false (badHour top m) (from 1 25) b) (omega arith) (omega arith)))
+    (hour-fits w top (m .key .execution) (names (m .map) (suc i)) (hourly (m .energies) (suc i)) (hourly (m .prices) (suc i)) fit (all-from 1 25 (suc i) (any-false (badHour top m) (from 1 25) b) (omega arith) (omega arith)))
 
 pub map-fits : (map : ℕ) → badMap map ≡ false → (0 < map) × (map < 2 ^ 25)
 unfolding badMap
@@ -128,7 +127,7 @@ first-hour map z b h k l u e =
 
 -- the bits of the slot of hour i, counted from 0
 unfoldable pub slotAt : ℕ → Fields → ℕ → List ℕ
-slotAt w m i = slot w (m .execution) 1 (getD (m .energies) i 0) (getD (m .prices) i 0)
+slotAt w m i = slot w (m .key .execution) 1 (getD (m .energies) i 0) (getD (m .prices) i 0)
 
 -- the slots of a map are that of its first hour, and those of the rest
 pub slotsOf-next : (w : ℕ) (m : Fields) (map i rest : ℕ) → FirstHour map i rest → slotsOf w m map ≡ slotAt w m i ++ slotsOf w m rest
@@ -136,11 +135,11 @@ unfolding slotsOf slotAt slot hourBits
 slotsOf-next w m map i rest t =
     let k : 25 - suc (24 - i) ≡ i = omega (arith, t .within) in
     let r : map - 2 ^ (24 - i) ≡ rest = omega (arith, t .first) in
-    rw (slots-next w (m .execution) 25 (24 - i) map (m .energies) (m .prices) (omega (arith, t .first)) (omega (arith, t .first, t .after, pow-suc 2 (24 - i))) (omega arith), k, r)
+    rw (slots-next w (m .key .execution) 25 (24 - i) map (m .energies) (m .prices) (omega (arith, t .first)) (omega (arith, t .first, t .after, pow-suc 2 (24 - i))) (omega arith), k, r)
 
 pub slotsOf-none : (w : ℕ) (m : Fields) (map : ℕ) → map ≡ 0 → slotsOf w m map ≡ []
 unfolding slotsOf hourBits
-slotsOf-none w m map e = rw (e, slots-none w (m .execution) 25 (m .energies) (m .prices))
+slotsOf-none w m map e = rw (e, slots-none w (m .key .execution) 25 (m .energies) (m .prices))
 
 -- The number of a slot
 

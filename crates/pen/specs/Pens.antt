@@ -36,7 +36,7 @@ pub record InRanges (m : M.Fields) : Type 0 where
 
 -- the slots of the hours that a map names, energies having w bits
 unfoldable pub slotsOf : ℕ → M.Fields → ℕ → List ℕ
-slotsOf w m map = M.slots w (m .execution) (M.hourBits map) (m .energies) (m .prices)
+slotsOf w m map = M.slots w (m .key .execution) (M.hourBits map) (m .energies) (m .prices)
 
 -- an energy and a price that a slot holds
 pub record SlotFits (w : ℕ) (execution : Bool) (e p : ℕ) : Type 0 where

@@ -30,7 +30,7 @@ fn bad_number(n: u32) -> bool
 }
 
 // The contract is 0 for an offer, and a number for an execution.
-pub fn bad_contract(execution: bool, contract: u32) -> bool
+fn bad_contract(execution: bool, contract: u32) -> bool
     ensures { λ r. ⌜ r ≡ badContract execution contract ⌝ }
 {
     if execution {

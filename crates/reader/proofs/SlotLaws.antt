@@ -8,7 +8,7 @@ use lib.Dec.{eqb}
 use lib.ListN.{length, drop}
 use Rattle.rules.specs.Lists.{none, more, any, from, hourly}
 use Rattle.rules.specs.Units.{badNumber}
-use Rattle.rules.specs.Message.{Form, Fields, bitsOf, field, priceWidth, headWidth, slotWidth, hourBits, names, readSlots, isExecution, mapOf, fieldsOf, decode, formOf, messageOf, badContract, badHour, badFields, wrongRange}
+use Rattle.rules.specs.Message.{Form, Fields, bitsOf, field, priceWidth, headWidth, slotWidth, hourBits, names, readSlots, isExecution, mapOf, fieldsOf, decode, formOf, messageOf, badContract, badKey, badHour, badFields, wrongRange}
 use Rattle.rules.proofs.ListLaws.{Under}
 use Rattle.rules.proofs.BitLaws.{length-bits, bits-under}
 use Rattle.ranges.specs.Slots.{badSlot}
@@ -19,7 +19,7 @@ use Rattle.reader.specs.declared.Head.{Head}
 unfoldable tested : ℕ → Bool → List ℕ → List ℕ → List ℕ → ℕ → Bool
 tested top x map es ps h = badSlot top x (eqb (hourly map h) 1) (hourly es h) (hourly ps h)
 
-hour-tested : (top : ℕ) (m : Fields) (h : ℕ) → badHour top m h ≡ tested top (m .execution) (hourBits (m .map)) (m .energies) (m .prices) h
+hour-tested : (top : ℕ) (m : Fields) (h : ℕ) → badHour top m h ≡ tested top (m .key .execution) (hourBits (m .map)) (m .energies) (m .prices) h
 unfolding badHour tested badSlot names
 hour-tested top m h = refl
 
@@ -89,7 +89,7 @@ module _ (f : Form) (bytes : List ℕ) where
   -- 5, by the head and the slots
   fields-judged : badFields (f .top) (decode f bytes)
       ≡ (badNumber (field 7 16 (bitsOf bytes)) || badContract (isExecution (bitsOf bytes)) (field 23 16 (bitsOf bytes)) || badSlots (f .width) (f .top) (isExecution (bitsOf bytes)) (hourBits (mapOf (bitsOf bytes))) (drop (headWidth f) (bitsOf bytes)))
-  unfolding badFields decode fieldsOf
+  unfolding badFields badKey decode fieldsOf
   fields-judged = ap (λ b. badNumber (field 7 16 (bitsOf bytes)) || badContract (isExecution (bitsOf bytes)) (field 23 16 (bitsOf bytes)) || b) slots-judged
 
   -- the same, of a message that is read by form f, of a head that was read and of what the tests of its key and of its slots found

@@ -13,8 +13,8 @@ use Rattle.rules.specs.Lists.{All, none, more, empty, keep, any, first, 
 use Rattle.rules.specs.Refusals.{Row, row, firstRow}
 use Rattle.rules.specs.Hours.{Hours·all, Date, isDate, dateRow}
 use Rattle.rules.specs.Units.{TradingUnit, Registered, Published, Capacities, maxEnergy, domestic, badUnit, badNumber, badEnergies, badPublished, notOfHours, sameBorderSide, hasNumber, isRegistered, unitOf, nobody}
-use Rattle.rules.specs.Message.{Fields, names, messageOf, wrongForm, badMap, badFields, wrongRange}
-use Rattle.rules.specs.Lodging.{Key, Lodgement, keyOf, energyAt, sameKey, stands, without, namesBeyond, badKey}
+use Rattle.rules.specs.Message.{Key, Fields, names, messageOf, wrongForm, badMap, badKey, badFields, wrongRange}
+use Rattle.rules.specs.Lodging.{Lodgement, energyAt, sameKey, stands, without, namesBeyond}
 use Rattle.rules.specs.Book.{Book, hours, limitsOf, fresh, Frozen, frozen}
 use Rattle.rules.specs.Judging.{isAccepted, verdictAmong}
 use Rattle.rules.specs.Closing.{judge, judgements, acceptedAt}
@@ -124,8 +124,8 @@ pub record Admitted (b : Book) (bytes : List ℕ) : Type 0 where
   pub map : badMap (messageOf bytes .map) ≡ false
   pub day : namesBeyond (hours b) (messageOf bytes .map) ≡ false
   pub fields : wrongRange bytes ≡ false
-  pub holder : badHolder b (keyOf (messageOf bytes)) ≡ false
-  pub room : full b (keyOf (messageOf bytes)) ≡ false
+  pub holder : badHolder b (messageOf bytes .key) ≡ false
+  pub room : full b (messageOf bytes .key) ≡ false
 
 -- a message that is accepted has it
 pub admitted : (b : Book) (bytes : List ℕ) → firstRow (rowsOf b (lodge bytes)) ≡ nothing → Admitted b bytes
@@ -155,7 +155,7 @@ price-unnamed m g h e = g .each h .unnamed (g .each h .named-by ∙ rw e)
 
 -- an entered lodgement is what its message says
 lodged : (b : Book) (bytes : List ℕ) (n : ℕ) → Admitted b bytes → Lodged (hours b) (entry (messageOf bytes) n)
-unfolding entry keyOf energyAt badKey badFields wrongRange
+unfolding entry energyAt badKey badFields wrongRange
 lodged b bytes n a =
     let m = messageOf bytes in
     let c = message-lengths bytes in
@@ -251,7 +251,7 @@ holders-sound H f s =
 
 -- an accepted call leaves a sound book
 applied-sound : (b : Book) (c : Call) → firstRow (rowsOf b c) ≡ nothing → Sound b → Sound (applied b c)
-unfolding applied rowsOf gateRow callRows row changeRow unregistered isSecond unitsFull withUnits withCapacities withStanding withStage hours entry keyOf
+unfolding applied rowsOf gateRow callRows row changeRow unregistered isSecond unitsFull withUnits withCapacities withStanding withStage hours entry
 applied-sound b (register u) h s =
     let r5 = all-tail (accepted-rows (rowsOf b (register u)) h) in
     let r7 = all-tail r5 in
@@ -288,9 +288,9 @@ applied-sound b (lodge bytes) h s =
       date = s .date;
       units = s .units;
       capacities = s .capacities;
-      standing = with-sound (hours b) (b .units) (entry m (suc (b .last))) (without-sound (hours b) (b .units) (keyOf m) (s .standing))
-          (place-left b (keyOf m) (a .room) (s .standing .room)) (number-left b (keyOf m) (a .room)) refl (without-key (keyOf m) (b .standing))
-          (holder-good b (keyOf m) (a .holder)) (lodged b bytes (suc (b .last)) a);
+      standing = with-sound (hours b) (b .units) (entry m (suc (b .last))) (without-sound (hours b) (b .units) (m .key) (s .standing))
+          (place-left b (m .key) (a .room) (s .standing .room)) (number-left b (m .key) (a .room)) refl (without-key (m .key) (b .standing))
+          (holder-good b (m .key) (a .holder)) (lodged b bytes (suc (b .last)) a);
       stage = s .stage;
     }
 applied-sound b (annul k) h s =

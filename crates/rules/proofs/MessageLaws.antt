@@ -12,7 +12,7 @@ use borrow.Author.Tests.{ltb-true, ltb-false, leb-false, eqb-true, eqb-false, le
 use Rattle.rules.specs.Lists.{All, none, more, any, sum, from, hourly, roundUp}
 use Rattle.rules.specs.Refusals.{row, given}
 use Rattle.rules.specs.Units.{maxEnergy, badNumber}
-use Rattle.rules.specs.Message.{Form, Fields, priceWidth, mapWidth, headWidth, bits, value, field, bitsOf, bit, hourBits, names, setBits, slotWidth, slotsEnd, lengthFor, headBits, slot, slots, messageBits, encode, readSlots, isExecution, mapOf, fieldsOf, decode, formOf, messageOf, badFilling, badForm, wrongForm, badMap, badContract, topPrice, badHour, badFields, wrongRange, readRows, read, formFor, messageLength, writeRows, write}
+use Rattle.rules.specs.Message.{Form, Fields, priceWidth, mapWidth, headWidth, bits, value, field, bitsOf, bit, hourBits, names, setBits, slotWidth, slotsEnd, lengthFor, headBits, slot, slots, messageBits, encode, readSlots, isExecution, mapOf, fieldsOf, decode, formOf, messageOf, badFilling, badForm, wrongForm, badMap, badContract, badKey, topPrice, badHour, badFields, wrongRange, readRows, read, formFor, messageLength, writeRows, write}
 use Rattle.rules.proofs.BoolLaws.{by-bool, neither}
 use Rattle.rules.proofs.ListLaws.{Under, all-append, all-drop, all-head, all-tail, all-of, any-false, of-any-false, all-zero, of-all-zero, all-map, all-from, hourly-suc, hourly-beyond}
 use Rattle.rules.proofs.RefusalLaws.{of-no-row, no-row}
@@ -35,13 +35,13 @@ length-slots w x es ps (more {x = suc zero} {xs = map} p q) =
 length-slots w x es ps (more {x = suc (suc b)} {xs = map} p q) = absurd (omega arith)
 
 -- the bits of a message
-length-message : (f : Form) (m : Fields) → length (messageBits f m) ≡ slotsEnd f (m .execution) (setBits (m .map))
+length-message : (f : Form) (m : Fields) → length (messageBits f m) ≡ slotsEnd f (m .key .execution) (setBits (m .map))
 unfolding messageBits setBits hourBits
 length-message f m =
-    rw (length-append, length-head f m, length-slots (f .width) (m .execution) (m .energies) (m .prices) (bits-under 25 (m .map)))
+    rw (length-append, length-head f m, length-slots (f .width) (m .key .execution) (m .energies) (m .prices) (bits-under 25 (m .map)))
 
 -- a message is as long as its form, its kind and its number of set bits say
-pub encode-length : (f : Form) (m : Fields) → length (encode f m) ≡ lengthFor f (m .execution) (setBits (m .map))
+pub encode-length : (f : Form) (m : Fields) → length (encode f m) ≡ lengthFor f (m .key .execution) (setBits (m .map))
 unfolding encode lengthFor roundUp
 encode-length f m = rw (length-bytesOf, length-message) (omega arith)
 
@@ -148,13 +148,13 @@ encode-decode f {bytes} u h silent =
 -- fields that fit a message of form f: each number fits its width, and an unnamed hour has 0
 pub record Fits (f : Form) (m : Fields) : Type 0 where
   pub number : f .number < 2 ^ 4
-  pub unit : m .unit < 2 ^ 16
-  pub contract : m .contract < 2 ^ 16
+  pub unit : m .key .unit < 2 ^ 16
+  pub contract : m .key .contract < 2 ^ 16
   pub map : m .map < 2 ^ mapWidth
   pub energyCount : length (m .energies) ≡ 25
   pub priceCount : length (m .prices) ≡ 25
   pub energies : Under (2 ^ f .width) (m .energies)
-  pub prices : Under (2 ^ priceWidth (m .execution)) (m .prices)
+  pub prices : Under (2 ^ priceWidth (m .key .execution)) (m .prices)
   pub unnamed : (h : ℕ) → names (m .map) h ≡ false → (hourly (m .energies) h ≡ 0) × (hourly (m .prices) h ≡ 0)
 
 -- the same along the map
@@ -186,11 +186,11 @@ fits-unset f m t i e =
     (sym (hourly-suc (m .energies) i) ∙ z .0, sym (hourly-suc (m .prices) i) ∙ z .1)
 
 -- the hours of fields that fit
-fits-hours : (f : Form) (m : Fields) → Fits f m → Hours (f .width) (m .execution) (hourBits (m .map)) (m .energies) (m .prices)
+fits-hours : (f : Form) (m : Fields) → Fits f m → Hours (f .width) (m .key .execution) (hourBits (m .map)) (m .energies) (m .prices)
 unfolding hourBits
 fits-hours f m t =
     let l : length (hourBits (m .map)) ≡ 25 = length-bits 25 (m .map) in
-    hours (f .width) (m .execution) (bits-under 25 (m .map)) (t .energies) (t .prices) (t .energyCount ∙ sym l) (t .priceCount ∙ sym l) (fits-unset f m t)
+    hours (f .width) (m .key .execution) (bits-under 25 (m .map)) (t .energies) (t .prices) (t .energyCount ∙ sym l) (t .priceCount ∙ sym l) (fits-unset f m t)
 
 -- slots that were written are read back
 slots-back : (w : ℕ) (x : Bool) {map es ps : List ℕ} (rest : List ℕ) → Hours w x map es ps
@@ -225,40 +225,40 @@ bit-lt false = lit< tt
 -- the head of bits is that of m in form f
 record Headed (f : Form) (m : Fields) (bs : List ℕ) : Type 0 where
   form : field 0 4 bs ≡ f .number
-  kind : field 4 2 bs ≡ bit (m .execution)
-  default : field 6 1 bs ≡ bit (m .default)
-  unit : field 7 16 bs ≡ m .unit
-  contract : field 23 16 bs ≡ m .contract
+  kind : field 4 2 bs ≡ bit (m .key .execution)
+  default : field 6 1 bs ≡ bit (m .key .default)
+  unit : field 7 16 bs ≡ m .key .unit
+  contract : field 23 16 bs ≡ m .key .contract
   map : mapOf bs ≡ m .map
 
 -- the head that was written is read back
 head-back : (f : Form) (m : Fields) (rest : List ℕ) → Fits f m → Headed f m (messageBits f m ++ rest)
 unfolding messageBits headBits hourBits bits field mapOf
 head-back f m rest t =
-    let k : bit (m .execution) < 2 ^ 2 = omega (arith, bit-lt (m .execution)) in
+    let k : bit (m .key .execution) < 2 ^ 2 = omega (arith, bit-lt (m .key .execution)) in
     record {
       form = value-bits-lt 4 (f .number) (t .number);
-      kind = value-bits-lt 2 (bit (m .execution)) k;
-      default = value-bits-lt 1 (bit (m .default)) (bit-lt (m .default));
-      unit = value-bits-lt 16 (m .unit) (t .unit);
-      contract = value-bits-lt 16 (m .contract) (t .contract);
+      kind = value-bits-lt 2 (bit (m .key .execution)) k;
+      default = value-bits-lt 1 (bit (m .key .default)) (bit-lt (m .key .default));
+      unit = value-bits-lt 16 (m .key .unit) (t .unit);
+      contract = value-bits-lt 16 (m .key .contract) (t .contract);
       map = value-bits-lt 25 (m .map) (t .map);
     }
 
 -- after the head stand the slots
 head-drop : (f : Form) (m : Fields) (rest : List ℕ)
-    → drop (headWidth f) (messageBits f m ++ rest) ≡ slots (f .width) (m .execution) (hourBits (m .map)) (m .energies) (m .prices) ++ rest
+    → drop (headWidth f) (messageBits f m ++ rest) ≡ slots (f .width) (m .key .execution) (hourBits (m .map)) (m .energies) (m .prices) ++ rest
 unfolding messageBits
 head-drop f m rest =
-    rw append-assoc (drop-at (headBits f m) (slots (f .width) (m .execution) (hourBits (m .map)) (m .energies) (m .prices) ++ rest) (headWidth f) (length-head f m))
+    rw append-assoc (drop-at (headBits f m) (slots (f .width) (m .key .execution) (hourBits (m .map)) (m .energies) (m .prices) ++ rest) (headWidth f) (length-head f m))
 
 -- the bits of fields, whatever stands after them, say these fields
 fields-back : (f : Form) (m : Fields) (rest : List ℕ) → Fits f m → fieldsOf f (messageBits f m ++ rest) ≡ m
 unfolding fieldsOf isExecution
 fields-back f m rest t =
     let h = head-back f m rest t in
-    let back = slots-back (f .width) (m .execution) rest (fits-hours f m t) in
-    rw (head-drop f m rest, h .kind, h .default, h .unit, h .contract, h .map, mark-back (m .execution), mark-back (m .default), back .0, back .1)
+    let back = slots-back (f .width) (m .key .execution) rest (fits-hours f m t) in
+    rw (head-drop f m rest, h .kind, h .default, h .unit, h .contract, h .map, mark-back (m .key .execution), mark-back (m .key .default), back .0, back .1)
 
 -- slots are bits
 slots-under : (w : ℕ) (x : Bool) (map es ps : List ℕ) → Under 2 (slots w x map es ps)
@@ -294,12 +294,12 @@ encode-formed f m t =
     let z = bits-encode f m in
     let bs = messageBits f m ++ replicate (z .0) 0 in
     let h = head-back f m (replicate (z .0) 0) t in
-    let x : eqb (field 4 2 bs) 1 ≡ m .execution = rw (h .kind) (mark-back (m .execution)) in
+    let x : eqb (field 4 2 bs) 1 ≡ m .key .execution = rw (h .kind) (mark-back (m .key .execution)) in
     of-formed f (encode f m) (record {
       long = rw encode-length (omega arith);
       exact = rw (z .1, x, h .map) (encode-length f m);
       form = rw (z .1) (h .form);
-      kind = rw (z .1, h .kind) (omega (arith, bit-lt (m .execution)));
+      kind = rw (z .1, h .kind) (omega (arith, bit-lt (m .key .execution)));
       filling = rw (z .1, x, h .map, drop-at (messageBits f m) (replicate (z .0) 0) _ (length-message f m)) (of-all-zero (z .0));
     })
 
@@ -326,15 +326,15 @@ good-hour false e p t top h =
 
 -- fields within their ranges, energies up to `top`: what a message that is read or written has
 pub record Good (top : ℕ) (m : Fields) : Type 0 where
-  pub unit-pos : 1 ≤ m .unit
-  pub unit-le : m .unit ≤ 65535
-  pub contract-le : m .contract ≤ 65535
-  pub contract-kind : m .execution ≡ not (eqb (m .contract) 0)
+  pub unit-pos : 1 ≤ m .key .unit
+  pub unit-le : m .key .unit ≤ 65535
+  pub contract-le : m .key .contract ≤ 65535
+  pub contract-kind : m .key .execution ≡ not (eqb (m .key .contract) 0)
   pub map-pos : 1 ≤ m .map
   pub map-lt : m .map < 2 ^ mapWidth
   pub energyCount : length (m .energies) ≡ 25
   pub priceCount : length (m .prices) ≡ 25
-  pub each : (h : ℕ) → GoodHour (names (m .map) h) (hourly (m .energies) h) (hourly (m .prices) h) top (topPrice (m .execution))
+  pub each : (h : ℕ) → GoodHour (names (m .map) h) (hourly (m .energies) h) (hourly (m .prices) h) top (topPrice (m .key .execution))
 
 -- a number that is not refused
 good-number : (n : ℕ) → badNumber n ≡ false → (1 ≤ n) × (n ≤ 65535)
@@ -364,7 +364,7 @@ each-hour top m es ps k (suc i) =
 
 -- fields that are not refused are within their ranges
 pub good : (top : ℕ) (m : Fields) → badMap (m .map) ≡ false → badFields top m ≡ false → length (m .energies) ≡ 25 → length (m .prices) ≡ 25 → Good top m
-unfolding badMap badFields badHour
+unfolding badMap badFields badKey badHour
 good top m b h es ps =
     let a = neither _ _ h in
     let c = neither _ _ (a .0) in
@@ -380,7 +380,7 @@ good top m b h es ps =
       map-lt = leb-false _ _ (n .1);
       energyCount = es;
       priceCount = ps;
-      each = λ h. good-hour (names (m .map) h) (hourly (m .energies) h) (hourly (m .prices) h) top (topPrice (m .execution)) (each-hour top m es ps (a .1) h);
+      each = λ h. good-hour (names (m .map) h) (hourly (m .energies) h) (hourly (m .prices) h) top (topPrice (m .key .execution)) (each-hour top m es ps (a .1) h);
     }
 
 -- an hour that is not refused where energies go up to s is not where they go up to t, if its energy is not
@@ -398,10 +398,10 @@ retold : (s t : ℕ) (m : Fields) → ((h : ℕ) → ltb s (hourly (m .energies)
     → badFields s m ≡ false → badFields t m ≡ false
 unfolding badFields badHour
 retold s t m l h =
-    let a = neither (badNumber (m .unit) || badContract (m .execution) (m .contract)) _ h in
+    let a = neither (badKey (m .key)) _ h in
     rw (a .0)
     (of-any-false (badHour t m)
-    (all-map (λ h. retold-hour (names (m .map) h) (hourly (m .energies) h) (hourly (m .prices) h) s t (topPrice (m .execution)) (l h))
+    (all-map (λ h. retold-hour (names (m .map) h) (hourly (m .energies) h) (hourly (m .prices) h) s t (topPrice (m .key .execution)) (l h))
     (any-false (badHour s m) (from 1 mapWidth) (a .1))))
 
 -- fields within their ranges are so where more is allowed
@@ -432,7 +432,7 @@ good-fits f m w g = record {
   energyCount = g .energyCount;
   priceCount = g .priceCount;
   energies = all-map (λ e h. omega (arith, w .top)) (good-energies (f .top) m g);
-  prices = all-of 0 (m .prices) (λ i h. rw (← (hourly-suc (m .prices) i)) (price-fits (m .execution) (hourly (m .prices) (suc i)) (g .each (suc i) .price-le)));
+  prices = all-of 0 (m .prices) (λ i h. rw (← (hourly-suc (m .prices) i)) (price-fits (m .key .execution) (hourly (m .prices) (suc i)) (g .each (suc i) .price-le)));
   unnamed = λ h no. (eqb-true _ _ (not-false _ (sym (g .each h .named-by) ∙ no)), g .each h .unnamed no);
 }
 

@@ -70,7 +70,7 @@ unfolding rise row placeOf placeIn tableOrder rowsOf gateRow changeRow callRows 
 call-ordered b (register u) = rise-ordered 0 _ refl
 call-ordered b (capacity cs) = rise-ordered 0 _ refl
 call-ordered b (available n es) = rise-ordered 0 _ refl
-call-ordered b (lodge bytes) = lodge-ordered _ _ _ _ _ _ _ _ _ _ _ (messageOf bytes .default)
+call-ordered b (lodge bytes) = lodge-ordered _ _ _ _ _ _ _ _ _ _ _ (messageOf bytes .key .default)
 call-ordered b (annul k) = rise-ordered 0 _ refl
 call-ordered b close = rise-ordered 0 _ refl
 call-ordered b clear = rise-ordered 0 _ refl

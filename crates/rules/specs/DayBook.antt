@@ -9,8 +9,8 @@ use Rattle.rules.specs.Lists.{any}
 use Rattle.rules.specs.Refusals.{Row, row, firstRow}
 use Rattle.rules.specs.Hours.{Date, dateRow}
 use Rattle.rules.specs.Units.{TradingUnit, Registered, Capacities, badUnit, badNumber, badEnergies, badPublished, notOfHours, sameBorderSide, hasNumber, isRegistered, unitOf}
-use Rattle.rules.specs.Message.{Fields, messageOf, wrongForm, badMap, wrongRange}
-use Rattle.rules.specs.Lodging.{Key, Lodgement, keyOf, stands, without, judgedAt, judgedBy, limitRows, namesBeyond, domesticExecution, badKey}
+use Rattle.rules.specs.Message.{Key, Fields, messageOf, wrongForm, badMap, badKey, wrongRange}
+use Rattle.rules.specs.Lodging.{Lodgement, stands, without, judgedAt, judgedBy, limitRows, namesBeyond, domesticExecution}
 use Rattle.rules.specs.Book.{Book, hours, linesOf, fresh}
 use Rattle.rules.specs.Clearing.{daySteps}
 
@@ -72,10 +72,10 @@ lodgeRows b bytes =
     row 3 (wrongForm bytes)
     ∷ row 4 (badMap (m .map) || namesBeyond (hours b) (m .map))
     ∷ row 5 (wrongRange bytes)
-    ∷ row 6 (badHolder b (keyOf m))
-    ∷ row 9 (full b (keyOf m))
+    ∷ row 6 (badHolder b (m .key))
+    ∷ row 9 (full b (m .key))
     ∷ limitRows (hours b) (m .energies) (judgedAt (b .standing) m)
-    (judgedBy (linesOf b) (unitOf (b .units) (m .unit)) (m .default))
+    (judgedBy (linesOf b) (unitOf (b .units) (m .key .unit)) (m .key .default))
 
 -- the call's own rows, after the gate's
 unfoldable pub callRows : Book → Call → List Row
@@ -143,7 +143,7 @@ unfoldable pub notify : ℕ → List ℕ → Registered → Registered
 notify n es r = record { unit = r .unit; available = cond (hasNumber n r) (some es) (r .available) }
 
 unfoldable pub entry : Fields → ℕ → Lodgement
-entry m n = record { key = keyOf m; number = n; energies = m .energies; prices = m .prices }
+entry m n = record { key = m .key; number = n; energies = m .energies; prices = m .prices }
 
 -- "registering adds the unit; a notice replaces its earlier one; lodging drops any lodgement of its key, enters its own
 -- under the next number [..]; annulling drops the key's lodgement"
@@ -153,7 +153,7 @@ applied b (capacity cs) = withCapacities b cs
 applied b (available n es) = withUnits b (map (notify n es) (b .units))
 applied b (lodge bytes) =
     let m = messageOf bytes in
-    withStanding b (without (keyOf m) (b .standing) ++ (entry m (suc (b .last)) ∷ [])) (suc (b .last))
+    withStanding b (without (m .key) (b .standing) ++ (entry m (suc (b .last)) ∷ [])) (suc (b .last))
 applied b (annul k) = withStanding b (without k (b .standing)) (b .last)
 applied b close = withStage b true (b .cleared)
 applied b clear = withStage b (b .closed) true

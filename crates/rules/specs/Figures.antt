@@ -45,10 +45,7 @@ date y m d = record { year = y; month = m; day = d }
 -- 1. "Offer, unit 7, hour 3: 120 at 4,500; hour 4: 95 at 4,400."
 abbrev offer1 : Fields
 offer1 = record {
-  execution = false;
-  default = false;
-  unit = 7;
-  contract = 0;
+  key = record { execution = false; default = false; unit = 7; contract = 0 };
   map = 0b0011000000000000000000000;
   energies = 0 ∷ 0 ∷ 120 ∷ 95 ∷ replicate 21 0;
   prices = 0 ∷ 0 ∷ 4500 ∷ 4400 ∷ replicate 21 0;
@@ -78,7 +75,7 @@ unit n border purchase = register (record { number = n; agent = n; border = bord
 
 abbrev firstHour : Bool → ℕ → ℕ → ℕ → ℕ → Call
 firstHour execution u contract e p =
-    lodge (encode form1 (record { execution = execution; default = false; unit = u; contract = contract; map = 0b1000000000000000000000000; energies = e ∷ replicate 24 0; prices = p ∷ replicate 24 0 }))
+    lodge (encode form1 (record { key = record { execution = execution; default = false; unit = u; contract = contract }; map = 0b1000000000000000000000000; energies = e ∷ replicate 24 0; prices = p ∷ replicate 24 0 }))
 
 -- "Domestic sale 300 at 3,000, French purchase 150 at 5,000, domestic purchase 100 at 4,000, E 100, import absent"
 abbrev calls11 : List Call

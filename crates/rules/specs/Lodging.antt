@@ -1,19 +1,12 @@
 -- "Lodging and annulling": keys, standing lodgements, hiding, and what a lodgement is judged by.
 use Prim.Native.Nat.{ℕ, _+_}
-use mathlib.Core.Bool.{Bool, true, false, cond, not, _&&_, _||_, Bool·beq}
+use mathlib.Core.Bool.{Bool, true, false, cond, not, _&&_, Bool·beq}
 use mathlib.Core.List.{List, [], _∷_, map}
 use lib.Dec.{ltb, eqb}
 use Rattle.rules.specs.Lists.{keep, any, sumOf, from, hourly}
 use Rattle.rules.specs.Refusals.{Row, limitRow}
-use Rattle.rules.specs.Units.{TradingUnit, Registered, Limit, Lines, limits, maximumLimit, passes, badNumber, domestic}
-use Rattle.rules.specs.Message.{Fields, mapWidth, names, badContract}
-
--- "A key is kind, default mark, unit and contract."
-pub record Key : Type 0 where
-  pub execution : Bool
-  pub default : Bool
-  pub unit : ℕ
-  pub contract : ℕ
+use Rattle.rules.specs.Units.{TradingUnit, Registered, Limit, Lines, limits, maximumLimit, passes, domestic}
+use Rattle.rules.specs.Message.{Key, Fields, mapWidth, names}
 
 -- A standing lodgement. Energies and prices are by hour, 25 of each, 0 in an hour that it does not name.
 pub record Lodgement : Type 0 where
@@ -21,9 +14,6 @@ pub record Lodgement : Type 0 where
   pub number : ℕ  -- the lodging number
   pub energies : List ℕ
   pub prices : List ℕ
-
-unfoldable pub keyOf : Fields → Key
-keyOf m = record { execution = m .execution; default = m .default; unit = m .unit; contract = m .contract }
 
 unfoldable pub energyAt : Lodgement → ℕ → ℕ
 energyAt l h = hourly (l .energies) h
@@ -64,7 +54,7 @@ beside standing k = keep (λ l. eqb (l .key .unit) (k .unit) && not (Bool·beq (
 
 -- the energy by which a message is judged in an hour: "A default lodgement is judged by its own energy"
 unfoldable pub judgedAt : List Lodgement → Fields → ℕ → ℕ
-judgedAt standing m h = hourly (m .energies) h + cond (m .default) 0 (sumOf (λ l. energyAt l h) (beside standing (keyOf m)))
+judgedAt standing m h = hourly (m .energies) h + cond (m .key .default) 0 (sumOf (λ l. energyAt l h) (beside standing (m .key)))
 
 -- "against limits 10, 11, 12", a default one "against 10 only"
 unfoldable pub judgedBy : Lines → Registered → Bool → List Limit
@@ -87,10 +77,6 @@ namesBeyond H map = any (λ h. ltb H h && names map h) (from 1 mapWidth)
 unfoldable pub domesticExecution : Key → TradingUnit → Bool
 domesticExecution k u = k .execution && domestic u
 
--- 5, range, of a key: unit and contract
-unfoldable pub badKey : Key → Bool
-badKey k = badNumber (k .unit) || badContract (k .execution) (k .contract)
-
 unfoldable pub Lodging·all : Unit {0}
-unfolding keyOf energyAt sameButDefault sameKey hides isHidden unhidden stands without beside judgedAt judgedBy passedAt limitRows namesBeyond domesticExecution badKey
+unfolding energyAt sameButDefault sameKey hides isHidden unhidden stands without beside judgedAt judgedBy passedAt limitRows namesBeyond domesticExecution
 Lodging·all = tt

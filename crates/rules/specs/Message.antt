@@ -9,12 +9,16 @@ use Rattle.rules.specs.Lists.{any, sum, from, hourly, roundUp}
 use Rattle.rules.specs.Refusals.{Row, row, Outcome, refused, given, outcome}
 use Rattle.rules.specs.Units.{maxEnergy, maxPrice, badNumber}
 
--- What a message says. Energies and prices are by hour, 25 of each.
-pub record Fields : Type 0 where
+-- "A key is kind, default mark, unit and contract."
+pub record Key : Type 0 where
   pub execution : Bool  -- the kind: "0 offer, 1 execution"
   pub default : Bool
   pub unit : ℕ
   pub contract : ℕ
+
+-- What a message says. Energies and prices are by hour, 25 of each.
+pub record Fields : Type 0 where
+  pub key : Key
   pub map : ℕ  -- the hour map as the number its 25 bits stand for, hour 1 the highest
   pub energies : List ℕ
   pub prices : List ℕ
@@ -107,7 +111,7 @@ lengthFor f execution n = 8 + roundUp (f .partner + n * slotWidth (f .width) exe
 unfoldable pub headBits : Form → Fields → List ℕ
 headBits f m =
     bits 4 (f .number)
-    ++ (bits 2 (bit (m .execution)) ++ (bits 1 (bit (m .default)) ++ (bits 16 (m .unit) ++ (bits 16 (m .contract) ++ (hourBits (m .map) ++ bits (f .partner) 0)))))
+    ++ (bits 2 (bit (m .key .execution)) ++ (bits 1 (bit (m .key .default)) ++ (bits 16 (m .key .unit) ++ (bits 16 (m .key .contract) ++ (hourBits (m .map) ++ bits (f .partner) 0)))))
 
 -- the bits of an hour: none where it is not set
 unfoldable pub slot : ℕ → Bool → ℕ → ℕ → ℕ → List ℕ
@@ -120,7 +124,7 @@ slots w x [] es ps = []
 slots w x (b ∷ map) es ps = slot w x b (hourly es 1) (hourly ps 1) ++ slots w x map (drop 1 es) (drop 1 ps)
 
 unfoldable pub messageBits : Form → Fields → List ℕ
-messageBits f m = headBits f m ++ slots (f .width) (m .execution) (hourBits (m .map)) (m .energies) (m .prices)
+messageBits f m = headBits f m ++ slots (f .width) (m .key .execution) (hourBits (m .map)) (m .energies) (m .prices)
 
 -- the bytes of a message
 unfoldable pub encode : Form → Fields → List ℕ
@@ -149,10 +153,7 @@ fieldsOf f bs =
     let map = hourBits (mapOf bs) in
     let rest = drop (headWidth f) bs in
     record {
-      execution = x;
-      default = eqb (field 6 1 bs) 1;
-      unit = field 7 16 bs;
-      contract = field 23 16 bs;
+      key = record { execution = x; default = eqb (field 6 1 bs) 1; unit = field 7 16 bs; contract = field 23 16 bs };
       map = mapOf bs;
       energies = readSlots (field 0 w) (slotWidth w x) map rest;
       prices = readSlots (field w (priceWidth x)) (slotWidth w x) map rest;
@@ -198,6 +199,10 @@ unfoldable pub badContract : Bool → ℕ → Bool
 badContract true contract = badNumber contract
 badContract false contract = not (eqb contract 0)
 
+-- 5, range, of a key: unit and contract
+unfoldable pub badKey : Key → Bool
+badKey k = badNumber (k .unit) || badContract (k .execution) (k .contract)
+
 -- "all prices of an execution, are 0"
 unfoldable pub topPrice : Bool → ℕ
 topPrice true = 0
@@ -209,12 +214,12 @@ badHour top m h =
     let e = hourly (m .energies) h in
     let p = hourly (m .prices) h in
     cond (names (m .map) h)
-    (eqb e 0 || ltb top e || ltb (topPrice (m .execution)) p)
+    (eqb e 0 || ltb top e || ltb (topPrice (m .key .execution)) p)
     (not (eqb e 0) || not (eqb p 0))
 
 -- "a value outside its range", energies up to `top`
 unfoldable pub badFields : ℕ → Fields → Bool
-badFields top m = badNumber (m .unit) || badContract (m .execution) (m .contract) || any (badHour top m) (from 1 mapWidth)
+badFields top m = badKey (m .key) || any (badHour top m) (from 1 mapWidth)
 
 -- 5, range: of a message, by the largest energy of its form
 unfoldable pub wrongRange : List ℕ → Bool
@@ -233,7 +238,7 @@ formFor m = form1
 
 -- "The number of set bits n fixes the length": of the fields' message
 unfoldable pub messageLength : Fields → ℕ
-messageLength m = lengthFor (formFor m) (m .execution) (setBits (m .map))
+messageLength m = lengthFor (formFor m) (m .key .execution) (setBits (m .map))
 
 -- 14, short: "writer's buffer too small"
 unfoldable pub writeRows : ℕ → Fields → List Row
@@ -249,5 +254,5 @@ bufferAfter (given bytes) old = bytes ++ drop (length bytes) old
 bufferAfter (refused n h) old = old
 
 unfoldable pub Message·all : Unit {0}
-unfolding priceWidth bits value field bitsOf groups bytesOf bit hourBits names setBits slotWidth lengthFor headBits slot slots messageBits encode readSlots isExecution mapOf fieldsOf decode formOf messageOf badFilling badForm wrongForm badMap badContract topPrice badHour badFields wrongRange readRows read formFor messageLength writeRows write bufferAfter
+unfolding priceWidth bits value field bitsOf groups bytesOf bit hourBits names setBits slotWidth lengthFor headBits slot slots messageBits encode readSlots isExecution mapOf fieldsOf decode formOf messageOf badFilling badForm wrongForm badMap badContract badKey topPrice badHour badFields wrongRange readRows read formFor messageLength writeRows write bufferAfter
 Message·all = tt

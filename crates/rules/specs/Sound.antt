@@ -10,8 +10,8 @@ use Rattle.rules.specs.Lists.{All, Pairwise, hourly}
 use Rattle.rules.specs.Refusals.{given}
 use Rattle.rules.specs.Hours.{isDate}
 use Rattle.rules.specs.Units.{Registered, Published, Capacities, maxEnergy, badUnit, sameBorderSide, unitOf, isRegistered}
-use Rattle.rules.specs.Message.{Fields, names, topPrice, read}
-use Rattle.rules.specs.Lodging.{Key, Lodgement, energyAt, sameKey, namesBeyond, domesticExecution, badKey}
+use Rattle.rules.specs.Message.{Key, Fields, badKey, names, topPrice, read}
+use Rattle.rules.specs.Lodging.{Lodgement, energyAt, sameKey, namesBeyond, domesticExecution}
 use Rattle.rules.specs.Book.{Book, hours}
 use Rattle.rules.specs.DayBook.{Call, capacity, entry}
 

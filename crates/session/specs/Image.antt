@@ -9,6 +9,7 @@ use lib.ListN.{length, replicate}
 use Rattle.rules.specs.Lists.{from}
 use Rattle.rules.specs.Hours as H
 use Rattle.rules.specs.Units as U
+use Rattle.rules.specs.Message as M
 use Rattle.rules.specs.Lodging as L
 use Rattle.rules.specs.Book as B
 use Rattle.rules.specs.Closing as C
@@ -41,7 +42,7 @@ publishedIn p = cond (p .published) (some (counted (p .count) (p .energies))) no
 abbrev pub capacitiesIn : List Published → U.Capacities
 capacitiesIn ps = map publishedIn ps
 
-abbrev pub keyIn : Key → L.Key
+abbrev pub keyIn : Key → M.Key
 keyIn k = record { execution = k .execution; default = k .default; unit = k .unit; contract = k .contract }
 
 -- How the book's things are laid out
@@ -63,7 +64,7 @@ unitOf r = unitAs (r .unit)
 abbrev pub noticeOf : U.Registered → Notice
 noticeOf r = noticeAs (r .available)
 
-abbrev pub keyAs : L.Key → Key
+abbrev pub keyAs : M.Key → Key
 keyAs k = record { execution = k .execution; default = k .default; unit = k .unit; contract = k .contract }
 
 abbrev pub lodgementAs : L.Lodgement → Lodgement

@@ -6,6 +6,7 @@ use mathlib.Core.List.{List, [], _∷_}
 use lib.ListN.{getD, take}
 use borrow.Author.Tests.{eq-eqb, ne-eqb, not-true}
 use Rattle.rules.specs.Lists.{any}
+use Rattle.rules.specs.Message as M
 use Rattle.rules.specs.Lodging as L
 use Rattle.rules.specs.Book.{Book}
 use Rattle.rules.specs.Demands.{turnOf}
@@ -33,11 +34,11 @@ module _ (s : Session) (b : Book) (e : s ≡ image b) (i : ℕ) (h : i < s .stan
 -- Whether a place is taken
 
 -- a normal lodgement is hidden by none
-hides-normal : (a k : L.Key) → k .default ≡ false → L.hides a k ≡ false
+hides-normal : (a k : M.Key) → k .default ≡ false → L.hides a k ≡ false
 unfolding L.hides
 hides-normal a k e = and-false (L.sameButDefault a k && not (a .default)) (k .default) e
 
-shown-normal : (ls : List L.Lodgement) (k : L.Key) → k .default ≡ false → any (λ (l : L.Lodgement). L.hides (l .key) k) ls ≡ false
+shown-normal : (ls : List L.Lodgement) (k : M.Key) → k .default ≡ false → any (λ (l : L.Lodgement). L.hides (l .key) k) ls ≡ false
 unfolding any
 shown-normal [] k e = refl
 shown-normal (l ∷ ls) k e = rw (hides-normal (l .key) k e) (shown-normal ls k e)

@@ -36,7 +36,7 @@ module _ (wide : ℕ) (m : Fields) (old : List ℕ) (start : Pen) where
 
   -- hour i is next, and v the number of its slot of w bits
   module _ {buf : List ℕ} {p : Pen} {rest : ℕ} (h : Midway wide m old start buf p rest) {i rest′ w v : ℕ} (t : FirstHour rest i rest′)
-      (e : w ≡ slotWidth wide (m .execution)) (s : SlotWord wide (m .execution) (getD (m .energies) i 0) (getD (m .prices) i 0) v) where
+      (e : w ≡ slotWidth wide (m .key .execution)) (s : SlotWord wide (m .key .execution) (getD (m .energies) i 0) (getD (m .prices) i 0) v) where
     next-bits : slotsOf wide m rest ≡ bits w v ++ slotsOf wide m rest′
     unfolding slotAt
     next-bits = rw (slotsOf-next wide m rest i rest′ t, e, s .bits)

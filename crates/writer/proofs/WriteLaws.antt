@@ -86,7 +86,7 @@ module _ (f : Form) (m : Fields) (is : formFor m ≡ f) where
   -- no message is longer than 25 hours of an offer
   length-most : messageLength m ≤ (mostBits f + 7) / 8
   unfolding messageLength
-  length-most = rw is (omega (arith, end-le f (m .execution) (m .map), length-end f (m .execution) (setBits (m .map))))
+  length-most = rw is (omega (arith, end-le f (m .key .execution) (m .map), length-end f (m .key .execution) (setBits (m .map))))
 
   -- the head and the slots find room where the message does
   pub head-room : (buf : List ℕ) → messageLength m ≤ length buf → 8 ≤ length buf
