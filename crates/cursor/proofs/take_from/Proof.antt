@@ -99,7 +99,6 @@ module _ (κ : Lft) where
 
 -- the two together are what lies there, and back
 module _ {M : Type 1} (𝓤 : URA M) (H : Heap 𝓤) (A : Atoms 𝓤) (W : Given 𝓤 H A) (κ : Lft) (h : Reader) (b : ℕ) where
-
   laid : ent 𝓤 (sep 𝓤 (sem 𝓤 H A (cell κ h b)) (sem 𝓤 H A (own κ h))) (sem 𝓤 H A (mem (R κ) .lies h b 0))
   unfolding partOf
   laid =
