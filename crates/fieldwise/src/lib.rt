@@ -9,6 +9,7 @@ use ranges::bad_map;
 use reader::bad_form;
 use reader::top_of;
 ghost use mathlib.Core.Path.{_≡_};
+ghost use lib.ListN.{length};
 ghost use Rattle.rules.specs.Refusals.{given};
 ghost use Rattle.rules.specs.Message.{form1, bit, bitsOf, hourBits, messageOf, read as reading};
 ghost use Rattle.message.specs.View.{noFields, readingAs};
@@ -50,6 +51,7 @@ fn slots_from(
     energies: &mut [u32; 25],
     prices: &mut [u32; 25],
 ) -> usize
+    requires { ⌜ (length (now energies) ≡ 25) × (length (now prices) ≡ 25) ⌝ }
     ensures { λ r. ⌜ SlotsTaken (bitsOf (now (s .entry))) (form1 .width) execution (hourBits map) at (now (energies .exit)) (now (prices .exit)) r ⌝ }
 {
     let mut next = at;

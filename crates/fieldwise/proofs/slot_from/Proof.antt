@@ -1,30 +1,25 @@
-use borrow.Author.Needs.{needs}
+-- `slot_from` meets its contract: of an hour that is named both numbers are taken.
+use Rattle.rules.specs.Message.{bit}
+use Rattle.cursor.specs.Taking.{set, unset}
 use Rattle.fieldwise.proofs.slot_from.Statement.{statement}
 use Rattle.fieldwise.proofs.slot_from.Tie as tie
-use Rattle.fieldwise.proofs.slot_from.Reads as reads
-use Rattle.fieldwise.proofs.slot_from.Lts as lts
-use Rattle.cursor.proofs.take_from.Reads as take-from-reads
-use Rattle.message.proofs.form.price_width.Reads as price-width-reads
 
--- src/lib.rt:29:13
 take-from-requires : tie.Need-take-from-requires
-take-from-requires c κs = search needs
+take-from-requires c κs = tt
 
--- src/lib.rt:30:47
 price-width-requires : tie.Need-price-width-requires
-price-width-requires c κs = search needs
+price-width-requires c κs = tt
 
--- src/lib.rt:30:13
 take-from-requires-2 : tie.Need-take-from-requires-2
-take-from-requires-2 c κs = search needs
+take-from-requires-2 c κs = tt
 
--- src/lib.rt:31:9
 returns : tie.Need-returns
-returns c = search needs
+unfolding bit
+returns c = rw (c .before .before .before .if1 .taken) (set (c .before .before .take-from .ensures) (rw (c .before .price-width .ensures .0) at (c .take-from2 .ensures)))
 
--- src/lib.rt:25:1
 returns-2 : tie.Need-returns-2
-returns-2 c = search needs
+unfolding bit
+returns-2 c = rw (c .if1 .left) unset
 
 pub slot-from-spec : {M : Type 1} → statement M
 slot-from-spec =

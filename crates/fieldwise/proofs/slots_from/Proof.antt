@@ -1,64 +1,53 @@
+-- `slots_from` meets its contract. The invariant: whatever is taken of the hours that are left completes the slots. The measure is the hours that are left.
+use Prim.Native.Nat.{_-_}
+use native.Mathlib.Omega.{arith}
 use borrow.Author.Needs.{needs}
+use Rattle.rules.specs.Message.{form1, bitsOf}
+use Rattle.fieldwise.proofs.HourLaws.{Passed, passed-none, passed-next, passed-all}
 use Rattle.fieldwise.proofs.slots_from.Statement.{statement}
 use Rattle.fieldwise.proofs.slots_from.Tie as tie
-use Rattle.fieldwise.proofs.slots_from.Reads as reads
-use Rattle.fieldwise.proofs.slots_from.Lts as lts
-use Rattle.fieldwise.proofs.slot_from.Reads as slot-from-reads
-use Rattle.message.proofs.judge.named.Reads as named-reads
 
 abbrev Inv-loop : tie.InvT-loop
-Inv-loop s at execution map energies₀ prices₀ next₀ i₀ energies prices next i = ?
+Inv-loop s at execution map energies₀ prices₀ next₀ i₀ energies prices next i = Passed (bitsOf s) (form1 .width) execution map at energies prices next i
 
 abbrev μ-loop : tie.MeasureT-loop
-μ-loop s at execution map energies₀ prices₀ next₀ i₀ energies prices next i = ?
+μ-loop s at execution map energies₀ prices₀ next₀ i₀ energies prices next i = 25 - i
 
--- src/lib.rt:56:5
 loop-holds : tie.Need-loop-holds Inv-loop μ-loop
-loop-holds c = search needs
+loop-holds c = passed-none _ _ _ _ _ _ _ (c .before .pre .0) (c .before .pre .1)
 
--- src/lib.rt:57:61
 add-named : tie.Need-add-named Inv-loop μ-loop
 add-named c = search needs
 
--- src/lib.rt:57:50
 named-requires : tie.Need-named-requires Inv-loop μ-loop
 named-requires c κs = search needs
 
--- src/lib.rt:57:13
 slot-from-requires : tie.Need-slot-from-requires Inv-loop μ-loop
 slot-from-requires c κs = search needs
 
--- src/lib.rt:58:9
 mul-energies : tie.Need-mul-energies Inv-loop μ-loop
 mul-energies c = search needs
 
--- src/lib.rt:58:9
 element-write-energies : tie.Need-element-write-energies Inv-loop μ-loop
 element-write-energies c = search needs
 
--- src/lib.rt:59:9
 mul-prices : tie.Need-mul-prices Inv-loop μ-loop
 mul-prices c = search needs
 
--- src/lib.rt:59:9
 element-write-prices : tie.Need-element-write-prices Inv-loop μ-loop
 element-write-prices c = search needs
 
--- src/lib.rt:56:9
 add-i : tie.Need-add-i Inv-loop μ-loop
 add-i c = search needs
 
--- src/lib.rt:56:5
 loop-less : tie.Need-loop-less Inv-loop μ-loop
 loop-less c = search needs
 
--- src/lib.rt:56:5
 loop-again : tie.Need-loop-again Inv-loop μ-loop
-loop-again c = search needs
+loop-again c = passed-next _ _ _ _ _ (c .before .before .before .loop .inv) _ _ _ (c .before .before .loop-test .taken) (rw (← c .before .named .ensures) (c .slot-from .ensures))
 
--- src/lib.rt:45:1
 returns : tie.Need-returns Inv-loop μ-loop
-returns c = search needs
+returns c = passed-all _ _ _ _ _ (c .before .loop .inv) (omega arith)
 
 pub slots-from-spec : {M : Type 1} → statement M
 slots-from-spec =
