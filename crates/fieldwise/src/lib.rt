@@ -11,7 +11,7 @@ use reader::top_of;
 ghost use mathlib.Core.Path.{_≡_};
 ghost use lib.ListN.{length};
 ghost use Rattle.rules.specs.Refusals.{given};
-ghost use Rattle.rules.specs.Message.{form1, bit, bitsOf, hourBits, messageOf, read as reading};
+ghost use Rattle.rules.specs.Message.{bit, bitsOf, hourBits, messageOf, read as reading};
 ghost use Rattle.message.specs.View.{noFields, readingAs};
 ghost use Rattle.cursor.specs.Taking.{SlotTaken, SlotsTaken};
 
@@ -22,12 +22,12 @@ struct Slot {
     next: usize,
 }
 
-// The slot of an hour from bit `at` on: "energy 17, and for an offer price 15". An hour that is not named has none.
-fn slot_from(s: &[u8], at: usize, execution: bool, named: bool) -> Slot
-    ensures { λ r. ⌜ SlotTaken (bitsOf (now (s .entry))) (form1 .width) execution at (bit named) (r .energy) (r .price) (r .next) ⌝ }
+// The slot of an hour from bit `at` on: an energy of `width` bits, "and for an offer price 15". An hour that is not named has none.
+fn slot_from(s: &[u8], at: usize, width: usize, execution: bool, named: bool) -> Slot
+    ensures { λ r. ⌜ SlotTaken (bitsOf (now (s .entry))) width execution at (bit named) (r .energy) (r .price) (r .next) ⌝ }
 {
     if named {
-        let energy = take_from(s, at, 17);
+        let energy = take_from(s, at, width);
         let price = take_from(s, energy.next, price_width(execution));
         return Slot {
             energy: energy.value,
@@ -46,17 +46,18 @@ fn slot_from(s: &[u8], at: usize, execution: bool, named: bool) -> Slot
 fn slots_from(
     s: &[u8],
     at: usize,
+    width: usize,
     execution: bool,
     map: u32,
     energies: &mut [u32; 25],
     prices: &mut [u32; 25],
 ) -> usize
     requires { ⌜ (length (now energies) ≡ 25) × (length (now prices) ≡ 25) ⌝ }
-    ensures { λ r. ⌜ SlotsTaken (bitsOf (now (s .entry))) (form1 .width) execution (hourBits map) at (now (energies .exit)) (now (prices .exit)) r ⌝ }
+    ensures { λ r. ⌜ SlotsTaken (bitsOf (now (s .entry))) width execution (hourBits map) at (now (energies .exit)) (now (prices .exit)) r ⌝ }
 {
     let mut next = at;
     for i in 0..25 {
-        let slot = slot_from(s, next, execution, named(map, i + 1));
+        let slot = slot_from(s, next, width, execution, named(map, i + 1));
         energies[i] = slot.energy;
         prices[i] = slot.price;
         next = slot.next;
@@ -80,6 +81,7 @@ fn fields_of(s: &[u8]) -> Fields
     let _end = slots_from(
         s,
         map.next,
+        17,
         execution,
         map.value,
         &mut energies,

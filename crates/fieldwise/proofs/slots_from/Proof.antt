@@ -2,16 +2,16 @@
 use Prim.Native.Nat.{_-_}
 use native.Mathlib.Omega.{arith}
 use borrow.Author.Needs.{needs}
-use Rattle.rules.specs.Message.{form1, bitsOf}
+use Rattle.rules.specs.Message.{bitsOf}
 use Rattle.fieldwise.proofs.HourLaws.{Passed, passed-none, passed-next, passed-all}
 use Rattle.fieldwise.proofs.slots_from.Statement.{statement}
 use Rattle.fieldwise.proofs.slots_from.Tie as tie
 
 abbrev Inv-loop : tie.InvT-loop
-Inv-loop s at execution map energies₀ prices₀ next₀ i₀ energies prices next i = Passed (bitsOf s) (form1 .width) execution map at energies prices next i
+Inv-loop s at width execution map energies₀ prices₀ next₀ i₀ energies prices next i = Passed (bitsOf s) width execution map at energies prices next i
 
 abbrev μ-loop : tie.MeasureT-loop
-μ-loop s at execution map energies₀ prices₀ next₀ i₀ energies prices next i = 25 - i
+μ-loop s at width execution map energies₀ prices₀ next₀ i₀ energies prices next i = 25 - i
 
 loop-holds : tie.Need-loop-holds Inv-loop μ-loop
 loop-holds c = passed-none _ _ _ _ _ _ _ (c .before .pre .0) (c .before .pre .1)
