@@ -1,4 +1,5 @@
 // "A reader set over the message moves on through its bits": the message and the position of its next bit.
+use bits::Taken;
 use bits::has_at;
 use bits::take_at;
 ghost use mathlib.Core.Path.{_≡_};
@@ -6,6 +7,7 @@ ghost use Prim.Native.Nat.{_+_, _-_, _^_, min};
 ghost use lib.Dec.{leb};
 ghost use lib.ListN.{length};
 ghost use Rattle.rules.specs.Message.{bitsOf, field};
+ghost use Rattle.cursor.specs.Taking.{Takes};
 
 pub struct Reader<'a> {
     pub message: &'a [u8],
@@ -37,5 +39,18 @@ impl<'a> Reader<'a> {
         ensures { λ b. ⌜ b ≡ leb (self .entry .at + width) (length (bitsOf (now (self .entry .message)))) ⌝ }
     {
         has_at(self.message, self.at, width)
+    }
+}
+
+// One field by a reader set over the message: at bit `at` it takes the next `width` bits. The number, and the position at which it then stands.
+pub fn take_from(message: &[u8], at: usize, width: usize) -> Taken
+    ensures { λ r. ⌜ Takes (bitsOf (now (message .entry))) at width (r .value) (r .next) ⌝ }
+{
+    let mut reader = Reader::over(message);
+    reader.at = at;
+    let value = reader.take(width);
+    Taken {
+        value,
+        next: reader.at,
     }
 }

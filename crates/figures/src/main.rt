@@ -4,6 +4,7 @@
 //     c YEAR MONTH DAY HOUR          the clock name of an hour, and its mark
 //     n YEAR MONTH DAY NAME MARK     the hour of a clock name; mark 1 is "second"
 //     r BYTE BYTE ..                 a message read; bytes in hexadecimal
+//     f BYTE BYTE ..                 the same, field by field through a reader set over it
 //     w ROOM EXECUTION DEFAULT UNIT CONTRACT MAP, 25 energies, 25 prices
 //                                    a message written into ROOM bytes that all hold A5, and what they then hold
 //     o NUMBER BORDER PURCHASE LEGACY ENERGY PRICE

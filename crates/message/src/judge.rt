@@ -9,7 +9,7 @@ ghost use Rattle.rules.specs.Message.{badHour, badFields, names};
 ghost use Rattle.message.specs.View.{fieldsIn};
 
 // Whether the map names hour h.
-fn named(map: u32, h: usize) -> bool
+pub fn named(map: u32, h: usize) -> bool
     requires { ⌜ (1 ≤ h) × (h ≤ 25) ⌝ }
     ensures { λ r. ⌜ r ≡ names map h ⌝ }
 {

@@ -4,6 +4,7 @@ use calendar::Counted;
 use calendar::Date;
 use calendar::Named;
 use message::Fields;
+use message::Reading;
 ghost use Prim.Native.Nat.{_<_};
 ghost use lib.ListN.{length};
 
@@ -183,8 +184,16 @@ fn bytes_of(n: Numbers) -> [u8; 128] {
     bytes
 }
 
-fn answer_bytes(s: &[u8]) {
-    let r = reader::read(s);
+// A message read as a whole, or field by field through a reader set over it.
+fn reading_of(s: &[u8], fieldwise: bool) -> Reading {
+    if fieldwise {
+        return fieldwise::read(s);
+    }
+    reader::read(s)
+}
+
+fn answer_bytes(s: &[u8], fieldwise: bool) {
+    let r = reading_of(s, fieldwise);
     if r.refusal != 0 {
         put_refusal(r.refusal);
         return;
@@ -192,16 +201,16 @@ fn answer_bytes(s: &[u8]) {
     put_fields(r.fields);
 }
 
-fn answer_first(s: &[u8], count: usize) {
+fn answer_first(s: &[u8], count: usize, fieldwise: bool) {
     if s.len() < count {
         return;
     }
-    answer_bytes(&s[..count]);
+    answer_bytes(&s[..count], fieldwise);
 }
 
-fn answer_read(n: Numbers) {
+fn answer_read(n: Numbers, fieldwise: bool) {
     let bytes = bytes_of(n);
-    answer_first(&bytes, n.count);
+    answer_first(&bytes, n.count, fieldwise);
 }
 
 // The fields that a line gives behind the room of the buffer.
@@ -275,7 +284,8 @@ pub fn answer_plain(line: &[u8], kind: u8, tens: Numbers)
             };
             put_counted(calendar::hour_at(date_of(tens), clock));
         }
-        b'r' => answer_read(numbers_of(&line[1..], true)),
+        b'r' => answer_read(numbers_of(&line[1..], true), false),
+        b'f' => answer_read(numbers_of(&line[1..], true), true),
         b'w' => answer_write(tens),
         _ => {
             put(line);
