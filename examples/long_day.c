@@ -41,7 +41,7 @@ static GateResponse lodge(GateSession *s, GateFields m) {
     uint8_t message[GATE_MESSAGE];
     GateWritten w = gate_write(m, message, sizeof message);
     if (w.refusal != 0) {
-        GateResponse r = {GATE_REFUSED, w.refusal, 0, 0, 0};
+        GateResponse r = {.kind = GATE_REFUSED, .row = w.refusal};
         return r;
     }
     return gate_lodge(s, message, w.count);
@@ -74,13 +74,12 @@ static void publish(GateCapacities *n, uint32_t border, bool is_export, size_t h
 }
 
 static void register_units(GateSession *s) {
-    /* number, agent, border, purchase, maximum, legacy */
     const GateUnit units[] = {
-        {1, 10, GATE_DOMESTIC, false, 500, false}, /* sells at home */
-        {2, 20, GATE_DOMESTIC, true, 200, false},  /* 2 and 9 buy there */
-        {9, 90, GATE_DOMESTIC, true, 60, false},
-        {7, 70, GATE_FRANCE, true, 300, false},    /* buys for France */
-        {8, 80, GATE_PORTUGAL, true, 100, false},  /* buys for Portugal */
+        {.number = 1, .agent = 10, .border = GATE_DOMESTIC, .maximum = 500},                   /* sells at home */
+        {.number = 2, .agent = 20, .border = GATE_DOMESTIC, .maximum = 200, .purchase = true}, /* 2 and 9 buy there */
+        {.number = 9, .agent = 90, .border = GATE_DOMESTIC, .maximum = 60, .purchase = true},
+        {.number = 7, .agent = 70, .border = GATE_FRANCE, .maximum = 300, .purchase = true},   /* buys for France */
+        {.number = 8, .agent = 80, .border = GATE_PORTUGAL, .maximum = 100, .purchase = true}, /* buys for Portugal */
     };
     for (size_t i = 0; i < sizeof units / sizeof units[0]; i++) say("register", gate_register(s, units[i]));
     say("register unit 7 again", gate_register(s, units[3]));
@@ -96,7 +95,7 @@ int main(void) {
         GateClockName c = gate_clock(date, hour);
         printf("hour %u starts at %u o'clock%s\n", (unsigned)hour, (unsigned)c.name, c.second ? ", the second" : "");
     }
-    const GateClock second_two = {2, true};
+    const GateClock second_two = {.name = 2, .second = true};
     say("the second two o'clock is hour", gate_hour(date, second_two));
 
     register_units(s);

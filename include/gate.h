@@ -23,6 +23,9 @@
  * promises are of the sessions that gate_open and the calls leave. A call on any other session returns too, and nothing is promised of
  * its answer.
  *
+ * No struct has padding: where one would have it stands a field `reserved`. It is not looked at in what is passed, and 0 in what is
+ * given back and in a session, so that two equal histories leave sessions of equal bytes, which memcmp compares.
+ *
  * Units of measure: energy in tenths of a MWh, 0 to 99,999; price in hundredths of a euro per MWh, 0 to 18,030. An hour is a number, 1 to
  * the day's 23, 24 or 25, never a clock name. Balances are exports less imports. A maximum is counted in its own direction: one
  * of imports bounds the balance negated. At a border a sale is an import, a purchase an export.
@@ -57,6 +60,10 @@ enum {
 };
 
 enum { GATE_DOMESTIC = 0, GATE_FRANCE = 1, GATE_ANDORRA = 2, GATE_PORTUGAL = 3, GATE_MOROCCO = 4 };
+
+/* A struct with padding does not compile, from here to the end of the session. */
+#pragma GCC diagnostic push
+#pragma GCC diagnostic error "-Wpadded"
 
 /* ------------------------------------------------------------------------------------------------ responses */
 
@@ -97,6 +104,7 @@ typedef struct GateResponse {
     uint32_t kind;
     uint32_t row;
     uint32_t hour;
+    uint32_t reserved;
     int64_t value;
     uint64_t count;
 } GateResponse;
@@ -113,29 +121,34 @@ typedef struct GateDate {
 typedef struct GateClock {
     uint32_t name;
     bool second;
+    uint8_t reserved;
+    uint16_t reserved2;
 } GateClock;
 
 typedef struct GateUnit {
     uint32_t number;  /* 1 to 65,535 */
     uint32_t agent;   /* 1 to 65,535 */
     uint32_t border;  /* 0 domestic, 1 France, 2 Andorra, 3 Portugal, 4 Morocco */
-    bool purchase;    /* false: a sale */
     uint32_t maximum; /* energy */
+    bool purchase;    /* false: a sale */
     bool legacy;      /* contracts older than Law 54/97; borders 1 to 4 only */
+    uint16_t reserved;
 } GateUnit;
 
 /* An unavailability notice: `count` available energies of a unit, hour 1 first. A count that is not the day's is refused (4). */
 typedef struct GateAvailability {
-    uint32_t unit;
     size_t count;
+    uint32_t unit;
     uint32_t energies[GATE_HOURS];
 } GateAvailability;
 
 /* A direction of a capacity notice: absent (then count and energies are not looked at), which means no maximum, or `count` energies,
  * hour 1 first, of which 0 is a maximum too. Before the first notice every direction is absent. */
 typedef struct GatePublished {
-    bool published;
     size_t count;
+    bool published;
+    uint8_t reserved;
+    uint16_t reserved2;
     uint32_t energies[GATE_HOURS];
 } GatePublished;
 
@@ -153,6 +166,7 @@ static inline size_t gate_direction(uint32_t border, bool is_export) {
 typedef struct GateKey {
     bool execution;    /* false: an offer */
     bool is_default;   /* the default mark */
+    uint16_t reserved;
     uint32_t unit;
     uint32_t contract; /* 0 for an offer, 1 to 65,535 for an execution */
 } GateKey;
@@ -161,6 +175,7 @@ typedef struct GateKey {
 typedef struct GateFields {
     bool execution;
     bool is_default;
+    uint16_t reserved;
     uint32_t unit;
     uint32_t contract;
     uint32_t map;                  /* the hours that it names: see gate_hour_bit */
@@ -184,6 +199,7 @@ typedef struct GateReading {
 /* A message written: refusal 0 and the count of its bytes, or the table's row and 0. */
 typedef struct GateWritten {
     uint32_t refusal;
+    uint32_t reserved;
     size_t count;
 } GateWritten;
 
@@ -192,6 +208,8 @@ typedef struct GateClockName {
     uint32_t row;
     uint32_t name;
     bool second;
+    uint8_t reserved;
+    uint16_t reserved2;
 } GateClockName;
 
 /* ------------------------------------------------------------------------------------------------ the session */
@@ -202,6 +220,8 @@ typedef struct GateClockName {
 /* A notice that the session keeps. */
 typedef struct GateNotice {
     bool given;
+    uint8_t reserved;
+    uint16_t reserved2;
     uint32_t energies[GATE_HOURS];
 } GateNotice;
 
@@ -219,6 +239,8 @@ typedef struct GateEnergies {
 /* A verdict: accepted, refused by a limit in an hour, or neither, which is hidden. */
 typedef struct GateVerdict {
     bool accepted;
+    uint8_t reserved;
+    uint16_t reserved2;
     uint32_t limit;
     uint32_t hour;
 } GateVerdict;
@@ -247,8 +269,10 @@ typedef struct GateSession {
     uint32_t last;                             /* the last lodging number, 0 before the first */
     bool closed;
     bool cleared;
+    uint16_t reserved;
     GateVerdict verdicts[GATE_LODGEMENTS];     /* in the lodgements' places, once closed */
     GateCleared figures[GATE_HOURS];           /* hour 1 first, once cleared */
+    uint32_t reserved2;
 } GateSession;
 
 /* A date's answer, and its fresh session. */
@@ -257,30 +281,34 @@ typedef struct GateOpening {
     GateSession session;
 } GateOpening;
 
+#pragma GCC diagnostic pop
+
 /* The layout that the archive is compiled with. */
 GATE_ASSERT(sizeof(bool) == 1);
 GATE_ASSERT(sizeof(GateResponse) == 32 && offsetof(GateResponse, value) == 16 && offsetof(GateResponse, count) == 24);
 GATE_ASSERT(sizeof(GateDate) == 12);
-GATE_ASSERT(sizeof(GateClock) == 8);
-GATE_ASSERT(sizeof(GateUnit) == 24 && offsetof(GateUnit, maximum) == 16 && offsetof(GateUnit, legacy) == 20);
-GATE_ASSERT(sizeof(GateAvailability) == 120 && offsetof(GateAvailability, energies) == 16);
-GATE_ASSERT(sizeof(GatePublished) == 120 && offsetof(GatePublished, energies) == 16);
-GATE_ASSERT(sizeof(GateCapacities) == 960);
+GATE_ASSERT(sizeof(GateClock) == 8 && offsetof(GateClock, second) == 4);
+GATE_ASSERT(sizeof(GateUnit) == 20 && offsetof(GateUnit, maximum) == 12 && offsetof(GateUnit, purchase) == 16 && offsetof(GateUnit, legacy) == 17);
+GATE_ASSERT(sizeof(GateAvailability) == 112 && offsetof(GateAvailability, unit) == 8 && offsetof(GateAvailability, energies) == 12);
+GATE_ASSERT(sizeof(GatePublished) == 112 && offsetof(GatePublished, published) == 8 && offsetof(GatePublished, energies) == 12);
+GATE_ASSERT(sizeof(GateCapacities) == 896);
 GATE_ASSERT(sizeof(GateKey) == 12 && offsetof(GateKey, unit) == 4);
 GATE_ASSERT(sizeof(GateFields) == 216 && offsetof(GateFields, map) == 12 && offsetof(GateFields, prices) == 116);
 GATE_ASSERT(sizeof(GateReading) == 220 && offsetof(GateReading, fields) == 4);
 GATE_ASSERT(sizeof(GateWritten) == 16 && offsetof(GateWritten, count) == 8);
-GATE_ASSERT(sizeof(GateClockName) == 12);
-GATE_ASSERT(sizeof(GateNotice) == 104 && sizeof(GateLodgement) == 16 && sizeof(GateEnergies) == 200);
-GATE_ASSERT(sizeof(GateVerdict) == 12 && sizeof(GateCleared) == 636 && offsetof(GateCleared, executed) == 380);
+GATE_ASSERT(sizeof(GateClockName) == 12 && offsetof(GateClockName, second) == 8);
+GATE_ASSERT(sizeof(GateNotice) == 104 && offsetof(GateNotice, energies) == 4);
+GATE_ASSERT(sizeof(GateLodgement) == 16 && sizeof(GateEnergies) == 200);
+GATE_ASSERT(sizeof(GateVerdict) == 12 && offsetof(GateVerdict, limit) == 4);
+GATE_ASSERT(sizeof(GateCleared) == 636 && offsetof(GateCleared, executed) == 380);
 GATE_ASSERT(offsetof(GateSession, hours) == 12 && offsetof(GateSession, enrolled) == 16 && offsetof(GateSession, units) == 24);
-GATE_ASSERT(offsetof(GateSession, notices) == 1560 && offsetof(GateSession, capacities) == 8216);
-GATE_ASSERT(offsetof(GateSession, standing) == 9048 && offsetof(GateSession, lodgements) == 9056);
-GATE_ASSERT(offsetof(GateSession, energies) == 11104 && offsetof(GateSession, last) == 36704);
-GATE_ASSERT(offsetof(GateSession, closed) == 36708 && offsetof(GateSession, cleared) == 36709);
-GATE_ASSERT(offsetof(GateSession, verdicts) == 36712 && offsetof(GateSession, figures) == 38248);
-GATE_ASSERT(sizeof(GateSession) == 54152);
-GATE_ASSERT(sizeof(GateOpening) == 54184 && offsetof(GateOpening, session) == 32);
+GATE_ASSERT(offsetof(GateSession, notices) == 1304 && offsetof(GateSession, capacities) == 7960);
+GATE_ASSERT(offsetof(GateSession, standing) == 8792 && offsetof(GateSession, lodgements) == 8800);
+GATE_ASSERT(offsetof(GateSession, energies) == 10848 && offsetof(GateSession, last) == 36448);
+GATE_ASSERT(offsetof(GateSession, closed) == 36452 && offsetof(GateSession, cleared) == 36453);
+GATE_ASSERT(offsetof(GateSession, verdicts) == 36456 && offsetof(GateSession, figures) == 37992);
+GATE_ASSERT(sizeof(GateSession) == 53896);
+GATE_ASSERT(sizeof(GateOpening) == 53928 && offsetof(GateOpening, session) == 32);
 
 /* ------------------------------------------------------------------------------------------------ dates */
 

@@ -2,6 +2,9 @@
 //!
 //! Structs are laid out as C lays them out. A C `bool` is a [`Flag`] here, a byte of which every pattern is a value, so that
 //! the tests can hand over sessions of random bytes: 0 and 1 are the two that the interface is proved for.
+//!
+//! No struct has padding ([`Plain`]): where C would leave a gap stands a reserved field, which is not looked at in what is passed
+//! and 0 in what is given back and in a session.
 
 use crate::types::MOST_HOURS;
 
@@ -42,6 +45,10 @@ pub struct Clock {
     pub name: u32,
     /// Marked "second".
     pub second: Flag,
+    /// Reserved.
+    pub reserved: u8,
+    /// Reserved.
+    pub reserved2: u16,
 }
 
 /// An hour's clock name with row 0, or the refusal table's number.
@@ -54,6 +61,10 @@ pub struct ClockName {
     pub name: u32,
     /// Marked "second".
     pub second: Flag,
+    /// Reserved.
+    pub reserved: u8,
+    /// Reserved.
+    pub reserved2: u16,
 }
 
 /// A unit.
@@ -66,12 +77,14 @@ pub struct Unit {
     pub agent: u32,
     /// Its border.
     pub border: u32,
-    /// It buys.
-    pub purchase: Flag,
     /// Its maximum energy.
     pub maximum: u32,
+    /// It buys.
+    pub purchase: Flag,
     /// The legacy mark.
     pub legacy: Flag,
+    /// Reserved.
+    pub reserved: u16,
 }
 
 /// A lodgement's key.
@@ -82,6 +95,8 @@ pub struct Key {
     pub execution: Flag,
     /// The default mark.
     pub default: Flag,
+    /// Reserved.
+    pub reserved: u16,
     /// The unit.
     pub unit: u32,
     /// The contract.
@@ -92,10 +107,14 @@ pub struct Key {
 #[repr(C)]
 #[derive(Clone, Copy, PartialEq, Eq)]
 pub struct Published {
-    /// It is published.
-    pub published: Flag,
     /// How many energies it has.
     pub count: usize,
+    /// It is published.
+    pub published: Flag,
+    /// Reserved.
+    pub reserved: u8,
+    /// Reserved.
+    pub reserved2: u16,
     /// The energies.
     pub energies: [u32; MOST_HOURS],
 }
@@ -112,10 +131,10 @@ pub struct Capacities {
 #[repr(C)]
 #[derive(Clone, Copy, PartialEq, Eq)]
 pub struct Availability {
-    /// The unit.
-    pub unit: u32,
     /// How many energies it has.
     pub count: usize,
+    /// The unit.
+    pub unit: u32,
     /// The energies.
     pub energies: [u32; MOST_HOURS],
 }
@@ -128,6 +147,8 @@ pub struct Fields {
     pub execution: Flag,
     /// The default mark.
     pub default: Flag,
+    /// Reserved.
+    pub reserved: u16,
     /// The unit.
     pub unit: u32,
     /// The contract.
@@ -145,6 +166,7 @@ impl Fields {
     pub const NONE: Fields = Fields {
         execution: Flag(0),
         default: Flag(0),
+        reserved: 0,
         unit: 0,
         contract: 0,
         map: 0,
@@ -169,6 +191,8 @@ pub struct Reading {
 pub struct Written {
     /// 0, or the refusal table's number.
     pub refusal: u32,
+    /// Reserved.
+    pub reserved: u32,
     /// The bytes written.
     pub count: usize,
 }
@@ -183,6 +207,8 @@ pub struct Response {
     pub row: u32,
     /// Its hour.
     pub hour: u32,
+    /// Reserved.
+    pub reserved: u32,
     /// A lodging number or a figure.
     pub value: i64,
     /// The steps of a clearing.
@@ -205,6 +231,10 @@ pub struct Opening {
 pub struct Notice {
     /// It was given.
     pub given: Flag,
+    /// Reserved.
+    pub reserved: u8,
+    /// Reserved.
+    pub reserved2: u16,
     /// The energies.
     pub energies: [u32; MOST_HOURS],
 }
@@ -235,6 +265,10 @@ pub struct Energies {
 pub struct Verdict {
     /// The lodgement was accepted.
     pub accepted: Flag,
+    /// Reserved.
+    pub reserved: u8,
+    /// Reserved.
+    pub reserved2: u16,
     /// The limit that it passed.
     pub limit: u32,
     /// The hour in which it passed it.
@@ -287,10 +321,77 @@ pub struct Session {
     pub closed: Flag,
     /// The day is cleared.
     pub cleared: Flag,
+    /// Reserved.
+    pub reserved: u16,
     /// The lodgements' verdicts.
     pub verdicts: [Verdict; 128],
     /// The hours' figures.
     pub figures: [Cleared; 25],
+    /// Reserved.
+    pub reserved2: u32,
+}
+
+/// A struct of numbers and flags in which no byte is padding: each pattern of bytes is a value of it.
+///
+/// # Safety
+/// The sizes of its fields add up to its own, and they are numbers, flags, or such structs themselves.
+pub unsafe trait Plain: Sized {
+    /// Its bytes. Two equal histories leave sessions of equal bytes.
+    fn bytes(&self) -> &[u8] {
+        // SAFETY: the bytes are the struct's, lent as long as it is, and all of them hold something, since none is padding.
+        unsafe { std::slice::from_raw_parts((self as *const Self).cast(), std::mem::size_of::<Self>()) }
+    }
+
+    /// One in which every byte is the same, its flags too. It is for tests, which then set the fields that they mean.
+    ///
+    /// # Safety
+    /// The interface is proved for flags of 0 and 1: others have to be set before it is passed.
+    unsafe fn filled(byte: u8) -> Self {
+        let mut plain = std::mem::MaybeUninit::<Self>::uninit();
+        // SAFETY: every byte is written, and each pattern of bytes is a value.
+        unsafe {
+            plain.as_mut_ptr().write_bytes(byte, 1);
+            plain.assume_init()
+        }
+    }
+}
+
+const fn size_of_field<T, F>(_: fn(&T) -> &F) -> usize {
+    std::mem::size_of::<F>()
+}
+
+/// Says of structs, by all their fields, that they are plain, and does not compile where one has padding.
+macro_rules! plain {
+    ($($name:ident { $($field:ident),* })*) => {$(
+        const _: () = assert!(std::mem::size_of::<$name>() == 0 $(+ size_of_field(|x: &$name| &x.$field))*);
+        // SAFETY: the assertion before it, and the fields' types, which are numbers, flags, arrays of them, and structs of this list.
+        unsafe impl Plain for $name {}
+    )*};
+}
+
+plain! {
+    Date { year, month, day }
+    Clock { name, second, reserved, reserved2 }
+    ClockName { row, name, second, reserved, reserved2 }
+    Unit { number, agent, border, maximum, purchase, legacy, reserved }
+    Key { execution, default, reserved, unit, contract }
+    Published { count, published, reserved, reserved2, energies }
+    Capacities { directions }
+    Availability { count, unit, energies }
+    Fields { execution, default, reserved, unit, contract, map, energies, prices }
+    Reading { refusal, fields }
+    Written { refusal, reserved, count }
+    Response { kind, row, hour, reserved, value, count }
+    Opening { response, session }
+    Notice { given, reserved, reserved2, energies }
+    Lodgement { key, number }
+    Energies { energies, prices }
+    Verdict { accepted, reserved, reserved2, limit, hour }
+    Cleared { price, market, bilateral, maxima, matched, executed }
+    Session {
+        date, hours, enrolled, units, notices, capacities, standing, lodgements, energies, last, closed, cleared, reserved,
+        verdicts, figures, reserved2
+    }
 }
 
 mod declared {
@@ -455,7 +556,7 @@ impl Session {
     /// How many bytes a session has.
     pub const SIZE: usize = std::mem::size_of::<Session>();
 
-    /// Sets a byte of the session, of its padding too. It is for tests: no call leaves a session that they make so.
+    /// Sets a byte of the session. It is for tests: no call leaves a session that they make so.
     ///
     /// # Safety
     /// The calls are proved for sessions whose flags are 0 or 1, and for no other; `mask_flags` makes them so.

@@ -104,7 +104,7 @@ fn limit(row: u32) -> Limit {
 /// The refusal that a response is, if it is none of the kinds that its call has.
 fn refused(response: &Response) -> Refusal {
     match *response {
-        Response { kind: 1, row, hour, value: 0, count: 0 } => refusal(row, hour),
+        Response { kind: 1, row, hour, reserved: 0, value: 0, count: 0 } => refusal(row, hour),
         _ => unexpected(response),
     }
 }
@@ -116,14 +116,14 @@ fn unexpected(response: &Response) -> ! {
 
 fn done(response: &Response) -> Result<(), Refusal> {
     match *response {
-        Response { kind: 0, row: 0, hour: 0, value: 0, count: 0 } => Ok(()),
+        Response { kind: 0, row: 0, hour: 0, reserved: 0, value: 0, count: 0 } => Ok(()),
         _ => Err(refused(response)),
     }
 }
 
 fn figure(response: &Response) -> Result<i64, Refusal> {
     match *response {
-        Response { kind: 6, row: 0, hour: 0, value, count: 0 } => Ok(value),
+        Response { kind: 6, row: 0, hour: 0, reserved: 0, value, count: 0 } => Ok(value),
         _ => Err(refused(response)),
     }
 }
@@ -135,7 +135,7 @@ fn amount(response: &Response) -> Result<u32, Refusal> {
 
 fn maximum(response: &Response) -> Result<Option<i64>, Refusal> {
     match *response {
-        Response { kind: 7, row: 0, hour: 0, value: 0, count: 0 } => Ok(None),
+        Response { kind: 7, row: 0, hour: 0, reserved: 0, value: 0, count: 0 } => Ok(None),
         _ => Ok(Some(figure(response)?)),
     }
 }
@@ -144,10 +144,14 @@ fn date(date: Date) -> ffi::Date {
     ffi::Date { year: date.year, month: date.month, day: date.day }
 }
 
+fn of_count(published: bool, count: usize, energies: [u32; MOST_HOURS]) -> ffi::Published {
+    ffi::Published { count, published: published.into(), reserved: 0, reserved2: 0, energies }
+}
+
 fn published(direction: &Option<Energies>) -> ffi::Published {
     match direction {
-        Some(energies) => ffi::Published { published: true.into(), count: energies.count(), energies: *energies.values() },
-        None => ffi::Published { published: false.into(), count: 0, energies: [0; MOST_HOURS] },
+        Some(energies) => of_count(true, energies.count(), *energies.values()),
+        None => of_count(false, 0, [0; MOST_HOURS]),
     }
 }
 
@@ -171,8 +175,8 @@ impl Gate {
     /// The clock name of an hour. Refused as 1 or 4.
     pub fn clock(day: Date, hour: u32) -> Result<Clock, Refusal> {
         match ffi::clock(date(day), hour) {
-            ffi::ClockName { row: 0, name, second } => Ok(Clock { name, second: second.into() }),
-            ffi::ClockName { row, name, second } => {
+            ffi::ClockName { row: 0, name, second, reserved: 0, reserved2: 0 } => Ok(Clock { name, second: second.into() }),
+            ffi::ClockName { row, name, second, .. } => {
                 assert!(name == 0 && !bool::from(second), "a clock name beside refusal {row}");
                 Err(refusal(row, 0))
             }
@@ -187,14 +191,14 @@ impl Gate {
     /// assert_eq!(Gate::hour_named(day, Clock { name: 2, second: true }), Ok(4));
     /// ```
     pub fn hour_named(day: Date, clock: Clock) -> Result<u32, Refusal> {
-        amount(&ffi::hour(date(day), ffi::Clock { name: clock.name, second: clock.second.into() }))
+        amount(&ffi::hour(date(day), ffi::Clock { name: clock.name, second: clock.second.into(), reserved: 0, reserved2: 0 }))
     }
 
     /// The fields of a message by itself, whatever the day. Refused as 3, 4 or 5.
     pub fn read(message: &[u8]) -> Result<Fields, Refusal> {
         let ffi::Reading { refusal: row, ref fields } = ffi::read(message);
         if row == 0 {
-            let ffi::Fields { execution, default, unit, contract, map, energies, prices } = *fields;
+            let ffi::Fields { execution, default, reserved: _, unit, contract, map, energies, prices } = *fields;
             let key = Key { execution: execution.into(), default: default.into(), unit, contract };
             return Ok(Fields { key, map, energies, prices });
         }
@@ -217,10 +221,10 @@ impl Gate {
         let Fields { key, map, energies, prices } = *fields;
         let Key { execution, default, unit, contract } = key;
         let (execution, default) = (execution.into(), default.into());
-        let fields = ffi::Fields { execution, default, unit, contract, map, energies, prices };
+        let fields = ffi::Fields { execution, default, reserved: 0, unit, contract, map, energies, prices };
         match ffi::write(fields, buffer) {
-            ffi::Written { refusal: 0, count } => Ok(count),
-            ffi::Written { refusal: row, count } => {
+            ffi::Written { refusal: 0, reserved: 0, count } => Ok(count),
+            ffi::Written { refusal: row, count, .. } => {
                 assert_eq!(count, 0, "a length beside refusal {row}");
                 Err(refusal(row, 0))
             }
@@ -231,12 +235,13 @@ impl Gate {
     pub fn register(&mut self, unit: Unit) -> Result<(), Refusal> {
         let Unit { number, agent, border, purchase, maximum, legacy } = unit;
         let (purchase, legacy) = (purchase.into(), legacy.into());
-        done(&ffi::register(&mut self.session, ffi::Unit { number, agent, border, purchase, maximum, legacy }))
+        let unit = ffi::Unit { number, agent, border, maximum, purchase, legacy, reserved: 0 };
+        done(&ffi::register(&mut self.session, unit))
     }
 
     /// An unavailability notice; it replaces the unit's earlier one. Refused as 2, 4, 5 or 6.
     pub fn available(&mut self, unit: u32, energies: &Energies) -> Result<(), Refusal> {
-        let notice = ffi::Availability { unit, count: energies.count(), energies: *energies.values() };
+        let notice = ffi::Availability { count: energies.count(), unit, energies: *energies.values() };
         done(&ffi::available(&mut self.session, notice))
     }
 
@@ -250,7 +255,7 @@ impl Gate {
     pub fn lodge(&mut self, message: &[u8]) -> Result<LodgingNumber, Refusal> {
         let response = &ffi::lodge(&mut self.session, message);
         match *response {
-            Response { kind: 2, row: 0, hour: 0, value, count: 0 } => {
+            Response { kind: 2, row: 0, hour: 0, reserved: 0, value, count: 0 } => {
                 Ok(LodgingNumber(u32::try_from(value).unwrap_or_else(|_| unexpected(response))))
             }
             _ => Err(refused(response)),
@@ -261,7 +266,7 @@ impl Gate {
     pub fn annul(&mut self, key: Key) -> Result<(), Refusal> {
         let Key { execution, default, unit, contract } = key;
         let (execution, default) = (execution.into(), default.into());
-        done(&ffi::annul(&mut self.session, ffi::Key { execution, default, unit, contract }))
+        done(&ffi::annul(&mut self.session, ffi::Key { execution, default, reserved: 0, unit, contract }))
     }
 
     /// Closes the gate: each standing lodgement gets its verdict. Refused as 2.
@@ -273,7 +278,7 @@ impl Gate {
     pub fn clear(&mut self) -> Result<Steps, Refusal> {
         let response = &ffi::clear(&mut self.session);
         match *response {
-            Response { kind: 3, row: 0, hour: 0, value: 0, count } => Ok(Steps(count)),
+            Response { kind: 3, row: 0, hour: 0, reserved: 0, value: 0, count } => Ok(Steps(count)),
             _ => Err(refused(response)),
         }
     }
@@ -282,9 +287,9 @@ impl Gate {
     pub fn verdict(&self, number: u32) -> Result<Verdict, Refusal> {
         let response = &ffi::verdict(&self.session, number);
         match *response {
-            Response { kind: 0, row: 0, hour: 0, value: 0, count: 0 } => Ok(Verdict::Accepted),
-            Response { kind: 4, row: 0, hour: 0, value: 0, count: 0 } => Ok(Verdict::Hidden),
-            Response { kind: 5, row, hour, value: 0, count: 0 } => Ok(Verdict::Refused { limit: limit(row), hour }),
+            Response { kind: 0, row: 0, hour: 0, reserved: 0, value: 0, count: 0 } => Ok(Verdict::Accepted),
+            Response { kind: 4, row: 0, hour: 0, reserved: 0, value: 0, count: 0 } => Ok(Verdict::Hidden),
+            Response { kind: 5, row, hour, reserved: 0, value: 0, count: 0 } => Ok(Verdict::Refused { limit: limit(row), hour }),
             _ => Err(refused(response)),
         }
     }

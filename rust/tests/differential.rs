@@ -9,14 +9,10 @@ use common::calls::{compare, Call, List};
 use common::lists::{any_date, list, packed};
 use common::seen::Seen;
 use common::shrink::{difference, report};
-use common::Rng;
+use common::{setting, Rng};
 use jeddyspangle::model::Session;
 use jeddyspangle::*;
 use std::panic::{catch_unwind, AssertUnwindSafe};
-
-fn setting(name: &str, otherwise: u64) -> u64 {
-    std::env::var(name).ok().map_or(otherwise, |value| value.parse().expect("a number"))
-}
 
 /// Plays a list on both and fails with the smallest list that shows a difference.
 fn play(seed: u64, list: &List, seen: &mut Seen) {

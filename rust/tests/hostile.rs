@@ -9,55 +9,16 @@ mod common;
 
 use common::calls::{answer, Call, Query};
 use common::lists::list;
+use common::raw::{self, asked};
 use common::Rng;
 use jeddyspangle::ffi::{self, Flag, Response};
 use jeddyspangle::*;
 
-fn key(key: &Key) -> ffi::Key {
-    let Key { execution, default, unit, contract } = *key;
-    ffi::Key { execution: execution.into(), default: default.into(), unit, contract }
-}
-
-fn published(direction: &Option<Energies>) -> ffi::Published {
-    let energies = direction.unwrap_or(Energies::new(&[]));
-    ffi::Published { published: direction.is_some().into(), count: energies.count(), energies: *energies.values() }
-}
-
-fn asked(session: &ffi::Session, query: Query) -> Response {
-    let export = |way| way == Direction::Export;
-    match query {
-        Query::Verdict(number) => ffi::verdict(session, number),
-        Query::Matched(unit, hour) => ffi::matched(session, unit, hour),
-        Query::Executed(unit, hour) => ffi::executed(session, unit, hour),
-        Query::Market(border, hour) => ffi::market(session, border, hour),
-        Query::Bilateral(border, hour) => ffi::bilateral(session, border, hour),
-        Query::MarketMaximum(border, way, hour) => ffi::market_maximum(session, border, export(way), hour),
-        Query::BilateralMaximum(border, way, hour) => ffi::bilateral_maximum(session, border, export(way), hour),
-        Query::Price(hour) => ffi::price(session, hour),
-    }
-}
-
-fn called(session: &mut ffi::Session, call: &Call) -> Response {
+/// Makes a call or asks every query, with any bytes in the reserved fields of what is passed.
+fn called(session: &mut ffi::Session, call: &Call, reserved: u8) -> Response {
     match call {
-        Call::Register(unit) => {
-            let Unit { number, agent, border, purchase, maximum, legacy } = *unit;
-            let (purchase, legacy) = (purchase.into(), legacy.into());
-            ffi::register(session, ffi::Unit { number, agent, border, purchase, maximum, legacy })
-        }
-        Call::Available(unit, energies) => {
-            let (unit, count, energies) = (*unit, energies.count(), *energies.values());
-            ffi::available(session, ffi::Availability { unit, count, energies })
-        }
-        Call::Capacity(capacities) => {
-            let directions = capacities.directions().each_ref().map(published);
-            ffi::capacity(session, ffi::Capacities { directions })
-        }
-        Call::Lodge(message) => ffi::lodge(session, message),
-        Call::Annul(one) => ffi::annul(session, key(one)),
-        Call::Close => ffi::close(session),
-        Call::Clear => ffi::clear(session),
-        Call::Ask(query) => asked(session, *query),
         Call::AskAll => ask_all(session),
+        _ => raw::called(session, call, reserved),
     }
 }
 
@@ -96,9 +57,9 @@ impl Fenced {
     }
 
     /// Makes a call; the bytes around the session stay, and so does the session when it is refused.
-    fn call(&mut self, call: &Call, flags: Flags) -> Response {
+    fn call(&mut self, call: &Call, flags: Flags, reserved: u8) -> Response {
         let kept = Box::new(self.session);
-        let response = called(&mut self.session, call);
+        let response = called(&mut self.session, call, reserved);
         assert!(self.before == [0xa5; 4096] && self.after == [0x5a; 4096], "{call} wrote outside the session");
         if response.kind == 1 && flags == Flags::Masked {
             assert!(self.session == *kept, "{call} was refused and changed the session");
@@ -125,12 +86,12 @@ fn hand_over(session: &ffi::Session, flags: Flags, rng: &mut Rng, kinds: &mut [u
     calls.extend([Call::Close, Call::Clear, Call::AskAll]);
     for call in &calls {
         if !matches!(call, Call::Ask(_)) && rng.chance(20) {
-            count(Fenced::new(session).call(call, flags));
+            count(Fenced::new(session).call(call, flags, rng.next() as u8));
         }
     }
     let mut fenced = Fenced::new(session);
     for call in &calls {
-        count(fenced.call(call, flags));
+        count(fenced.call(call, flags, rng.next() as u8));
     }
 }
 

@@ -19,26 +19,28 @@ type Layout = (&'static str, usize, Vec<(&'static str, usize)>);
 fn mirrors() -> Vec<Layout> {
     vec![
         ("bool", size_of::<Flag>(), vec![]),
-        layout!("GateResponse" Response { kind, row, hour, value, count }),
+        layout!("GateResponse" Response { kind, row, hour, reserved, value, count }),
         layout!("GateDate" Date { year, month, day }),
-        layout!("GateClock" Clock { name, second }),
-        layout!("GateUnit" Unit { number, agent, border, purchase, maximum, legacy }),
-        layout!("GateAvailability" Availability { unit, count, energies }),
-        layout!("GatePublished" Published { published, count, energies }),
+        layout!("GateClock" Clock { name, second, reserved, reserved2 }),
+        layout!("GateUnit" Unit { number, agent, border, maximum, purchase, legacy, reserved }),
+        layout!("GateAvailability" Availability { count, unit, energies }),
+        layout!("GatePublished" Published { count, published, reserved, reserved2, energies }),
         layout!("GateCapacities" Capacities { directions }),
-        layout!("GateKey" Key { execution, default as "is_default", unit, contract }),
-        layout!("GateFields" Fields { execution, default as "is_default", unit, contract, map, energies, prices }),
+        layout!("GateKey" Key { execution, default as "is_default", reserved, unit, contract }),
+        layout!("GateFields" Fields {
+            execution, default as "is_default", reserved, unit, contract, map, energies, prices
+        }),
         layout!("GateReading" Reading { refusal, fields }),
-        layout!("GateWritten" Written { refusal, count }),
-        layout!("GateClockName" ClockName { row, name, second }),
-        layout!("GateNotice" Notice { given, energies }),
+        layout!("GateWritten" Written { refusal, reserved, count }),
+        layout!("GateClockName" ClockName { row, name, second, reserved, reserved2 }),
+        layout!("GateNotice" Notice { given, reserved, reserved2, energies }),
         layout!("GateLodgement" Lodgement { key, number }),
         layout!("GateEnergies" Energies { energies, prices }),
-        layout!("GateVerdict" Verdict { accepted, limit, hour }),
+        layout!("GateVerdict" Verdict { accepted, reserved, reserved2, limit, hour }),
         layout!("GateCleared" Cleared { price, market, bilateral, maxima, matched, executed }),
         layout!("GateSession" Session {
             date, hours, enrolled, units, notices, capacities, standing, lodgements, energies, last, closed, cleared,
-            verdicts, figures
+            reserved, verdicts, figures, reserved2
         }),
         layout!("GateOpening" Opening { response, session }),
     ]

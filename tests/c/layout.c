@@ -1,7 +1,8 @@
 /*
  * What include/gate.h says of the layout, against the running archive: a session that the calls filled to its last places holds, field by
  * field, what was passed and what the queries answer; no call writes beside the session, the message or the buffer; a
- * refused call leaves the session as it was; a call keeps to GATE_STACK bytes of stack.
+ * refused call leaves the session as it was; a day leaves the same bytes whatever the memory and the reserved fields that were passed
+ * held; a call keeps to GATE_STACK bytes of stack.
  */
 #define _POSIX_C_SOURCE 200809L /* pthread_attr_setstack */
 
@@ -27,7 +28,7 @@ static void check(bool fact, int line, const char *text) {
 /* ---- responses */
 
 static bool is(GateResponse r, uint32_t kind, uint32_t row, uint32_t hour, int64_t value, uint64_t count) {
-    return r.kind == kind && r.row == row && r.hour == hour && r.value == value && r.count == count;
+    return r.kind == kind && r.row == row && r.hour == hour && r.reserved == 0 && r.value == value && r.count == count;
 }
 static bool accepted(GateResponse r) { return is(r, GATE_ACCEPTED, 0, 0, 0, 0); }
 static bool refused(GateResponse r, uint32_t row, uint32_t hour) { return is(r, GATE_REFUSED, row, hour, 0, 0); }
@@ -44,6 +45,9 @@ static struct {
 } box;
 static GateSession *const s = &box.session;
 
+/* What the session's memory holds before it is opened, and the reserved fields of what is passed. */
+static uint8_t fill = 0xFF;
+
 static bool all(const uint8_t *bytes, size_t n, uint8_t value) {
     for (size_t i = 0; i < n; i++)
         if (bytes[i] != value) return false;
@@ -51,37 +55,17 @@ static bool all(const uint8_t *bytes, size_t n, uint8_t value) {
 }
 static bool canaries(void) { return all(box.before, CANARY, 0x5A) && all(box.after, CANARY, 0xA5); }
 
-/* ---- sessions compared field by field, since padding holds anything */
+/* ---- no struct has padding, so sessions are compared by their bytes */
 
 static bool same32(const uint32_t *a, const uint32_t *b, size_t n) { return memcmp(a, b, n * sizeof *a) == 0; }
-static bool same_unit(GateUnit a, GateUnit b) {
-    return a.number == b.number && a.agent == b.agent && a.border == b.border && a.purchase == b.purchase && a.maximum == b.maximum && a.legacy == b.legacy;
-}
-static bool same_notice(const GateNotice *a, const GateNotice *b) {
-    return a->given == b->given && same32(a->energies, b->energies, GATE_HOURS);
-}
-static bool same_lodgement(const GateLodgement *a, const GateLodgement *b) {
-    return a->key.execution == b->key.execution && a->key.is_default == b->key.is_default && a->key.unit == b->key.unit && a->key.contract == b->key.contract && a->number == b->number;
-}
-static bool same_session(const GateSession *a, const GateSession *b) {
-    bool same = a->date.year == b->date.year && a->date.month == b->date.month && a->date.day == b->date.day && a->hours == b->hours && a->enrolled == b->enrolled && a->standing == b->standing && a->last == b->last && a->closed == b->closed && a->cleared == b->cleared;
-    for (size_t i = 0; i < GATE_UNITS; i++) same = same && same_unit(a->units[i], b->units[i]) && same_notice(&a->notices[i], &b->notices[i]);
-    for (size_t i = 0; i < GATE_DIRECTIONS; i++) same = same && same_notice(&a->capacities[i], &b->capacities[i]);
-    for (size_t i = 0; i < GATE_LODGEMENTS; i++) {
-        same = same && same_lodgement(&a->lodgements[i], &b->lodgements[i]);
-        same = same && same32(a->energies[i].energies, b->energies[i].energies, GATE_HOURS) && same32(a->energies[i].prices, b->energies[i].prices, GATE_HOURS);
-        same = same && a->verdicts[i].accepted == b->verdicts[i].accepted && a->verdicts[i].limit == b->verdicts[i].limit && a->verdicts[i].hour == b->verdicts[i].hour;
-    }
-    for (size_t i = 0; i < GATE_HOURS; i++) same = same && memcmp(&a->figures[i], &b->figures[i], sizeof a->figures[i]) == 0;
-    return same;
-}
+static bool same_session(const GateSession *a, const GateSession *b) { return memcmp(a, b, sizeof *a) == 0; }
 
 /* ---- parts of a day */
 
 static const GateDate LONG_DAY = {2006, 10, 29};
 
 static void open_day(GateDate date) {
-    memset(&box, 0xFF, sizeof box);
+    memset(&box, fill, sizeof box);
     memset(box.before, 0x5A, CANARY);
     memset(box.after, 0xA5, CANARY);
     static GateOpening o;
@@ -90,12 +74,29 @@ static void open_day(GateDate date) {
     box.session = o.session;
 }
 
+static GateUnit unit_of(uint32_t number, uint32_t agent, uint32_t border, bool purchase, uint32_t maximum, bool legacy) {
+    const GateUnit u = {number, agent, border, maximum, purchase, legacy, fill};
+    return u;
+}
+
+static GateKey key_of(bool execution, bool is_default, uint32_t unit, uint32_t contract) {
+    const GateKey k = {execution, is_default, fill, unit, contract};
+    return k;
+}
+
+/* The unit as the session keeps it. */
+static bool kept(GateUnit a, GateUnit u) {
+    u.reserved = 0;
+    return memcmp(&a, &u, sizeof a) == 0;
+}
+
 /* A message's fields with some number in every hour of the day. */
 static GateFields every_hour(bool execution, bool is_default, uint32_t unit, uint32_t contract, uint32_t energy, uint32_t price) {
     GateFields m;
     memset(&m, 0, sizeof m);
     m.execution = execution;
     m.is_default = is_default;
+    m.reserved = fill;
     m.unit = unit;
     m.contract = contract;
     for (uint32_t h = 1; h <= s->hours; h++) {
@@ -110,16 +111,16 @@ static GateResponse lodge(GateFields m) {
     uint8_t bytes[GATE_MESSAGE + 16];
     memset(bytes, 0xEE, sizeof bytes);
     GateWritten w = gate_write(m, bytes, GATE_MESSAGE);
-    CHECK(w.refusal == 0 && w.count <= GATE_MESSAGE);
+    CHECK(w.refusal == 0 && w.reserved == 0 && w.count <= GATE_MESSAGE);
     CHECK(all(bytes + w.count, sizeof bytes - w.count, 0xEE));
     GateReading r = gate_read(bytes, w.count);
-    CHECK(r.refusal == 0 && r.fields.execution == m.execution && r.fields.is_default == m.is_default && r.fields.unit == m.unit && r.fields.contract == m.contract && r.fields.map == m.map);
-    CHECK(same32(r.fields.energies, m.energies, GATE_HOURS) && same32(r.fields.prices, m.prices, GATE_HOURS));
+    m.reserved = 0;
+    CHECK(r.refusal == 0 && memcmp(&r.fields, &m, sizeof m) == 0);
     return gate_lodge(s, bytes, w.count);
 }
 
 static GatePublished published(uint32_t energy) {
-    GatePublished p = {true, s->hours, {0}};
+    GatePublished p = {s->hours, true, fill, fill, {0}};
     for (size_t i = 0; i < s->hours; i++) p.energies[i] = energy + (uint32_t)i;
     return p;
 }
@@ -174,15 +175,15 @@ static void dates(void) {
     CHECK(figure(gate_hours(LONG_DAY), 25) && figure(gate_hours(spring), 23) && figure(gate_hours(summer), 24));
     for (uint32_t h = 1; h <= 25; h++) {
         GateClockName c = gate_clock(LONG_DAY, h);
-        CHECK(c.row == 0 && c.name == (h <= 3 ? h - 1 : h - 2) && c.second == (h == 4));
-        const GateClock clock = {c.name, c.second};
+        CHECK(c.row == 0 && c.name == (h <= 3 ? h - 1 : h - 2) && c.second == (h == 4) && c.reserved == 0 && c.reserved2 == 0);
+        const GateClock clock = {c.name, c.second, fill, fill};
         CHECK(figure(gate_hour(LONG_DAY, clock), h));
     }
     GateClockName c = gate_clock(summer, 25);
     CHECK(c.row == GATE_REFUSED_HOUR && c.name == 0 && !c.second);
     c = gate_clock(none, 1);
     CHECK(c.row == GATE_REFUSED_DATE && c.name == 0 && !c.second);
-    const GateClock two = {2, false};
+    const GateClock two = {2, false, fill, fill};
     CHECK(refused(gate_hour(spring, two), GATE_REFUSED_HOUR, 0));
 }
 
@@ -196,14 +197,13 @@ static void full_day(void) {
     for (size_t i = 0; i < GATE_LODGEMENTS; i++) CHECK(s->lodgements[i].number == 0 && !s->verdicts[i].accepted);
 
     for (uint32_t i = 0; i < GATE_UNITS; i++) {
-        const GateUnit u = {1000 + i, 2000 + i, i % 5, i % 2 == 1, 90000 + i, i % 5 != 0 && i % 3 == 0};
+        const GateUnit u = unit_of(1000 + i, 2000 + i, i % 5, i % 2 == 1, 90000 + i, i % 5 != 0 && i % 3 == 0);
         CHECK(accepted(gate_register(s, u)));
-        CHECK(s->enrolled == i + 1 && same_unit(s->units[i], u));
+        CHECK(s->enrolled == i + 1 && kept(s->units[i], u));
     }
-    const GateUnit more = {1, 1, 0, false, 1, false};
-    CHECK(refused(gate_register(s, more), GATE_REFUSED_FULL, 0));
+    CHECK(refused(gate_register(s, unit_of(1, 1, 0, false, 1, false)), GATE_REFUSED_FULL, 0));
     for (uint32_t i = 0; i < GATE_UNITS; i++) {
-        GateAvailability n = {1000 + i, 25, {0}};
+        GateAvailability n = {25, 1000 + i, {0}};
         for (uint32_t h = 0; h < 25; h++) n.energies[h] = 80000 + 100 * i + h;
         CHECK(accepted(gate_available(s, n)));
         CHECK(s->notices[i].given && same32(s->notices[i].energies, n.energies, 25));
@@ -227,7 +227,7 @@ static void full_day(void) {
         CHECK(same32(s->energies[i].energies, m.energies, 25) && same32(s->energies[i].prices, m.prices, 25));
     }
     CHECK(refused(lodge(every_hour(true, false, 1001, 7, 10, 0)), GATE_REFUSED_FULL, 0));
-    const GateKey key = {false, false, 1063, 0};
+    const GateKey key = key_of(false, false, 1063, 0);
     CHECK(accepted(gate_annul(s, key)));
     CHECK(s->standing == 127 && s->last == 128 && s->lodgements[63].number == 65);
     CHECK(refused(gate_annul(s, key), GATE_REFUSED_ABSENT, 0));
@@ -258,8 +258,9 @@ static void cuts(void) {
     const GateDate spring = {2006, 3, 26};
     open_day(spring);
     const GateUnit units[] = {
-        {1, 1, GATE_DOMESTIC, false, 99999, false}, {2, 2, GATE_DOMESTIC, true, 99999, false}, {3, 3, GATE_FRANCE, true, 99999, false},
-        {4, 4, GATE_FRANCE, true, 99999, false},    {5, 5, GATE_MOROCCO, true, 99999, false},  {6, 6, GATE_MOROCCO, false, 99999, false},
+        unit_of(1, 1, GATE_DOMESTIC, false, 99999, false), unit_of(2, 2, GATE_DOMESTIC, true, 99999, false),
+        unit_of(3, 3, GATE_FRANCE, true, 99999, false),    unit_of(4, 4, GATE_FRANCE, true, 99999, false),
+        unit_of(5, 5, GATE_MOROCCO, true, 99999, false),   unit_of(6, 6, GATE_MOROCCO, false, 99999, false),
     };
     for (size_t i = 0; i < 6; i++) CHECK(accepted(gate_register(s, units[i])));
     GateCapacities c;
@@ -294,7 +295,7 @@ static void cuts(void) {
     m.map &= ~gate_hour_bit(1);
     m.energies[0] = 0;
     CHECK(numbered(lodge(m), 7));
-    const GateKey key = {true, false, 6, 14};
+    const GateKey key = key_of(true, false, 6, 14);
     CHECK(accepted(gate_annul(s, key)));
     CHECK(accepted(gate_close(s)));
     verdicts_agree();
@@ -338,13 +339,15 @@ static void each_bit(void) {
 /* Any bytes may be passed as a message, of any length; a refused call leaves the session as it was. */
 static void any_bytes(void) {
     open_day(LONG_DAY);
-    const GateUnit u = {7, 7, GATE_FRANCE, true, 300, false};
+    const GateUnit u = unit_of(7, 7, GATE_FRANCE, true, 300, false);
     CHECK(accepted(gate_register(s, u)));
-    const GateUnit bad[] = {{0, 1, 0, false, 1, false}, {8, 70000, 0, false, 1, false}, {8, 8, 5, false, 1, false}, {8, 8, 0, false, 100000, false}, {8, 8, 0, false, 1, true}};
+    const GateUnit bad[] = {
+        unit_of(0, 1, 0, false, 1, false),      unit_of(8, 70000, 0, false, 1, false), unit_of(8, 8, 5, false, 1, false),
+        unit_of(8, 8, 0, false, 100000, false), unit_of(8, 8, 0, false, 1, true),
+    };
     for (size_t i = 0; i < 5; i++) CHECK(refused(gate_register(s, bad[i]), GATE_REFUSED_RANGE, 0));
     CHECK(refused(gate_register(s, u), GATE_REFUSED_TAKEN, 0));
-    const GateUnit second = {8, 7, GATE_FRANCE, true, 300, true};
-    CHECK(refused(gate_register(s, second), GATE_REFUSED_SECOND, 0));
+    CHECK(refused(gate_register(s, unit_of(8, 7, GATE_FRANCE, true, 300, true)), GATE_REFUSED_SECOND, 0));
     static GateSession before;
     before = *s;
     uint64_t seed = 1;
@@ -387,6 +390,11 @@ static void any_bytes(void) {
 static void *all_days(void *unused) {
     dates();
     full_day();
+    static GateSession first;
+    first = *s;
+    fill = 0x00;
+    full_day();
+    CHECK(same_session(&first, s));
     cuts();
     any_bytes();
     return unused;

@@ -17,10 +17,10 @@ use Rattle.answer.specs.declared.ClockName.{ClockName}
 -- What a kind says. "Other fields of a refusal are 0", and so are those that another kind does not say.
 
 abbrev pub plain : ℕ → Response
-plain kind = record { kind = kind; row = 0; hour = 0; value = pos 0; count = 0 }
+plain kind = record { kind = kind; row = 0; hour = 0; reserved = 0; value = pos 0; count = 0 }
 
 abbrev pub byRow : ℕ → ℕ → ℕ → Response
-byRow kind row hour = record { kind = kind; row = row; hour = hour; value = pos 0; count = 0 }
+byRow kind row hour = record { kind = kind; row = row; hour = hour; reserved = 0; value = pos 0; count = 0 }
 
 -- The kinds
 
@@ -31,10 +31,10 @@ abbrev pub refused : ℕ → ℕ → Response
 refused row hour = byRow 1 row hour
 
 abbrev pub numbered : ℕ → Response
-numbered n = record { kind = 2; row = 0; hour = 0; value = pos n; count = 0 }
+numbered n = record { kind = 2; row = 0; hour = 0; reserved = 0; value = pos n; count = 0 }
 
 abbrev pub steps : ℕ → Response
-steps n = record { kind = 3; row = 0; hour = 0; value = pos 0; count = n }
+steps n = record { kind = 3; row = 0; hour = 0; reserved = 0; value = pos 0; count = n }
 
 abbrev pub hidden : Response
 hidden = plain 4
@@ -43,7 +43,7 @@ abbrev pub limit : ℕ → ℕ → Response
 limit row hour = byRow 5 row hour
 
 abbrev pub figure : ℤ → Response
-figure z = record { kind = 6; row = 0; hour = 0; value = z; count = 0 }
+figure z = record { kind = 6; row = 0; hour = 0; reserved = 0; value = z; count = 0 }
 
 abbrev pub absent : Response
 absent = plain 7
@@ -80,5 +80,5 @@ ofCounted (CV.Refused n) = refused n 0
 ofCounted (CV.Given n) = figure (pos n)
 
 unfoldable pub ofNamed : Named → ClockName
-ofNamed (NV.Refused n) = record { row = n; name = 0; second = false }
-ofNamed (NV.Given c) = record { row = 0; name = c .name; second = c .second }
+ofNamed (NV.Refused n) = record { row = n; name = 0; second = false; reserved = 0; reserved2 = 0 }
+ofNamed (NV.Given c) = record { row = 0; name = c .name; second = c .second; reserved = 0; reserved2 = 0 }

@@ -13,6 +13,7 @@ pub struct Response {
     pub row: u32,
     // Its hour, 0 where the table gives none.
     pub hour: u32,
+    pub reserved: u32,
     // A lodging number, or a figure.
     pub value: i64,
     // The steps of a clearing.
@@ -25,6 +26,8 @@ pub struct ClockName {
     pub row: u32,
     pub name: u32,
     pub second: bool,
+    pub reserved: u8,
+    pub reserved2: u16,
 }
 
 // Kinds
@@ -52,6 +55,7 @@ fn plain(kind: u32) -> Response
         kind: kind,
         row: 0,
         hour: 0,
+        reserved: 0,
         value: 0,
         count: 0,
     }
@@ -65,6 +69,7 @@ fn by_row(kind: u32, row: u32, hour: u32) -> Response
         kind: kind,
         row: row,
         hour: hour,
+        reserved: 0,
         value: 0,
         count: 0,
     }
@@ -93,6 +98,7 @@ pub fn numbered(number: u32) -> Response
         kind: NUMBERED,
         row: 0,
         hour: 0,
+        reserved: 0,
         value: value,
         count: 0,
     }
@@ -106,6 +112,7 @@ pub fn steps(count: u64) -> Response
         kind: STEPS,
         row: 0,
         hour: 0,
+        reserved: 0,
         value: 0,
         count: count,
     }
@@ -133,6 +140,7 @@ pub fn figure(value: i64) -> Response
         kind: FIGURE,
         row: 0,
         hour: 0,
+        reserved: 0,
         value: value,
         count: 0,
     }
@@ -147,6 +155,7 @@ pub fn number(n: u32) -> Response
         kind: FIGURE,
         row: 0,
         hour: 0,
+        reserved: 0,
         value: value,
         count: 0,
     }
@@ -178,11 +187,15 @@ pub fn of_named(n: Named) -> ClockName
             row: row,
             name: 0,
             second: false,
+            reserved: 0,
+            reserved2: 0,
         },
         Named::Given(c) => ClockName {
             row: 0,
             name: c.name,
             second: c.second,
+            reserved: 0,
+            reserved2: 0,
         },
     }
 }

@@ -16,7 +16,7 @@ abbrev pub clockIn : Clock → H.Clock
 clockIn c = record { name = c .name; second = c .second }
 
 abbrev pub clockAs : H.Clock → Clock
-clockAs c = record { name = c .name; second = c .second }
+clockAs c = record { name = c .name; second = c .second; reserved = 0; reserved2 = 0 }
 
 -- a refusal is told by its number: the rows of these calls have no hour of their own
 unfoldable pub countedAs : Outcome ℕ → Counted

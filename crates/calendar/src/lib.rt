@@ -17,6 +17,8 @@ pub struct Date {
 pub struct Clock {
     pub name: u32,
     pub second: bool,
+    pub reserved: u8,
+    pub reserved2: u16,
 }
 
 // The number asked for, or the refusal table's number.
@@ -91,11 +93,15 @@ fn clock_of(hours: u32, hour: u32) -> Clock
         return Clock {
             name,
             second: hour == 4,
+            reserved: 0,
+            reserved2: 0,
         };
     }
     Clock {
         name,
         second: false,
+        reserved: 0,
+        reserved2: 0,
     }
 }
 

@@ -28,4 +28,4 @@ offRange p = U.badPublished (publishedIn p)
 
 -- an element that is read beyond an array
 abbrev pub barePublished : Published
-barePublished = record { published = false; count = 0; energies = [] }
+barePublished = record { count = 0; published = false; reserved = 0; reserved2 = 0; energies = [] }

@@ -39,8 +39,10 @@ withLodgements s n ls es last = record {
   last = last;
   closed = s .closed;
   cleared = s .cleared;
+  reserved = s .reserved;
   verdicts = s .verdicts;
   figures = s .figures;
+  reserved2 = s .reserved2;
 }
 
 abbrev pub withRegistry : Session → ℕ → List Unit → List Notice → Session
@@ -57,8 +59,10 @@ withRegistry s n us ns = record {
   last = s .last;
   closed = s .closed;
   cleared = s .cleared;
+  reserved = s .reserved;
   verdicts = s .verdicts;
   figures = s .figures;
+  reserved2 = s .reserved2;
 }
 
 abbrev pub withCapacities : Session → List Notice → Session
@@ -75,8 +79,10 @@ withCapacities s cs = record {
   last = s .last;
   closed = s .closed;
   cleared = s .cleared;
+  reserved = s .reserved;
   verdicts = s .verdicts;
   figures = s .figures;
+  reserved2 = s .reserved2;
 }
 
 abbrev pub withVerdicts : Session → Bool → List Verdict → Session
@@ -93,8 +99,10 @@ withVerdicts s closed vs = record {
   last = s .last;
   closed = closed;
   cleared = s .cleared;
+  reserved = s .reserved;
   verdicts = vs;
   figures = s .figures;
+  reserved2 = s .reserved2;
 }
 
 abbrev pub withFigures : Session → Bool → List Cleared → Session
@@ -111,8 +119,10 @@ withFigures s cleared fs = record {
   last = s .last;
   closed = s .closed;
   cleared = cleared;
+  reserved = s .reserved;
   verdicts = s .verdicts;
   figures = fs;
+  reserved2 = s .reserved2;
 }
 
 -- Units and their notices

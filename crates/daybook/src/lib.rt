@@ -64,8 +64,8 @@ fn run_available(s: Session, p: &[u8]) -> Turn
     let count = log::number_at(p, 4) as usize;
     let energies = log::numbers_at(p, 8);
     let notice = Availability {
-        unit,
         count,
+        unit,
         energies,
     };
     notices::available(s, notice)

@@ -88,9 +88,10 @@ pub fn holders(s: Session, place: &[u32; 128]) -> [Unit; 128]
         number: 0,
         agent: 0,
         border: 0,
-        purchase: false,
         maximum: 0,
+        purchase: false,
         legacy: false,
+        reserved: 0,
     };
     let mut found = [none; 128];
     for i in 0..n {
@@ -317,6 +318,8 @@ fn notice_at(capacities: [Notice; 8], w: usize) -> Notice
     if w < 2 {
         return Notice {
             given: false,
+            reserved: 0,
+            reserved2: 0,
             energies: [0u32; 25],
         };
     }

@@ -44,15 +44,15 @@ module _ (s : Session) (b : B.Book) (e : s ≡ image b) where
   hidden-as k l q = rw (lodgements-as s b e, q) (sym (any-map lodgementAs (hiding k) (b .standing)))
 
   -- Row 6, by the place of the key's unit
-  module _ (k : Key) (p : ℕ) (at : p ≡ placeOf (numberIs (k .unit)) (take (s .enrolled) (s .units))) where
-    pub no-holder : s .enrolled ≤ p → true ≡ D.badHolder b (keyIn k)
+  module _ (k : L.Key) (p : ℕ) (at : p ≡ placeOf (numberIs (k .unit)) (take (s .enrolled) (s .units))) where
+    pub no-holder : s .enrolled ≤ p → true ≡ D.badHolder b k
     unfolding D.badHolder D.unregistered
     no-holder h = rw (registered-at s b e (k .unit) p at, le-ltb p (s .enrolled) h)
 
-    pub holds-offer : p < s .enrolled → k .execution ≡ false → false ≡ D.badHolder b (keyIn k)
+    pub holds-offer : p < s .enrolled → k .execution ≡ false → false ≡ D.badHolder b k
     unfolding D.badHolder D.unregistered L.domesticExecution
     holds-offer h x = rw (registered-at s b e (k .unit) p at, lt-ltb p (s .enrolled) h, x)
 
-    pub holds-execution : p < s .enrolled → k .execution ≡ true → eqb (getD (s .units) p noUnit .border) 0 ≡ D.badHolder b (keyIn k)
+    pub holds-execution : p < s .enrolled → k .execution ≡ true → eqb (getD (s .units) p noUnit .border) 0 ≡ D.badHolder b k
     unfolding D.badHolder D.unregistered L.domesticExecution U.domestic
     holds-execution h x = rw (registered-at s b e (k .unit) p at, lt-ltb p (s .enrolled) h, x, unit-as s b e (k .unit) p at h noUnit)

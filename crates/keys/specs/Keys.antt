@@ -13,7 +13,7 @@ use Rattle.session.specs.declared.Session.{Session}
 
 -- the key of a message
 abbrev pub keyFor : Fields → Key
-keyFor m = record { execution = m .execution; default = m .default; unit = m .unit; contract = m .contract }
+keyFor m = record { execution = m .execution; default = m .default; reserved = 0; unit = m .unit; contract = m .contract }
 
 -- a lodgement of a key
 abbrev pub ofKey : Key → Lodgement → Bool

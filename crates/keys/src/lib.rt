@@ -24,6 +24,7 @@ pub fn key_of(m: Fields) -> Key
     Key {
         execution: m.execution,
         default: m.default,
+        reserved: 0,
         unit: m.unit,
         contract: m.contract,
     }

@@ -258,14 +258,14 @@ verdicts = record {
   laws = J′.the-field-laws;
   many = 128;
   whole = record {
-    number = 12;
+    number = 13;
     get = λ s. s .verdicts;
     put = put-verdicts;
     is-field = refl;
     is-read = λ s. refl;
     is-stored = λ s xs. refl;
-    good = λ s w. known T.the-type T′.the-laws 12 s w;
-    with-one = λ s w xs o. replaced T.the-type T′.the-laws 12 s (put-verdicts s xs) (map (J.the-field .into) xs) refl w o;
+    good = λ s w. known T.the-type T′.the-laws 13 s w;
+    with-one = λ s w xs o. replaced T.the-type T′.the-laws 13 s (put-verdicts s xs) (map (J.the-field .into) xs) refl w o;
   };
 }
 
@@ -278,14 +278,14 @@ figures = record {
   laws = C′.the-field-laws;
   many = 25;
   whole = record {
-    number = 13;
+    number = 14;
     get = λ s. s .figures;
     put = put-figures;
     is-field = refl;
     is-read = λ s. refl;
     is-stored = λ s xs. refl;
-    good = λ s w. known T.the-type T′.the-laws 13 s w;
-    with-one = λ s w xs o. replaced T.the-type T′.the-laws 13 s (put-figures s xs) (map (C.the-field .into) xs) refl w o;
+    good = λ s w. known T.the-type T′.the-laws 14 s w;
+    with-one = λ s w xs o. replaced T.the-type T′.the-laws 14 s (put-figures s xs) (map (C.the-field .into) xs) refl w o;
   };
 }
 

@@ -124,9 +124,10 @@ pub fn unit_of(p: &[u8]) -> Unit
         number,
         agent,
         border,
-        purchase,
         maximum,
+        purchase,
         legacy,
+        reserved: 0,
     }
 }
 
@@ -141,6 +142,7 @@ pub fn key_of(p: &[u8]) -> Key
     Key {
         execution,
         default,
+        reserved: 0,
         unit,
         contract,
     }
@@ -155,16 +157,20 @@ fn direction_at(p: &[u8], i: usize) -> Published
     let count = number_at(p, i + 1) as usize;
     let energies = numbers_at(p, i + 5);
     Published {
-        published,
         count,
+        published,
+        reserved: 0,
+        reserved2: 0,
         energies,
     }
 }
 
 fn no_direction() -> Published {
     Published {
-        published: false,
         count: 0,
+        published: false,
+        reserved: 0,
+        reserved2: 0,
         energies: [0u32; 25],
     }
 }

@@ -13,7 +13,7 @@ use Rattle.rules.proofs.MessageLaws.{write-read, read-write, one-form}
 use Rattle.message.specs.declared.Fields.{Fields}
 use Rattle.message.specs.declared.Reading.{Reading}
 use Rattle.message.specs.declared.Written.{Written}
-use Rattle.message.specs.View.{fieldsIn, readingAs, writtenAs}
+use Rattle.message.specs.View.{fieldsIn, fieldsAs, readingAs, writtenAs}
 
 -- a refusal has a number of the table
 data Told {A : Type 0} : Outcome A → Type 0 where
@@ -54,7 +54,7 @@ pub fields-back : (m : Fields) (old new : List ℕ) (w : Written) (r : Reading)
     → length (m .energies) ≡ 25 → length (m .prices) ≡ 25
     → w ≡ writtenAs (M.write (length old) (fieldsIn m)) → new ≡ M.bufferAfter (M.write (length old) (fieldsIn m)) old
     → r ≡ readingAs (M.read (take (w .count) new))
-    → w .refusal ≡ 0 → r ≡ record { refusal = 0; fields = m }
+    → w .refusal ≡ 0 → r ≡ record { refusal = 0; fields = fieldsAs (fieldsIn m) }
 unfolding readingAs
 fields-back m old new w r le lp ew en er z =
     let o : M.write (length old) (fieldsIn m) ≡ given (take (w .count) new) = accepted-write _ old (told-write (length old) (fieldsIn m)) ew en z in
@@ -66,7 +66,7 @@ pub bytes-back : (s old new : List ℕ) (r : Reading) (w : Written)
     → All (λ b. b < 256) s → length s ≤ length old
     → r ≡ readingAs (M.read s) → r .refusal ≡ 0
     → w ≡ writtenAs (M.write (length old) (fieldsIn (r .fields))) → new ≡ M.bufferAfter (M.write (length old) (fieldsIn (r .fields))) old
-    → (w ≡ record { refusal = 0; count = length s }) × (new ≡ s ++ drop (length s) old)
+    → (w ≡ record { refusal = 0; reserved = 0; count = length s }) × (new ≡ s ++ drop (length s) old)
 unfolding writtenAs M.bufferAfter
 bytes-back s old new r w u fits er z ew en =
     let o : M.write (length old) (fieldsIn (r .fields)) ≡ given s = read-write (length old) s (fieldsIn (r .fields)) u fits (accepted-read _ (told-read s) er z) in

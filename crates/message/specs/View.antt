@@ -17,27 +17,31 @@ fieldsIn m = record {
   prices = m .prices;
 }
 
+abbrev pub fieldsAs : M.Fields → Fields
+fieldsAs m = record {
+  execution = m .key .execution;
+  default = m .key .default;
+  reserved = 0;
+  unit = m .key .unit;
+  contract = m .key .contract;
+  map = m .map;
+  energies = m .energies;
+  prices = m .prices;
+}
+
 -- "Other fields of a refusal are 0"
 abbrev pub noFields : Fields
-noFields = record { execution = false; default = false; unit = 0; contract = 0; map = 0; energies = replicate 25 0; prices = replicate 25 0 }
+noFields = record { execution = false; default = false; reserved = 0; unit = 0; contract = 0; map = 0; energies = replicate 25 0; prices = replicate 25 0 }
 
 -- the reading of a message's outcome
 unfoldable pub readingAs : Outcome M.Fields → Reading
 readingAs (given m) = record {
   refusal = 0;
-  fields = record {
-    execution = m .key .execution;
-    default = m .key .default;
-    unit = m .key .unit;
-    contract = m .key .contract;
-    map = m .map;
-    energies = m .energies;
-    prices = m .prices;
-  };
+  fields = fieldsAs m;
 }
 readingAs (refused n h) = record { refusal = n; fields = noFields }
 
 -- the count of an outcome of writing
 unfoldable pub writtenAs : Outcome (List ℕ) → Written
-writtenAs (given bytes) = record { refusal = 0; count = length bytes }
-writtenAs (refused n h) = record { refusal = n; count = 0 }
+writtenAs (given bytes) = record { refusal = 0; reserved = 0; count = length bytes }
+writtenAs (refused n h) = record { refusal = n; reserved = 0; count = 0 }

@@ -7,6 +7,7 @@ pub mod judge;
 pub struct Fields {
     pub execution: bool,
     pub default: bool,
+    pub reserved: u16,
     pub unit: u32,
     pub contract: u32,
     // The hour map: hour 1 is bit 24, hour 25 bit 0.
@@ -26,5 +27,6 @@ pub struct Reading {
 #[repr(C)]
 pub struct Written {
     pub refusal: u32,
+    pub reserved: u32,
     pub count: usize,
 }

@@ -18,7 +18,7 @@ availableIn n = D.available (n .unit) (counted (n .count) (n .energies))
 
 -- energies that are kept: those of the count, 0 behind
 unfoldable pub keptAs : ℕ → List ℕ → Notice
-keptAs count es = record { given = true; energies = pad 25 0 (take count es) }
+keptAs count es = record { given = true; reserved = 0; reserved2 = 0; energies = pad 25 0 (take count es) }
 
 -- a notice at the place of unit u, all else as it was
 abbrev pub notedAt : Session → ℕ → Unit → ℕ → List ℕ → RegistryTurn

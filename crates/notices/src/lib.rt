@@ -29,8 +29,8 @@ use session::units::holder_of;
 // An unavailability notice: `count` available energies of a unit.
 #[repr(C)]
 pub struct Availability {
-    pub unit: u32,
     pub count: usize,
+    pub unit: u32,
     pub energies: [u32; 25],
 }
 
@@ -70,6 +70,8 @@ pub fn kept_notice(count: usize, energies: [u32; 25]) -> Notice
     let kept = front(count, energies);
     Notice {
         given: true,
+        reserved: 0,
+        reserved2: 0,
         energies: kept,
     }
 }

@@ -23,7 +23,7 @@ use Rattle.pending.specs.declared.Pending.{Pending}
 abbrev pub notPending : ℕ → Pending
 notPending row = record {
   refusal = row;
-  fields = record { execution = false; default = false; unit = 0; contract = 0; map = 0; energies = replicate 25 0; prices = replicate 25 0 };
+  fields = record { execution = false; default = false; reserved = 0; unit = 0; contract = 0; map = 0; energies = replicate 25 0; prices = replicate 25 0 };
   replaces = 0;
   holder = record { at = 0; unit = noUnit };
   beside = record { count = 0; at = replicate 128 0 };

@@ -61,6 +61,7 @@ fn not_pending(row: u32) -> Pending
     let fields = Fields {
         execution: false,
         default: false,
+        reserved: 0,
         unit: 0,
         contract: 0,
         map: 0,

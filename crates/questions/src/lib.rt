@@ -224,6 +224,7 @@ fn fields_given(n: Numbers) -> Fields {
     Fields {
         execution: n.values[1] == 1,
         default: n.values[2] == 1,
+        reserved: 0,
         unit: n.values[3],
         contract: n.values[4],
         map: n.values[5],
@@ -281,6 +282,8 @@ pub fn answer_plain(line: &[u8], kind: u8, tens: Numbers)
             let clock = Clock {
                 name: tens.values[3],
                 second: tens.values[4] == 1,
+                reserved: 0,
+                reserved2: 0,
             };
             put_counted(calendar::hour_at(date_of(tens), clock));
         }

@@ -53,7 +53,7 @@ module _ (bytes : List ℕ) where
         (t : prices ≡ readSlots (field (f .width) (priceWidth (h .execution))) (slotWidth (f .width) (h .execution)) (hourBits (h .map)) (drop (headWidth f) (bitsOf bytes))) where
       -- the head and the slots together
       abbrev pub whole : Fields
-      whole = record { execution = h .execution; default = h .default; unit = h .unit; contract = h .contract; map = h .map; energies = energies; prices = prices }
+      whole = record { execution = h .execution; default = h .default; reserved = 0; unit = h .unit; contract = h .contract; map = h .map; energies = energies; prices = prices }
 
       pub whole-read : fieldsIn whole ≡ messageOf bytes
       unfolding messageOf decode fieldsOf

@@ -25,6 +25,7 @@ readingOf j energies prices = record {
   fields = record {
     execution = j .head .execution;
     default = j .head .default;
+    reserved = 0;
     unit = j .head .unit;
     contract = j .head .contract;
     map = j .head .map;

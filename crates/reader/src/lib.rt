@@ -153,6 +153,7 @@ pub fn fields_of(s: &[u8]) -> Fields
     Fields {
         execution: head.execution,
         default: head.default,
+        reserved: 0,
         unit: head.unit,
         contract: head.contract,
         map: head.map,
@@ -231,6 +232,7 @@ pub fn read(s: &[u8]) -> Reading
         fields: Fields {
             execution: told.head.execution,
             default: told.head.default,
+            reserved: 0,
             unit: told.head.unit,
             contract: told.head.contract,
             map: told.head.map,

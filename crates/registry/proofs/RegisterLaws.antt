@@ -12,13 +12,12 @@ use Rattle.rules.specs.Refusals.{row, firstRow}
 use Rattle.rules.specs.Units as U
 use Rattle.rules.specs.Book as B
 use Rattle.rules.specs.DayBook as D
-use Rattle.session.specs.Image.{image, verdictsIn, hoursIn, unitIn, unitOf, noticeOf, noticeAs, noUnit, noNotice}
+use Rattle.session.specs.Image.{image, verdictsIn, hoursIn, unitAs, unitOf, noticeOf, noticeAs, noUnit, noNotice}
 use Rattle.changes.specs.Changes.{withRegistry}
 use Rattle.answer.specs.Told.{told, isRefusal, accepted}
 use Rattle.session.specs.Parts.{numberIs, Judges, Entered}
 use Rattle.registry.specs.Registry.{besideUnit}
 use Rattle.session.specs.declared.Session.{Session}
-use Rattle.session.specs.declared.Unit.{Unit}
 use Rattle.session.specs.declared.Judged.the-variants.{No, Clear}
 use Rattle.session.proofs.LaidLaws.{anyFrom, any-start, any-step, any-end, any-map, map-last, length-last, set-pad}
 use Rattle.session.proofs.StepLaws.{open-row}
@@ -26,7 +25,7 @@ use Rattle.session.proofs.SoundLaws.{open-stage}
 use Rattle.session.proofs.ImageLaws.{closed-as, enrolled-as, units-as, registered-as}
 
 -- a search of the array for one of the same agent, border and side is a search of the list
-second-as : (s : Session) (b : B.Book) → s ≡ image b → (u : Unit) → D.isSecond b (unitIn u) ≡ any (besideUnit u) (take (s .enrolled) (s .units))
+second-as : (s : Session) (b : B.Book) → s ≡ image b → (u : U.TradingUnit) → D.isSecond b u ≡ any (besideUnit u) (take (s .enrolled) (s .units))
 unfolding D.isSecond
 second-as s b e u = rw (units-as s b e) (sym (any-map unitOf (besideUnit u) (b .units)))
 
@@ -44,12 +43,12 @@ module _ {A : Type 0} (p : A → Bool) (l : List A) (n i : ℕ) where
   found-end true h f = f
   found-end false h f = sym (any-end p l n i h) ∙ f
 
-module _ (s : Session) (u : Unit) where
+module _ (s : Session) (u : U.TradingUnit) where
   abbrev call : D.Call
-  call = D.register (unitIn u)
+  call = D.register u
 
   abbrev bad : Bool
-  bad = U.badUnit (unitIn u)
+  bad = U.badUnit u
 
   abbrev taken : Bool
   taken = any (numberIs (u .number)) (take (s .enrolled) (s .units))
@@ -84,14 +83,14 @@ module _ (s : Session) (u : Unit) where
       rw (k, registered-as s b e (u .number), t, second-as s b e u, g, enrolled-as s b e, lt-leb 64 (s .enrolled) f, closed-as s b e, h)
 
   abbrev pub withUnit : Session
-  withUnit = withRegistry s (s .enrolled + 1) (set (s .units) (s .enrolled) u) (set (s .notices) (s .enrolled) noNotice)
+  withUnit = withRegistry s (s .enrolled + 1) (set (s .units) (s .enrolled) (unitAs u)) (set (s .notices) (s .enrolled) noNotice)
 
 -- one unit more in the book is one more in its image
-enrolled-image : (b : B.Book) (u : Unit) → length (b .units) < 64 → b .closed ≡ false → b .cleared ≡ false → withUnit (image b) u ≡ image (D.applied b (D.register (unitIn u)))
+enrolled-image : (b : B.Book) (u : U.TradingUnit) → length (b .units) < 64 → b .closed ≡ false → b .cleared ≡ false → withUnit (image b) u ≡ image (D.applied b (D.register u))
 unfolding image verdictsIn hoursIn D.applied D.withUnits B.hours noticeAs
 enrolled-image b u h k c =
     let us = b .units in
-    let r : U.Registered = record { unit = unitIn u; available = none } in
+    let r : U.Registered = record { unit = u; available = none } in
     let m = length-map us unitOf in
     let n = length-map us noticeOf in
     rw (
@@ -104,7 +103,7 @@ enrolled-image b u h k c =
       c,
     )
 
-pub unit-entered : (s : Session) (u : Unit) → s .enrolled < 64 → Entered s (D.register (unitIn u)) (record { session = withUnit s u; answer = accepted })
+pub unit-entered : (s : Session) (u : U.TradingUnit) → s .enrolled < 64 → Entered s (D.register u) (record { session = withUnit s u; answer = accepted })
 unfolding told isRefusal D.reply D.rowsOf D.gateRow D.callRows
 unit-entered s u h = record {
   book = λ b sound o e.

@@ -6,7 +6,7 @@ ghost use lib.ListN.{take};
 ghost use Rattle.rules.specs.Lists.{any};
 ghost use Rattle.rules.specs.Units.{badUnit, sameBorderSide};
 ghost use Rattle.rules.specs.DayBook.{register};
-ghost use Rattle.session.specs.Image.{unitIn};
+ghost use Rattle.session.specs.Image.{unitIn, unitAs};
 ghost use Rattle.changes.specs.Changes.{registryTurn};
 ghost use Rattle.session.specs.Steps.{Met};
 ghost use Rattle.session.specs.Parts.{Within, Judges, Entered, numberIs};
@@ -85,7 +85,7 @@ struct Found {
 
 fn refusing(units: [Unit; 64], n: usize, u: Unit) -> Found
     requires { ⌜ n ≤ 64 ⌝ }
-    ensures { λ r. ⌜ (r .taken ≡ any (numberIs (u .number)) (take n units)) × (r .second ≡ any (besideUnit u) (take n units)) ⌝ }
+    ensures { λ r. ⌜ (r .taken ≡ any (numberIs (u .number)) (take n units)) × (r .second ≡ any (besideUnit (unitIn u)) (take n units)) ⌝ }
 {
     let number = u.number;
     let mut taken = false;
@@ -125,6 +125,21 @@ fn judge_register(s: Session, u: Unit) -> Judged
     Judged::Clear
 }
 
+// The unit as the session keeps it: its reserved bytes are 0, whatever the caller's hold.
+fn kept(u: Unit) -> Unit
+    ensures { λ r. ⌜ r ≡ unitAs (unitIn u) ⌝ }
+{
+    Unit {
+        number: u.number,
+        agent: u.agent,
+        border: u.border,
+        maximum: u.maximum,
+        purchase: u.purchase,
+        legacy: u.legacy,
+        reserved: 0,
+    }
+}
+
 // "registering adds the unit", behind the others.
 fn enrol(s: Session, u: Unit) -> RegistryTurn
     requires { ⌜ s .enrolled < 64 ⌝ }
@@ -132,11 +147,12 @@ fn enrol(s: Session, u: Unit) -> RegistryTurn
 {
     let at = s.enrolled;
     let enrolled = at + 1;
+    let unit = kept(u);
     let notice = no_notice();
     let change = RegistryChange {
         enrolled: enrolled,
         at: at,
-        unit: u,
+        unit: unit,
         notice: notice,
         changed: true,
     };

@@ -7,13 +7,13 @@ use Rattle.session.specs.declared.Verdict.{Verdict}
 use Rattle.session.specs.declared.Cleared.{Cleared}
 
 abbrev pub bareNotice : Notice
-bareNotice = record { given = false; energies = [] }
+bareNotice = record { given = false; reserved = 0; reserved2 = 0; energies = [] }
 
 abbrev pub bareEnergies : Energies
 bareEnergies = record { energies = []; prices = [] }
 
 abbrev pub bareVerdict : Verdict
-bareVerdict = record { accepted = false; limit = 0; hour = 0 }
+bareVerdict = record { accepted = false; reserved = 0; reserved2 = 0; limit = 0; hour = 0 }
 
 abbrev pub bareFigures : Cleared
 bareFigures = record { price = 0; market = []; bilateral = []; maxima = []; matched = []; executed = [] }

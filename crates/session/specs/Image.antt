@@ -51,12 +51,12 @@ abbrev pub dateAs : H.Date → Date
 dateAs d = record { year = d .year; month = d .month; day = d .day }
 
 abbrev pub unitAs : U.TradingUnit → Unit
-unitAs u = record { number = u .number; agent = u .agent; border = u .border; purchase = u .purchase; maximum = u .maximum; legacy = u .legacy }
+unitAs u = record { number = u .number; agent = u .agent; border = u .border; maximum = u .maximum; purchase = u .purchase; legacy = u .legacy; reserved = 0 }
 
 -- energies of an unavailability notice, or of a published direction
 unfoldable pub noticeAs : Option (List ℕ) → Notice
-noticeAs none = record { given = false; energies = replicate 25 0 }
-noticeAs (some es) = record { given = true; energies = pad 25 0 es }
+noticeAs none = record { given = false; reserved = 0; reserved2 = 0; energies = replicate 25 0 }
+noticeAs (some es) = record { given = true; reserved = 0; reserved2 = 0; energies = pad 25 0 es }
 
 abbrev pub unitOf : U.Registered → Unit
 unitOf r = unitAs (r .unit)
@@ -65,7 +65,7 @@ abbrev pub noticeOf : U.Registered → Notice
 noticeOf r = noticeAs (r .available)
 
 abbrev pub keyAs : M.Key → Key
-keyAs k = record { execution = k .execution; default = k .default; unit = k .unit; contract = k .contract }
+keyAs k = record { execution = k .execution; default = k .default; reserved = 0; unit = k .unit; contract = k .contract }
 
 abbrev pub lodgementAs : L.Lodgement → Lodgement
 lodgementAs l = record { key = keyAs (l .key); number = l .number }
@@ -74,9 +74,9 @@ abbrev pub energiesAs : L.Lodgement → Energies
 energiesAs l = record { energies = l .energies; prices = l .prices }
 
 unfoldable pub verdictAs : C.Verdict → Verdict
-verdictAs C.accepted = record { accepted = true; limit = 0; hour = 0 }
-verdictAs C.hidden = record { accepted = false; limit = 0; hour = 0 }
-verdictAs (C.limit n h) = record { accepted = false; limit = n; hour = h }
+verdictAs C.accepted = record { accepted = true; reserved = 0; reserved2 = 0; limit = 0; hour = 0 }
+verdictAs C.hidden = record { accepted = false; reserved = 0; reserved2 = 0; limit = 0; hour = 0 }
+verdictAs (C.limit n h) = record { accepted = false; reserved = 0; reserved2 = 0; limit = n; hour = h }
 
 -- energies of the ten directions, export and import of border 0, of 1, .. of 4
 unfoldable pub byWay : (ℕ → Bool → ℕ) → List ℕ
@@ -107,19 +107,19 @@ figuresAs b h =
 -- blanks
 
 abbrev pub noUnit : Unit
-noUnit = record { number = 0; agent = 0; border = 0; purchase = false; maximum = 0; legacy = false }
+noUnit = record { number = 0; agent = 0; border = 0; maximum = 0; purchase = false; legacy = false; reserved = 0 }
 
 abbrev pub noNotice : Notice
-noNotice = record { given = false; energies = replicate 25 0 }
+noNotice = record { given = false; reserved = 0; reserved2 = 0; energies = replicate 25 0 }
 
 abbrev pub noLodgement : Lodgement
-noLodgement = record { key = record { execution = false; default = false; unit = 0; contract = 0 }; number = 0 }
+noLodgement = record { key = record { execution = false; default = false; reserved = 0; unit = 0; contract = 0 }; number = 0 }
 
 abbrev pub noEnergies : Energies
 noEnergies = record { energies = replicate 25 0; prices = replicate 25 0 }
 
 abbrev pub noVerdict : Verdict
-noVerdict = record { accepted = false; limit = 0; hour = 0 }
+noVerdict = record { accepted = false; reserved = 0; reserved2 = 0; limit = 0; hour = 0 }
 
 abbrev pub noFigures : Cleared
 noFigures = record {
@@ -154,8 +154,10 @@ image b = record {
   last = b .last;
   closed = b .closed;
   cleared = b .cleared;
+  reserved = 0;
   verdicts = pad 128 noVerdict (map verdictAs (verdictsIn b));
   figures = pad 25 noFigures (map (figuresAs b) (hoursIn b));
+  reserved2 = 0;
 }
 
 -- What holds of every book that opening and the calls leave: document 01's ranges, and a capacity notice of 4 times 2 directions

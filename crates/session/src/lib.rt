@@ -16,23 +16,28 @@ pub struct Unit {
     pub number: u32,
     pub agent: u32,
     pub border: u32,
-    pub purchase: bool,
     pub maximum: u32,
+    pub purchase: bool,
     pub legacy: bool,
+    pub reserved: u16,
 }
 
 // A notice that the session keeps: energies by hour, 0 behind the last hour.
 #[repr(C)]
 pub struct Notice {
     pub given: bool,
+    pub reserved: u8,
+    pub reserved2: u16,
     pub energies: [u32; 25],
 }
 
 // A direction of a capacity notice: absent, or `count` energies.
 #[repr(C)]
 pub struct Published {
-    pub published: bool,
     pub count: usize,
+    pub published: bool,
+    pub reserved: u8,
+    pub reserved2: u16,
     pub energies: [u32; 25],
 }
 
@@ -40,6 +45,7 @@ pub struct Published {
 pub struct Key {
     pub execution: bool,
     pub default: bool,
+    pub reserved: u16,
     pub unit: u32,
     pub contract: u32,
 }
@@ -61,6 +67,8 @@ pub struct Energies {
 #[repr(C)]
 pub struct Verdict {
     pub accepted: bool,
+    pub reserved: u8,
+    pub reserved2: u16,
     pub limit: u32,
     pub hour: u32,
 }
@@ -93,8 +101,10 @@ pub struct Session {
     pub last: u32,
     pub closed: bool,
     pub cleared: bool,
+    pub reserved: u16,
     pub verdicts: [Verdict; 128],
     pub figures: [Cleared; 25],
+    pub reserved2: u32,
 }
 
 // The unit of a number, found once for all that ask about it: its place and itself; behind the last and blank where there is none.
@@ -147,9 +157,10 @@ pub fn no_unit() -> Unit
         number: 0,
         agent: 0,
         border: 0,
-        purchase: false,
         maximum: 0,
+        purchase: false,
         legacy: false,
+        reserved: 0,
     }
 }
 
@@ -158,6 +169,8 @@ pub fn no_notice() -> Notice
 {
     Notice {
         given: false,
+        reserved: 0,
+        reserved2: 0,
         energies: [0u32; 25],
     }
 }
@@ -168,6 +181,7 @@ pub fn no_lodgement() -> Lodgement
     let key = Key {
         execution: false,
         default: false,
+        reserved: 0,
         unit: 0,
         contract: 0,
     };
@@ -191,6 +205,8 @@ pub fn no_verdict() -> Verdict
 {
     Verdict {
         accepted: false,
+        reserved: 0,
+        reserved2: 0,
         limit: 0,
         hour: 0,
     }
@@ -250,8 +266,10 @@ impl Session {
             last: 0,
             closed: false,
             cleared: false,
+            reserved: 0,
             verdicts: verdicts,
             figures: figures,
+            reserved2: 0,
         }
     }
 

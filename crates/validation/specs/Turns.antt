@@ -80,5 +80,5 @@ countsAt unit vs ls j = countsOn unit (getD vs j noVerdict) (getD ls j noLodgeme
 
 -- a judgement by the limits as a verdict
 unfoldable pub verdictBy : Judged → Verdict
-verdictBy Clear = record { accepted = true; limit = 0; hour = 0 }
-verdictBy (No row hour) = record { accepted = false; limit = row; hour = hour }
+verdictBy Clear = record { accepted = true; reserved = 0; reserved2 = 0; limit = 0; hour = 0 }
+verdictBy (No row hour) = record { accepted = false; reserved = 0; reserved2 = 0; limit = row; hour = hour }

@@ -47,11 +47,15 @@ fn verdict_by(j: Judged) -> Verdict
     match j {
         Judged::No(row, hour) => Verdict {
             accepted: false,
+            reserved: 0,
+            reserved2: 0,
             limit: row,
             hour: hour,
         },
         Judged::Clear => Verdict {
             accepted: true,
+            reserved: 0,
+            reserved2: 0,
             limit: 0,
             hour: 0,
         },

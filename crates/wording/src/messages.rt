@@ -152,6 +152,7 @@ fn head(execution: bool, default: bool, unit: u32, contract: u32) -> Fields {
     Fields {
         execution,
         default,
+        reserved: 0,
         unit,
         contract,
         map: 0,

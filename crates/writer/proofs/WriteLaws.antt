@@ -57,10 +57,10 @@ none-told room m t =
 abbrev Owed : Outcome (List ℕ) → List ℕ → List ℕ → Written → Type 0
 Owed o old new r = (r ≡ writtenAs o) × (new ≡ bufferAfter o old)
 
-pub owed-refused : (o : Outcome (List ℕ)) (old : List ℕ) {n : ℕ} → n ≡ writtenAs o .refusal → (n ≡ 0 → ⊥) → Owed o old old (record { refusal = n; count = 0 })
+pub owed-refused : (o : Outcome (List ℕ)) (old : List ℕ) {n : ℕ} → n ≡ writtenAs o .refusal → (n ≡ 0 → ⊥) → Owed o old old (record { refusal = n; reserved = 0; count = 0 })
 unfolding writtenAs bufferAfter
 owed-refused (given bytes) old e k = absurd (k e)
-owed-refused (refused r h) old e k = (ap (λ i. record { refusal = i; count = 0 }) e, refl)
+owed-refused (refused r h) old e k = (ap (λ i. record { refusal = i; reserved = 0; count = 0 }) e, refl)
 
 -- bits written from the start on, the bytes beyond as they were
 from-start : (old bs : List ℕ) → length (bytesOf bs) ≤ length old → completed old (record { pos = 0; acc = 0 }) bs ≡ bytesOf bs ++ drop (length (bytesOf bs)) old
@@ -103,7 +103,7 @@ module _ (f : Form) (m : Fields) (is : formFor m ≡ f) where
 
   pub owed-given : (old : List ℕ) {a b new : List ℕ} {h e : Pen} {n : ℕ} → InRanges m × (messageLength m ≤ length old) → n ≡ messageLength m
       → Appended old (record { pos = 0; acc = 0 }) (headBits f m) a h → Appended a h (slotsOf (f .width) m (m .map)) b e → new ≡ completed b e []
-      → Owed (write (length old) m) old new (record { refusal = 0; count = n })
+      → Owed (write (length old) m) old new (record { refusal = 0; reserved = 0; count = n })
   unfolding writtenAs bufferAfter
   owed-given old r q s g t =
       let given-all : write (length old) m ≡ given (encode f m) = of-writes (length old) m (encode f m) (record { map = r .0 .map; fields = r .0 .values; fits = r .1; same = rw is }) in

@@ -77,11 +77,16 @@ pub fn write(m: Fields, buf: &mut [u8]) -> Written
     if n != 0 {
         return Written {
             refusal: n,
+            reserved: 0,
             count: 0,
         };
     }
     let head = put_head(m, buf);
     let end = put_hours(m, buf, head);
     put_last(buf, end);
-    Written { refusal: 0, count }
+    Written {
+        refusal: 0,
+        reserved: 0,
+        count,
+    }
 }

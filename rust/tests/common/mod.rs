@@ -3,8 +3,15 @@
 
 pub mod calls;
 pub mod lists;
+#[cfg(feature = "proved")]
+pub mod raw;
 pub mod seen;
 pub mod shrink;
+
+/// A number that is set outside, as `LISTS=200000`.
+pub fn setting(name: &str, otherwise: u64) -> u64 {
+    std::env::var(name).ok().map_or(otherwise, |value| value.parse().expect("a number"))
+}
 
 /// A generator of numbers from a seed (splitmix64).
 #[derive(Clone)]

@@ -6,6 +6,9 @@ use Rattle.registry.proofs.enrol.Tie as tie
 add-enrolled : tie.Need-add-enrolled
 add-enrolled c = search needs
 
+kept-requires : tie.Need-kept-requires
+kept-requires c κs = search needs
+
 no-notice-requires : tie.Need-no-notice-requires
 no-notice-requires c κs = search needs
 
@@ -13,7 +16,7 @@ accepted-requires : tie.Need-accepted-requires
 accepted-requires c κs = search needs
 
 returns : tie.Need-returns
-returns c = (rw (c .before .no-notice .ensures, c .accepted .ensures) (unit-entered _ _ (c .before .before .pre)), c .before .before .pre)
+returns c = (rw (c .before .before .kept .ensures, c .before .no-notice .ensures, c .accepted .ensures) (unit-entered _ _ (c .before .before .before .pre)), c .before .before .before .pre)
 
 pub enrol-spec : {M : Type 1} → statement M
-enrol-spec = tie.close (tie.spec add-enrolled no-notice-requires accepted-requires returns)
+enrol-spec = tie.close (tie.spec add-enrolled kept-requires no-notice-requires accepted-requires returns)

@@ -4,7 +4,7 @@ use mathlib.Core.Bool.{_||_}
 use native.Mathlib.Omega.{arith}
 use lib.ListN.{take}
 use Rattle.rules.specs.Lists.{any}
-use Rattle.session.specs.Image.{noUnit}
+use Rattle.session.specs.Image.{unitIn, noUnit}
 use Rattle.session.specs.Parts.{numberIs}
 use Rattle.session.proofs.LaidLaws.{anyFrom}
 use Rattle.registry.specs.Registry.{besideUnit}
@@ -17,13 +17,13 @@ abbrev Inv-loop : tie.InvT-loop
 Inv-loop n u units number taken₀ second₀ i₀ taken second i =
     (i ≤ n)
     × ((taken || anyFrom (numberIs (u .number)) units n i) ≡ any (numberIs (u .number)) (take n units))
-    × ((second || anyFrom (besideUnit u) units n i) ≡ any (besideUnit u) (take n units))
+    × ((second || anyFrom (besideUnit (unitIn u)) units n i) ≡ any (besideUnit (unitIn u)) (take n units))
 
 abbrev μ-loop : tie.MeasureT-loop
 μ-loop n u units number taken₀ second₀ i₀ taken second i = n - i
 
 loop-holds : tie.Need-loop-holds Inv-loop μ-loop
-loop-holds c = let a = c .args in (omega arith, found-start (numberIs (a .u .number)) (a .t1) (a .n), found-start (besideUnit (a .u)) (a .t1) (a .n))
+loop-holds c = let a = c .args in (omega arith, found-start (numberIs (a .u .number)) (a .t1) (a .n), found-start (besideUnit (unitIn (a .u))) (a .t1) (a .n))
 
 mul-v : tie.Need-mul-v Inv-loop μ-loop
 mul-v c = search needs
@@ -52,14 +52,14 @@ loop-again c =
     let l = c .before .before .before .before .before .before .loop in (
       omega arith,
       found-next (numberIs (a .u .number)) (a .t1) (a .n) (l .i) noUnit (l .taken) (omega arith) (omega arith) refl (c .before .before .either .ensures) (l .inv .1),
-      found-next (besideUnit (a .u)) (a .t1) (a .n) (l .i) noUnit (l .second) (omega arith) (omega arith) (c .before .same-border-side .ensures) (c .either2 .ensures) (l .inv .2),
+      found-next (besideUnit (unitIn (a .u))) (a .t1) (a .n) (l .i) noUnit (l .second) (omega arith) (omega arith) (c .before .same-border-side .ensures) (c .either2 .ensures) (l .inv .2),
     )
 
 returns : tie.Need-returns Inv-loop μ-loop
 returns c =
     let a = c .before .before .args in
     let l = c .before .loop in
-    (found-end (numberIs (a .u .number)) (a .t1) (a .n) (l .i) _ (omega arith) (l .inv .1), found-end (besideUnit (a .u)) (a .t1) (a .n) (l .i) _ (omega arith) (l .inv .2))
+    (found-end (numberIs (a .u .number)) (a .t1) (a .n) (l .i) _ (omega arith) (l .inv .1), found-end (besideUnit (unitIn (a .u))) (a .t1) (a .n) (l .i) _ (omega arith) (l .inv .2))
 
 pub refusing-spec : {M : Type 1} → statement M
 refusing-spec =

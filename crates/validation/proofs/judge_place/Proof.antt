@@ -69,7 +69,7 @@ returns-2 c =
     let at = c .before .before .before .before .before .before .before .before .before .before .before .before .before .before .before .before .place in
     let marks = c .before .before .before .before .before .before .before .before .accepted-on in
     let own = c .before .before .before .before .before .before .before .before .before .energies-at in
-    judge-lent (a .s) (a .verdicts) (a .at) (q .1) noLodgement (at .result) (at .ensures .0) noUnit (record { given = false; energies = [] }) (own .result) (marks .result) (a .loads .now) _ (c .before .judge-energy .result) (c .verdict-by .result)
+    judge-lent (a .s) (a .verdicts) (a .at) (q .1) noLodgement (at .result) (at .ensures .0) noUnit (record { given = false; reserved = 0; reserved2 = 0; energies = [] }) (own .result) (marks .result) (a .loads .now) _ (c .before .judge-energy .result) (c .verdict-by .result)
     (c .before .before .before .before .before .before .before .before .before .before .before .before .before .before .if1 .left) (q .0) (own .ensures .1) (q .2) (marks .ensures) (c .before .before .before .before .before .before .counted-places .ensures .places) (c .before .judge-energy .ensures) (c .verdict-by .ensures)
 
 pub judge-place-spec : {M : Type 1} → statement M
