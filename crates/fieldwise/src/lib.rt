@@ -90,6 +90,7 @@ fn fields_of(s: &[u8]) -> Fields
     Fields {
         execution,
         default: mark.value == 1,
+        reserved: 0,
         unit: unit.value,
         contract: contract.value,
         map: map.value,
@@ -106,6 +107,7 @@ fn refused(n: u32) -> Reading
         fields: Fields {
             execution: false,
             default: false,
+            reserved: 0,
             unit: 0,
             contract: 0,
             map: 0,
