@@ -29,11 +29,11 @@ pub data MessageTaken (f : Form) (bs : List ℕ) : Fields → ℕ → Type 0 whe
       → Takes bs 0 4 form a → Takes bs a 2 kind b → Takes bs b 1 mark c → Takes bs c 16 unit d → Takes bs d 16 contract e
       → Takes bs e mapWidth map g → Takes bs g (f .partner) partner start
       → SlotsTaken bs (f .width) (eqb kind 1) (hourBits map) start energies prices end
-      → MessageTaken f bs (record { execution = eqb kind 1; default = eqb mark 1; unit = unit; contract = contract; map = map; energies = energies; prices = prices }) end
+      → MessageTaken f bs (record { key = record { execution = eqb kind 1; default = eqb mark 1; unit = unit; contract = contract }; map = map; energies = energies; prices = prices }) end
 
 -- what is taken so is what the rules read, of any message and of a form whose fields have at most 32 bits; the reader then stands at the
 -- last slot's end. `fields-taken` of proofs/TakingLaws.antt proves it.
 abbrev pub FieldsTaken : Type 0
 FieldsTaken =
     (f : Form) (bs : List ℕ) (m : Fields) (end : ℕ) → f .width ≤ 32 → f .partner ≤ 32 → MessageTaken f bs m end
-    → (m ≡ fieldsOf f bs) × (end ≡ slotsEnd f (m .execution) (setBits (m .map)))
+    → (m ≡ fieldsOf f bs) × (end ≡ slotsEnd f (m .key .execution) (setBits (m .map)))

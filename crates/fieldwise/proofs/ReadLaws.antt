@@ -46,6 +46,10 @@ module _ (bytes : List ℕ) where
     unfolding readingAs read readRows outcome firstRow unless row wrongRange
     read-5 b d = rw (a, ← same, b, d)
 
+    read-whole : badMap (m .map) ≡ false → badFields (formOf bytes .top) (fieldsIn m) ≡ false → read bytes ≡ given (messageOf bytes)
+    unfolding read readRows outcome firstRow unless row wrongRange
+    read-whole b d = rw (a, ← same, b, d)
+
     pub read-given : badMap (m .map) ≡ false → badFields (formOf bytes .top) (fieldsIn m) ≡ false → record { refusal = 0; fields = m } ≡ readingAs (read bytes)
-    unfolding readingAs read readRows outcome firstRow unless row wrongRange
-    read-given b d = rw (a, ← same, b, d)
+    unfolding readingAs
+    read-given b d = rw (read-whole b d) (ap (λ f. record { refusal = 0; fields = f }) e)

@@ -10,6 +10,7 @@ use borrow.Author.Tests.{lt-ltb, le-ltb}
 use Rattle.rules.specs.Lists.{any}
 use Rattle.rules.specs.Units as U
 use Rattle.rules.specs.Lodging as L
+use Rattle.rules.specs.Message as M
 use Rattle.rules.specs.Book as B
 use Rattle.rules.specs.DayBook as D
 use Rattle.session.specs.Laid.{pad}
@@ -44,7 +45,7 @@ module _ (s : Session) (b : B.Book) (e : s ≡ image b) where
   hidden-as k l q = rw (lodgements-as s b e, q) (sym (any-map lodgementAs (hiding k) (b .standing)))
 
   -- Row 6, by the place of the key's unit
-  module _ (k : L.Key) (p : ℕ) (at : p ≡ placeOf (numberIs (k .unit)) (take (s .enrolled) (s .units))) where
+  module _ (k : M.Key) (p : ℕ) (at : p ≡ placeOf (numberIs (k .unit)) (take (s .enrolled) (s .units))) where
     pub no-holder : s .enrolled ≤ p → true ≡ D.badHolder b k
     unfolding D.badHolder D.unregistered
     no-holder h = rw (registered-at s b e (k .unit) p at, le-ltb p (s .enrolled) h)
