@@ -120,7 +120,7 @@ fn reserved_are_0(s: &ffi::Session) -> bool {
 
 #[test]
 fn equal_histories_leave_equal_bytes() {
-    let (first, lists) = (setting("SEED", 0), setting("LISTS", 1_200));
+    let (first, lists) = (setting("SEED", 0), setting("LISTS", 600));
     let mut seen = Differences::default();
     for seed in first..first + lists {
         let mut rng = Rng::new(!seed);

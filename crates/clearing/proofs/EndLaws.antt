@@ -35,7 +35,7 @@ use Rattle.session.specs.declared.Cleared.{Cleared}
 use Rattle.session.specs.Laid.{pad}
 use Rattle.session.specs.Image as I
 use Rattle.answer.specs.Told as T
-use Rattle.changes.specs.Changes.{withFigures}
+use Rattle.changes.specs.Changes.{withVerdicts, withFigures}
 use Rattle.session.specs.Parts.{Entered}
 use Rattle.session.proofs.LaidLaws.{map-last, set-pad}
 use Rattle.session.proofs.ImageLaws.{hours-as, units-as, enrolled-as}
@@ -169,22 +169,8 @@ module _ (b : B.Book) where
   cleared-image : (figures : List Cleared) → figures ≡ pad 25 I.noFigures (map (I.figuresAs b) (from 1 (B.hours b))) → withFigures (I.image b) true figures ≡ I.image (D.applied b D.clear)
   unfolding I.image I.hoursIn D.applied D.withStage B.hours
   cleared-image figures e =
-      ap₂ (λ vs fs. record {
-        date = I.dateAs (b .date);
-        hours = B.hours b;
-        enrolled = length (b .units);
-        units = pad 64 I.noUnit (map I.unitOf (b .units));
-        notices = pad 64 I.noNotice (map I.noticeOf (b .units));
-        capacities = map I.noticeAs (b .capacities);
-        standing = length (b .standing);
-        lodgements = pad 128 I.noLodgement (map I.lodgementAs (b .standing));
-        energies = pad 128 I.noEnergies (map I.energiesAs (b .standing));
-        last = b .last;
-        closed = b .closed;
-        cleared = true;
-        verdicts = pad 128 I.noVerdict (map I.verdictAs vs);
-        figures = fs;
-      }) (sym same-verdicts) (e ∙ ap (pad 25 I.noFigures) (all-figures (from 1 (B.hours b))))
+      ap₂ (λ vs fs. withVerdicts (withFigures (I.image b) true fs) (b .closed) (pad 128 I.noVerdict (map I.verdictAs vs)))
+      (sym same-verdicts) (e ∙ ap (pad 25 I.noFigures) (all-figures (from 1 (B.hours b))))
 
 day-steps : (b : B.Book) (n : ℕ) → n ≡ sumOf (λ h. R.figuresAt b h .steps) (from 1 (B.hours b)) → D.steps n ≡ D.reply b D.clear
 unfolding D.reply R.daySteps R.figuresAt

@@ -41,7 +41,7 @@ returns-3 : tie.Need-returns-3
 returns-3 c =
     let w = guarded (c .before .before .before .before .before .before .before .before .args .s) (sym (c .before .before .before .before .before .before .before .sound .ensures) ∙ not-false _ (c .before .before .before .before .before .before .if1 .left)) in
     let p = struck-placed (c .before .before .before .before .before .before .before .before .args .s) _ (w .standing) (c .before .before .before .judge-annul .ensures .1 (c .before .enum-told .given .1)) in
-    (out-entered _ _ _ (λ b e. sym (c .before .enum-told .given .1) ∙ c .before .before .before .judge-annul .ensures .0 b e) (rw (c .strike .ensures) (annulled _ _ _ (c .before .before .before .before .key-place .ensures .0) (p .to))), rw (c .strike .ensures) p)
+    (out-entered _ _ _ (λ b e. sym (c .before .enum-told .given .1) ∙ c .before .before .before .judge-annul .ensures .0 b e) (rw (c .strike .ensures) (annulled _ (c .before .before .before .before .before .before .before .before .args .key) _ (c .before .before .before .before .key-place .ensures .0) (p .to))), rw (c .strike .ensures) p)
 
 pub annul-change-spec : {M : Type 1} → statement M
 annul-change-spec =

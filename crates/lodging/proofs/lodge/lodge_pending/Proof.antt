@@ -33,12 +33,12 @@ enter-requires c κs = let found = c .before .before .before .before .before .be
 returns-2 : tie.Need-returns-2
 returns-2 c =
     let z = c .before .before .before .before .before .before .if1 .left in
-    (λ bytes d. out-refused _ _ _ _ _ (c .standing-refused2 .ensures .0) (lodge-judged _ _ _ (d .fields z) (d .most z) (d .opened z) (d .formed z) _ (λ b e. sym (c .before .before .j .given .1) ∙ c .before .before .before .before .before .judge-fields .ensures .0 b e)), c .standing-refused2 .ensures .1)
+    (λ bytes d. out-refused _ _ _ _ _ (c .standing-refused2 .ensures .0) (lodge-judged _ _ (c .before .before .before .before .before .before .before .before .args .p .fields) (d .fields z) (d .most z) (d .opened z) (d .formed z) _ (λ b e. sym (c .before .before .j .given .1) ∙ c .before .before .before .before .before .judge-fields .ensures .0 b e)), c .standing-refused2 .ensures .1)
 
 returns-3 : tie.Need-returns-3
 returns-3 c =
     let z = c .before .before .before .before .before .if1 .left in
-    (λ bytes d. out-entered _ _ _ (lodge-judged _ _ _ (d .fields z) (d .most z) (d .opened z) (d .formed z) _ (λ b e. sym (c .before .enum-told .given .1) ∙ c .before .before .before .before .judge-fields .ensures .0 b e)) (lodge-entered _ _ _ (d .fields z) _ (c .enter .ensures .0)), c .enter .ensures .1)
+    (λ bytes d. out-entered _ _ _ (lodge-judged _ _ (c .before .before .before .before .before .before .before .args .p .fields) (d .fields z) (d .most z) (d .opened z) (d .formed z) _ (λ b e. sym (c .before .enum-told .given .1) ∙ c .before .before .before .before .judge-fields .ensures .0 b e)) (lodge-entered _ _ _ (d .fields z) _ (c .enter .ensures .0)), c .enter .ensures .1)
 
 pub lodge-pending-spec : {M : Type 1} → statement M
 lodge-pending-spec =
