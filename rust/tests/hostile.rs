@@ -7,7 +7,7 @@
 
 mod common;
 
-use common::calls::{answer, Call, Query};
+use common::calls::{answer, Entry, Query};
 use common::lists::list;
 use common::Rng;
 use jeddyspangle::ffi::{self, Flag, Response};
@@ -37,27 +37,27 @@ fn asked(session: &ffi::Session, query: Query) -> Response {
     }
 }
 
-fn called(session: &mut ffi::Session, call: &Call) -> Response {
+fn called(session: &mut ffi::Session, call: &Entry) -> Response {
     match call {
-        Call::Register(unit) => {
+        Entry::Register(unit) => {
             let Unit { number, agent, border, purchase, maximum, legacy } = *unit;
             let (purchase, legacy) = (purchase.into(), legacy.into());
             ffi::register(session, ffi::Unit { number, agent, border, purchase, maximum, legacy })
         }
-        Call::Available(unit, energies) => {
+        Entry::Available(unit, energies) => {
             let (unit, count, energies) = (*unit, energies.count(), *energies.values());
             ffi::available(session, ffi::Availability { unit, count, energies })
         }
-        Call::Capacity(capacities) => {
+        Entry::Capacity(capacities) => {
             let directions = capacities.directions().each_ref().map(published);
             ffi::capacity(session, ffi::Capacities { directions })
         }
-        Call::Lodge(message) => ffi::lodge(session, message),
-        Call::Annul(one) => ffi::annul(session, key(one)),
-        Call::Close => ffi::close(session),
-        Call::Clear => ffi::clear(session),
-        Call::Ask(query) => asked(session, *query),
-        Call::AskAll => ask_all(session),
+        Entry::Lodge(message) => ffi::lodge(session, message),
+        Entry::Annul(one) => ffi::annul(session, key(one)),
+        Entry::Close => ffi::close(session),
+        Entry::Clear => ffi::clear(session),
+        Entry::Ask(query) => asked(session, *query),
+        Entry::AskAll => ask_all(session),
     }
 }
 
@@ -96,7 +96,7 @@ impl Fenced {
     }
 
     /// Makes a call; the bytes around the session stay, and so does the session when it is refused.
-    fn call(&mut self, call: &Call, flags: Flags) -> Response {
+    fn call(&mut self, call: &Entry, flags: Flags) -> Response {
         let kept = Box::new(self.session);
         let response = called(&mut self.session, call);
         assert!(self.before == [0xa5; 4096] && self.after == [0x5a; 4096], "{call} wrote outside the session");
@@ -122,9 +122,9 @@ fn hand_over(session: &ffi::Session, flags: Flags, rng: &mut Rng, kinds: &mut [u
     };
     let mut calls = list(rng.next()).calls;
     calls.truncate(30);
-    calls.extend([Call::Close, Call::Clear, Call::AskAll]);
+    calls.extend([Entry::Close, Entry::Clear, Entry::AskAll]);
     for call in &calls {
-        if !matches!(call, Call::Ask(_)) && rng.chance(20) {
+        if !matches!(call, Entry::Ask(_)) && rng.chance(20) {
             count(Fenced::new(session).call(call, flags));
         }
     }
@@ -188,7 +188,7 @@ fn genuine(rng: &mut Rng) -> Box<ffi::Session> {
     let mut gate = Gate::opened(list.date).1;
     let calls = rng.below(list.calls.len() as u32 + 1) as usize;
     for call in &list.calls[..calls] {
-        if !matches!(call, Call::AskAll) {
+        if !matches!(call, Entry::AskAll) {
             answer(&mut gate, call);
         }
     }
