@@ -2,6 +2,36 @@
 
 use crate::types::*;
 
+/// A call that changes a session, with what it brings.
+#[derive(Clone, Copy, Debug)]
+pub enum Call<'a> {
+    /// Registers a unit.
+    Register(Unit),
+    /// An unavailability notice of a unit.
+    Available(u32, &'a Energies),
+    /// A capacity notice.
+    Capacity(&'a Capacities),
+    /// Lodges a message.
+    Lodge(&'a [u8]),
+    /// Annuls the lodgement of a key.
+    Annul(Key),
+    /// Closes the gate.
+    Close,
+    /// Clears the day.
+    Clear,
+}
+
+/// What an accepted call answers.
+#[derive(Clone, Copy, Debug, PartialEq, Eq)]
+pub enum Accepted {
+    /// That it was done.
+    Done,
+    /// A lodging number.
+    Number(LodgingNumber),
+    /// A clearing's steps.
+    Steps(Steps),
+}
+
 /// A session of one delivery day, with every call and query of document 01.
 pub trait Exchange: Sized {
     /// A fresh session of the date. Beside a refused date stands the fresh session of 2002-01-01.
@@ -21,6 +51,20 @@ pub trait Exchange: Sized {
 
     /// The message of the fields into the buffer; how many bytes it has. A refused call writes nothing.
     fn write(fields: &Fields, buffer: &mut [u8]) -> Result<usize, Refusal>;
+
+    /// A call of a list on the session that the last one left. What plays lists of calls hands each on here.
+    fn call(&mut self, call: Call<'_>) -> Result<Accepted, Refusal> {
+        let done = |()| Accepted::Done;
+        match call {
+            Call::Register(unit) => self.register(unit).map(done),
+            Call::Available(unit, energies) => self.available(unit, energies).map(done),
+            Call::Capacity(capacities) => self.capacity(capacities).map(done),
+            Call::Lodge(message) => self.lodge(message).map(Accepted::Number),
+            Call::Annul(key) => self.annul(key).map(done),
+            Call::Close => self.close().map(done),
+            Call::Clear => self.clear().map(Accepted::Steps),
+        }
+    }
 
     /// Registers a unit.
     fn register(&mut self, unit: Unit) -> Result<(), Refusal>;

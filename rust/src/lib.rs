@@ -18,7 +18,7 @@ mod gate;
 pub mod model;
 mod types;
 
-pub use exchange::Exchange;
+pub use exchange::{Accepted, Call, Exchange};
 #[cfg(feature = "proved")]
 pub use gate::Gate;
 pub use types::*;

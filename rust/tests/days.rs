@@ -141,12 +141,12 @@ fn said<T: std::fmt::Display>(answer: Result<T, Refusal>) -> String {
     }
 }
 
-fn done(answer: Result<(), Refusal>) -> String {
-    said(answer.map(|()| "accepted"))
-}
-
-fn lodged(answer: Result<LodgingNumber, Refusal>) -> String {
-    said(answer.map(|given| format!("number {}", given.0)))
+fn made<E: Exchange>(session: &mut E, call: Call<'_>) -> String {
+    said(session.call(call).map(|accepted| match accepted {
+        Accepted::Done => "accepted".to_string(),
+        Accepted::Number(number) => format!("number {}", number.0),
+        Accepted::Steps(steps) => format!("steps {}", steps.0),
+    }))
 }
 
 fn maximum(answer: Result<Option<i64>, Refusal>) -> String {
@@ -156,7 +156,7 @@ fn maximum(answer: Result<Option<i64>, Refusal>) -> String {
 fn write_and_lodge<E: Exchange>(session: &mut E, fields: &Fields) -> String {
     let mut buffer = [0; LONGEST_MESSAGE];
     match E::write(fields, &mut buffer) {
-        Ok(length) => lodged(session.lodge(&buffer[..length])),
+        Ok(length) => made(session, Call::Lodge(&buffer[..length])),
         Err(refusal) => refusal.to_string(),
     }
 }
@@ -167,25 +167,25 @@ fn answer<E: Exchange>(session: &mut E, words: &[&str]) -> Option<String> {
         ["open", day] => {
             let (answer, fresh) = E::opened(date(day)?);
             *session = fresh;
-            done(answer)
+            said(answer.map(|()| "accepted"))
         }
-        ["register", rest @ ..] => done(session.register(unit(rest)?)),
-        ["capacity", rest @ ..] => done(session.capacity(&capacities(rest)?)),
-        ["available", unit, list] => done(session.available(number(unit)?, &energies(list)?)),
+        ["register", rest @ ..] => made(session, Call::Register(unit(rest)?)),
+        ["capacity", rest @ ..] => made(session, Call::Capacity(&capacities(rest)?)),
+        ["available", unit, list] => made(session, Call::Available(number(unit)?, &energies(list)?)),
         [kind @ ("offer" | "execution"), rest @ ..] => {
             let (key, hours) = key(*kind == "execution", rest)?;
             write_and_lodge(session, &fields(key, hours)?)
         }
-        ["lodge", hex] => lodged(session.lodge(&bytes(hex)?)),
+        ["lodge", hex] => made(session, Call::Lodge(&bytes(hex)?)),
         ["annul", kind @ ("offer" | "execution"), rest @ ..] => {
             let (key, rest) = key(*kind == "execution", rest)?;
             if !rest.is_empty() {
                 return None;
             }
-            done(session.annul(key))
+            made(session, Call::Annul(key))
         }
-        ["close"] => done(session.close()),
-        ["clear"] => said(session.clear().map(|steps| format!("steps {}", steps.0))),
+        ["close"] => made(session, Call::Close),
+        ["clear"] => made(session, Call::Clear),
         ["verdict", given] => said(session.verdict(number(given)?)),
         ["matched", unit, hour] => said(session.matched(number(unit)?, number(hour)?)),
         ["executed", unit, hour] => said(session.executed(number(unit)?, number(hour)?)),

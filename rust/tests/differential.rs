@@ -5,7 +5,7 @@
 
 mod common;
 
-use common::calls::{compare, Call, List};
+use common::calls::{compare, Entry, List};
 use common::lists::{any_date, list, packed};
 use common::seen::Seen;
 use common::shrink::{difference, report};
@@ -43,12 +43,12 @@ fn numbers_run_out_alike() {
     let unit = Unit { number: 7, agent: 1, border: 1, purchase: true, maximum: 500, legacy: false };
     let offer = |default| Key { execution: false, default, unit: 7, contract: 0 };
     let message = |key, energy| packed(1, 0, &Fields::of(key).with(4, energy, 100));
-    let mut calls = vec![Call::Register(unit)];
-    calls.extend((0..MOST_ACCEPTED + 2).map(|turn| Call::Lodge(message(offer(false), turn % 500 + 1))));
-    calls.push(Call::Lodge(message(offer(true), 1)));
+    let mut calls = vec![Entry::Register(unit)];
+    calls.extend((0..MOST_ACCEPTED + 2).map(|turn| Entry::Lodge(message(offer(false), turn % 500 + 1))));
+    calls.push(Entry::Lodge(message(offer(true), 1)));
     // A passed limit is told after a gate that has no number left.
-    calls.push(Call::Lodge(message(offer(false), 501)));
-    calls.extend([Call::Annul(offer(false)), Call::Lodge(message(offer(false), 1)), Call::Close, Call::Clear]);
+    calls.push(Entry::Lodge(message(offer(false), 501)));
+    calls.extend([Entry::Annul(offer(false)), Entry::Lodge(message(offer(false), 1)), Entry::Close, Entry::Clear]);
     let list = List { date: Date::new(2006, 10, 29), calls };
     let mut seen = Seen::default();
     seen.start(25);

@@ -6,7 +6,7 @@
 
 mod common;
 
-use common::calls::{every_query, Call, List, Query};
+use common::calls::{every_query, Entry, List, Query};
 use common::lists::{any_date, list};
 use common::raw::{self, asked, called};
 use common::{setting, Rng};
@@ -52,7 +52,7 @@ impl Player {
         (response, Player { byte, session })
     }
 
-    fn call(&mut self, call: &Call) -> Response {
+    fn call(&mut self, call: &Entry) -> Response {
         after(self.byte, || called(&mut self.session, call, self.byte))
     }
 
@@ -93,7 +93,7 @@ fn play(seed: u64, list: &List, bytes: (u8, u8), seen: &mut Differences) {
     let (right, mut b) = Player::open(bytes.1, list.date);
     seen.note((&left, &right), (&a, &b), || format!("seed {seed}, opening"));
     for (index, call) in list.calls.iter().enumerate() {
-        if let Call::AskAll = call {
+        if let Entry::AskAll = call {
             continue;
         }
         let (left, right) = (a.call(call), b.call(call));
@@ -141,7 +141,7 @@ fn messages_and_clock_names_are_answered_in_equal_bytes() {
     for seed in 0..200 {
         let list = list(seed);
         for call in &list.calls {
-            let Call::Lodge(message) = call else { continue };
+            let Entry::Lodge(message) = call else { continue };
             let reading = |byte| after(byte, || ffi::read(message));
             assert_eq!(differing(&reading(0x00), &reading(0xff)), [], "{call}");
             if let Ok(fields) = Gate::read(message) {

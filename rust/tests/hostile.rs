@@ -7,7 +7,7 @@
 
 mod common;
 
-use common::calls::{answer, Call, Query};
+use common::calls::{answer, Entry, Query};
 use common::lists::list;
 use common::raw::{self, asked};
 use common::Rng;
@@ -15,9 +15,9 @@ use jeddyspangle::ffi::{self, Flag, Response};
 use jeddyspangle::*;
 
 /// Makes a call or asks every query, with any bytes in the reserved fields of what is passed.
-fn called(session: &mut ffi::Session, call: &Call, reserved: u8) -> Response {
+fn called(session: &mut ffi::Session, call: &Entry, reserved: u8) -> Response {
     match call {
-        Call::AskAll => ask_all(session),
+        Entry::AskAll => ask_all(session),
         _ => raw::called(session, call, reserved),
     }
 }
@@ -57,7 +57,7 @@ impl Fenced {
     }
 
     /// Makes a call; the bytes around the session stay, and so does the session when it is refused.
-    fn call(&mut self, call: &Call, flags: Flags, reserved: u8) -> Response {
+    fn call(&mut self, call: &Entry, flags: Flags, reserved: u8) -> Response {
         let kept = Box::new(self.session);
         let response = called(&mut self.session, call, reserved);
         assert!(self.before == [0xa5; 4096] && self.after == [0x5a; 4096], "{call} wrote outside the session");
@@ -83,9 +83,9 @@ fn hand_over(session: &ffi::Session, flags: Flags, rng: &mut Rng, kinds: &mut [u
     };
     let mut calls = list(rng.next()).calls;
     calls.truncate(30);
-    calls.extend([Call::Close, Call::Clear, Call::AskAll]);
+    calls.extend([Entry::Close, Entry::Clear, Entry::AskAll]);
     for call in &calls {
-        if !matches!(call, Call::Ask(_)) && rng.chance(20) {
+        if !matches!(call, Entry::Ask(_)) && rng.chance(20) {
             count(Fenced::new(session).call(call, flags, rng.next() as u8));
         }
     }
@@ -149,7 +149,7 @@ fn genuine(rng: &mut Rng) -> Box<ffi::Session> {
     let mut gate = Gate::opened(list.date).1;
     let calls = rng.below(list.calls.len() as u32 + 1) as usize;
     for call in &list.calls[..calls] {
-        if !matches!(call, Call::AskAll) {
+        if !matches!(call, Entry::AskAll) {
             answer(&mut gate, call);
         }
     }

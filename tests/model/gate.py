@@ -631,6 +631,19 @@ class DayBook:
         return self.figures_of(hour).price
 
 
+# A call of a list as a value: its name, then its arguments.
+CALLS = {
+    "register": DayBook.register, "capacity": DayBook.capacity_notice, "available": DayBook.unavailability_notice,
+    "lodge": DayBook.lodge, "annul": DayBook.annul, "close": DayBook.close, "clear": DayBook.clear,
+}
+
+
+def make(book, call):
+    """A call on the session: its answer, or Refused. Every call of a list, of a day or of a log is made here."""
+    name, *arguments = call
+    return CALLS[name](book, *arguments)
+
+
 # ---------------------------------------------------------------- Rehearsal days
 
 class NotUnderstood(Exception):
@@ -752,7 +765,7 @@ class Rehearsal:
             return call()
         except Refused as no:
             self.refused += 1
-            hour = f" hour {no.hour}" if no.number in (MAXIMUM, AVAILABLE, BORDER) else ""
+            hour = f" hour {no.hour}" if no.hour else ""
             return f"refused {no.number} {WORDS[no.number]}{hour}"
 
     def call_of(self, words):
@@ -776,14 +789,14 @@ class Rehearsal:
             maximum = words.number()
             legacy = words.optional("legacy")
             words.end()
-            return self.plain(lambda b: b.register(number, agent, border, side, maximum, legacy))
+            return self.plain("register", number, agent, border, side, maximum, legacy)
         if name == "capacity":
             notice = capacity_of_line(words)
-            return self.plain(lambda b: b.capacity_notice(notice))
+            return self.plain("capacity", notice)
         if name == "available":
             unit, energies = words.number(), energy_list(words.next())
             words.end()
-            return self.plain(lambda b: b.unavailability_notice(unit, energies))
+            return self.plain("available", unit, energies)
         if name in ("offer", "execution"):
             message = message_of_line(words, OFFER if name == "offer" else EXECUTION)
             return lambda: self.write_and_lodge(message)
@@ -792,7 +805,7 @@ class Rehearsal:
             words.end()
             if len(digits) % 2 or not re.fullmatch("[0-9A-Fa-f]*", digits):
                 raise NotUnderstood
-            return lambda: f"number {self.book.lodge(bytes.fromhex(digits))}"
+            return lambda: self.lodge(bytes.fromhex(digits))
         if name == "annul":
             kind = OFFER if words.one_of("offer", "execution") == "offer" else EXECUTION
             unit = words.number()
@@ -802,13 +815,13 @@ class Rehearsal:
                 words.expect("contract")
                 contract = words.number()
             words.end()
-            return self.plain(lambda b: b.annul(kind, default, unit, contract))
+            return self.plain("annul", kind, default, unit, contract)
         if name == "close":
             words.end()
-            return self.plain(lambda b: b.close())
+            return self.plain("close")
         if name == "clear":
             words.end()
-            return lambda: f"steps {self.book.clear()}"
+            return lambda: f"steps {self.make('clear')}"
         if name == "verdict":
             number = words.number()
             words.end()
@@ -834,9 +847,12 @@ class Rehearsal:
         self.book = DayBook(*date)
         return "accepted"
 
-    def plain(self, call):
+    def make(self, *call):
+        return make(self.book, call)
+
+    def plain(self, *call):
         def run():
-            call(self.book)
+            self.make(*call)
             return "accepted"
         return run
 
@@ -849,7 +865,10 @@ class Rehearsal:
     def write_and_lodge(self, message):
         buffer = bytearray(8 + 4 * MAP_BITS)
         count = write_message(message, buffer)
-        return f"number {self.book.lodge(bytes(buffer[:count]))}"
+        return self.lodge(bytes(buffer[:count]))
+
+    def lodge(self, data):
+        return f"number {self.make('lodge', data)}"
 
     def verdict(self, number):
         verdict = self.book.verdict(number)

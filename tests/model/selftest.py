@@ -453,12 +453,12 @@ class SlowBook:
 
 # ---------------------------------------------------------------- the model, called by name
 
-CALLS = {"register": "register", "capacity": "capacity_notice", "available": "unavailability_notice",
-         "lodge": "lodge", "annul": "annul", "close": "close", "clear": "clear"}
+def call_model(book, *call):
+    return answer_of(gate.make, book, call)
 
 
-def call_model(book, call):
-    return answer_of(getattr(book, CALLS.get(call[0], call[0])), *call[1:])
+def ask_model(book, name, *arguments):
+    return answer_of(getattr(book, name), *arguments)
 
 
 # ---------------------------------------------------------------- random material
@@ -672,18 +672,18 @@ def test_twelve_figures(_rng):
     same(gate.share(10, {1: 7, 2: 7, 3: 7}), {1: 4, 2: 3, 3: 3}, "figure 10")
     for execution in (False, True):
         book = DayBook(2006, 6, 1)
-        book.register(1, 1, 0, SALE, 300, False)
-        book.register(2, 2, 1, PURCHASE, 150, False)
-        book.register(3, 3, 0, PURCHASE, 100, False)
-        book.register(4, 4, 1, PURCHASE, 60, False)
-        book.capacity_notice({(1, EXPORT): [100] * 24})
-        book.lodge(message_bytes(OFFER, False, 1, 0, {1: (300, 3000)}))
-        book.lodge(message_bytes(OFFER, False, 2, 0, {1: (150, 5000)}))
-        book.lodge(message_bytes(OFFER, False, 3, 0, {1: (100, 4000)}))
+        same(call_model(book, "register", 1, 1, 0, SALE, 300, False), None)
+        same(call_model(book, "register", 2, 2, 1, PURCHASE, 150, False), None)
+        same(call_model(book, "register", 3, 3, 0, PURCHASE, 100, False), None)
+        same(call_model(book, "register", 4, 4, 1, PURCHASE, 60, False), None)
+        same(call_model(book, "capacity", {(1, EXPORT): [100] * 24}), None)
+        same(call_model(book, "lodge", message_bytes(OFFER, False, 1, 0, {1: (300, 3000)})), 1)
+        same(call_model(book, "lodge", message_bytes(OFFER, False, 2, 0, {1: (150, 5000)})), 2)
+        same(call_model(book, "lodge", message_bytes(OFFER, False, 3, 0, {1: (100, 4000)})), 3)
         if execution:
-            book.lodge(message_bytes(EXECUTION, False, 4, 1, {1: (60, 0)}))
-        book.close()
-        same(book.clear(), 1, "steps of figures 11 and 12")
+            same(call_model(book, "lodge", message_bytes(EXECUTION, False, 4, 1, {1: (60, 0)})), 4)
+        same(call_model(book, "close"), None)
+        same(call_model(book, "clear"), 1, "steps of figures 11 and 12")
         same(book.market_maximum(1, IMPORT, 1), None)
         if execution:
             same((book.market_maximum(1, EXPORT, 1), book.executed(4, 1), book.matched(2, 1),
@@ -694,28 +694,28 @@ def test_twelve_figures(_rng):
 
 def test_edges(_rng):
     book = DayBook(2006, 6, 1)
-    book.register(7, 1, 0, SALE, 99999, False)
-    same(book.lodge(message_bytes(OFFER, False, 7, 0, {1: (99999, 18030)})), 1)
+    same(call_model(book, "register", 7, 1, 0, SALE, 99999, False), None)
+    same(call_model(book, "lodge", message_bytes(OFFER, False, 7, 0, {1: (99999, 18030)})), 1)
     for energy, price in ((100000, 0), (0, 0), (131071, 0), (1, 18031), (1, 32767)):
         data = bytearray(message_bytes(OFFER, False, 7, 0, {1: (1, 0)}))
         data[8:] = (energy << 15 | price).to_bytes(4, "big")
         same(answer_of(gate.read_message, bytes(data)), ("refused", 5, 0), energy, price)
-        same(answer_of(book.lodge, bytes(data)), ("refused", 5, 0), energy, price)
+        same(call_model(book, "lodge", bytes(data)), ("refused", 5, 0), energy, price)
     # exactly the ceiling, and one tenth more, for each limit
     for maximum, available, out, into, expected in ((50, 60, 30, 30, 10), (60, 50, 30, 30, 11),
                                                     (60, 60, 20, 30, 12)):
         for energy in (50, 51):
             book = DayBook(2006, 6, 1)
-            book.register(7, 1, 1, PURCHASE, maximum, False)
+            same(call_model(book, "register", 7, 1, 1, PURCHASE, maximum, False), None)
             data = message_bytes(OFFER, False, 7, 0, {5: (energy, 9)})
             if expected != 10:
-                same(book.lodge(data), 1)
-            book.unavailability_notice(7, [available] * 24)
-            book.capacity_notice({(1, EXPORT): [out] * 24, (1, IMPORT): [into] * 24})
-            answer = answer_of(book.lodge, data)
+                same(call_model(book, "lodge", data), 1)
+            same(call_model(book, "available", 7, [available] * 24), None)
+            same(call_model(book, "capacity", {(1, EXPORT): [out] * 24, (1, IMPORT): [into] * 24}), None)
+            answer = call_model(book, "lodge", data)
             check(answer == ("refused", expected, 5) if energy == 51 else answer in (1, 2), "ceiling", answer)
             if expected != 10:
-                book.close()
+                same(call_model(book, "close"), None)
                 same(book.verdict(max(book.verdicts)),
                      ("limit", expected, 5) if energy == 51 else ("accepted",), "ceiling at closing")
     # open point A1: the smallest case gives 5 and 0 in one step
@@ -734,26 +734,26 @@ def test_edges(_rng):
 def test_full(_rng):
     book = DayBook(2006, 6, 1)
     for n in range(1, 65):
-        book.register(n, n, 1, SALE, 10, False)
-    same(answer_of(book.register, 65, 65, 1, SALE, 10, False), ("refused", 9, 0), "65th unit")
-    same(answer_of(book.register, 64, 65, 1, SALE, 10, False), ("refused", 7, 0))
-    same(answer_of(book.register, 65, 64, 1, SALE, 10, False), ("refused", 8, 0))
+        same(call_model(book, "register", n, n, 1, SALE, 10, False), None)
+    same(call_model(book, "register", 65, 65, 1, SALE, 10, False), ("refused", 9, 0), "65th unit")
+    same(call_model(book, "register", 64, 65, 1, SALE, 10, False), ("refused", 7, 0))
+    same(call_model(book, "register", 65, 64, 1, SALE, 10, False), ("refused", 8, 0))
     for n in range(1, 129):
-        same(book.lodge(message_bytes(EXECUTION, n % 2 == 0, 1 + n // 3, n, {1: (1, 0)})), n)
+        same(call_model(book, "lodge", message_bytes(EXECUTION, n % 2 == 0, 1 + n // 3, n, {1: (1, 0)})), n)
     over = message_bytes(OFFER, False, 1, 0, {1: (11, 0)})
-    same(answer_of(book.lodge, over), ("refused", 9, 0), "129th, told before limit 10")
+    same(call_model(book, "lodge", over), ("refused", 9, 0), "129th, told before limit 10")
     again = message_bytes(EXECUTION, False, 1, 1, {1: (2, 0)})
-    same(book.lodge(again), 129, "replacing when full")
-    same(answer_of(book.lodge, message_bytes(EXECUTION, False, 1, 1, {1: (11, 0)})), ("refused", 10, 1))
-    book.annul(EXECUTION, False, 1, 1)
-    same(answer_of(book.lodge, over), ("refused", 10, 1), "a place free again")
-    same(book.lodge(again), 130)
+    same(call_model(book, "lodge", again), 129, "replacing when full")
+    same(call_model(book, "lodge", message_bytes(EXECUTION, False, 1, 1, {1: (11, 0)})), ("refused", 10, 1))
+    same(call_model(book, "annul", EXECUTION, False, 1, 1), None)
+    same(call_model(book, "lodge", over), ("refused", 10, 1), "a place free again")
+    same(call_model(book, "lodge", again), 130)
     book.last_number = 65533        # as if so many had been accepted
-    same((book.lodge(again), book.lodge(again)), (65534, 65535))
-    same(answer_of(book.lodge, again), ("refused", 9, 0), "65,535 accepted, replacing")
-    book.annul(EXECUTION, False, 1, 1)
-    same(answer_of(book.lodge, again), ("refused", 9, 0), "65,535 accepted")
-    book.close()
+    same((call_model(book, "lodge", again), call_model(book, "lodge", again)), (65534, 65535))
+    same(call_model(book, "lodge", again), ("refused", 9, 0), "65,535 accepted, replacing")
+    same(call_model(book, "annul", EXECUTION, False, 1, 1), None)
+    same(call_model(book, "lodge", again), ("refused", 9, 0), "65,535 accepted")
+    same(call_model(book, "close"), None)
     same(answer_of(book.verdict, 65535), ("refused", 13, 0))
     same(book.verdict(2), ("accepted",))
 
@@ -992,7 +992,7 @@ def test_demand_3(rng):
         for call in calls:
             before = copy.copy(vars(book))
             before = {k: v.copy() if isinstance(v, dict) else v for k, v in before.items()}
-            answer = call_model(book, call)
+            answer = call_model(book, *call)
             answers.append(answer)
             if isinstance(answer, tuple):
                 same(vars(book), before, "a refused call changed the session:", call)
@@ -1006,7 +1006,7 @@ def test_demand_3(rng):
                     for name, value in slow.hour(h).items():
                         same(getattr(book.figures[h], name), value, "list", turn, "hour", h, name)
             for query in queries_of(rng, hours, calls, book.last_number, interest):
-                found, expected = call_model(book, query), slow.query(query)
+                found, expected = ask_model(book, *query), slow.query(query)
                 same(found, expected, "list", turn, "query", query)
                 if isinstance(found, tuple) and found[0] == "refused":
                     seen["refused %d" % found[1]] += 1

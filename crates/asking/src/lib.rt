@@ -1,28 +1,33 @@
 // The session's queries, each by a number.
-ghost use Rattle.queries.specs.Replies.{Answered};
-ghost use Rattle.asking.specs.Asked.{asked};
+ghost use Rattle.asking.specs.Asked.{asked, Replied};
 use answer::Response;
 use session::Session;
 
-pub const VERDICT: u8 = 11;
+// The numbers of the queries are 101 to 200: those below are the log's records, those above a rehearsal's other lines
+// (crates/wording).
+pub const VERDICT: u8 = 101;
 
-pub const MATCHED: u8 = 12;
+pub const MATCHED: u8 = 102;
 
-pub const EXECUTED: u8 = 13;
+pub const EXECUTED: u8 = 103;
 
-pub const MARKET: u8 = 14;
+pub const MARKET: u8 = 104;
 
-pub const BILATERAL: u8 = 15;
+pub const BILATERAL: u8 = 105;
 
-pub const PRICE: u8 = 16;
+pub const PRICE: u8 = 106;
 
-pub const MARKET_MAXIMUM: u8 = 17;
+pub const MARKET_MAXIMUM: u8 = 107;
 
-pub const BILATERAL_MAXIMUM: u8 = 18;
+pub const BILATERAL_MAXIMUM: u8 = 108;
 
-// A query of a lodging number, a unit or a border, of a direction and of an hour, where its kind asks for them.
+// The refusal table's number of what has no form.
+const FORM: u32 = 3;
+
+// A query of a lodging number, a unit or a border, of a direction and of an hour, where its kind asks for them. A kind that is no
+// query's is refused as 3.
 pub fn reply_to(s: Session, kind: u8, of: u32, export: bool, hour: u32) -> Response
-    ensures { λ r. ⌜ Answered s (asked kind of export hour) r ⌝ }
+    ensures { λ r. ⌜ Replied s (asked kind of export hour) r ⌝ }
 {
     if kind == VERDICT {
         return verdicts::verdict(s, of);
@@ -45,5 +50,8 @@ pub fn reply_to(s: Session, kind: u8, of: u32, export: bool, hour: u32) -> Respo
     if kind == MARKET_MAXIMUM {
         return maxima::market_maximum(s, of, export, hour);
     }
-    maxima::bilateral_maximum(s, of, export, hour)
+    if kind == BILATERAL_MAXIMUM {
+        return maxima::bilateral_maximum(s, of, export, hour);
+    }
+    answer::refused(FORM, 0)
 }

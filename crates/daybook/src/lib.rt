@@ -13,6 +13,12 @@ use answer::Response;
 use bits::byte_at;
 use calendar::Date;
 use capacities::Capacities;
+use log::ANNUL;
+use log::AVAILABLE;
+use log::CAPACITY;
+use log::CLOSE;
+use log::LODGE;
+use log::REGISTER;
 use notices::Availability;
 use session::Session;
 use session::Turn;
@@ -83,12 +89,12 @@ fn run_call(s: Session, kind: u8, p: &[u8]) -> Turn
     ensures { λ r. ⌜ Met s (callOf kind (now (p .entry))) r ⌝ }
 {
     match kind {
-        1 => run_register(s, p),
-        2 => run_capacity(s, p),
-        3 => run_available(s, p),
-        4 => lodging::lodge::lodge(s, p),
-        5 => run_annul(s, p),
-        6 => closing::close(s),
+        REGISTER => run_register(s, p),
+        CAPACITY => run_capacity(s, p),
+        AVAILABLE => run_available(s, p),
+        LODGE => lodging::lodge::lodge(s, p),
+        ANNUL => run_annul(s, p),
+        CLOSE => closing::close(s),
         _ => clearing::clear(s),
     }
 }

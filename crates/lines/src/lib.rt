@@ -2,22 +2,26 @@
 use answer::Response;
 use asking::reply_to;
 use calendar::Date;
+use log::ANNUL;
+use log::AVAILABLE;
+use log::CAPACITY;
+use log::CLEAR;
+use log::CLOSE;
+use log::LODGE;
+use log::REGISTER;
 use message::Fields;
 use session::Session;
 use session::Turn;
 use telling::Said;
 use telling::Told;
 use wording::asked::question_of;
-use wording::kinds::ANNUL;
-use wording::kinds::AVAILABLE;
-use wording::kinds::CAPACITY;
-use wording::kinds::CLEAR;
 use wording::kinds::EXECUTION;
-use wording::kinds::LODGE;
-use wording::kinds::NO_KIND;
+use wording::kinds::FIRST_QUERY;
+use wording::kinds::FIRST_RECORD;
+use wording::kinds::LAST_QUERY;
+use wording::kinds::LAST_RECORD;
 use wording::kinds::OFFER;
 use wording::kinds::OPEN;
-use wording::kinds::REGISTER;
 use wording::kinds::REPORT;
 use wording::kinds::kind_of;
 use wording::messages::message;
@@ -58,11 +62,12 @@ fn record_of(line: &[u8], p: Scan, kind: u8, record: &mut [u8; 4096]) -> Record 
         AVAILABLE => wording::records::available(line, p, record),
         LODGE => wording::records::lodge(line, p, record),
         ANNUL => wording::records::annul(line, p, record),
-        _ => wording::records::bare(line, p),
+        CLOSE | CLEAR => wording::records::bare(line, p),
+        _ => wording::records::no_record(),
     }
 }
 
-// The call of a record's first bytes.
+// The call of a record's first bytes: every line that is a call is handed on here.
 fn run_first(s: Session, kind: u8, record: &[u8], size: usize) -> Told {
     if record.len() < size {
         return unknown(s);
@@ -71,17 +76,17 @@ fn run_first(s: Session, kind: u8, record: &[u8], size: usize) -> Told {
     called(t)
 }
 
-fn run_buffer(s: Session, kind: u8, record: &[u8; 4096], size: usize) -> Told {
-    run_first(s, kind, record, size)
+fn run_buffer(s: Session, kind: u8, record: &[u8; 4096], r: Record) -> Told {
+    if !r.good {
+        return unknown(s);
+    }
+    run_first(s, kind, record, r.size)
 }
 
 fn run_record(line: &[u8], p: Scan, kind: u8, s: Session) -> Told {
     let mut record = [0u8; 4096];
     let r = record_of(line, p, kind, &mut record);
-    if !r.good {
-        return unknown(s);
-    }
-    run_buffer(s, kind, &record, r.size)
+    run_buffer(s, kind, &record, r)
 }
 
 // A date opened
@@ -129,7 +134,9 @@ fn write_and_lodge(m: Fields, s: Session) -> Told {
         let answer = answer::refused(w.refusal, 0);
         return answered(s, answer);
     }
-    run_first(s, LODGE, &message, w.count)
+    let mut record = [0u8; 4096];
+    let r = wording::records::lodging(&message, w.count, &mut record);
+    run_buffer(s, LODGE, &record, r)
 }
 
 fn run_message(line: &[u8], p: Scan, execution: bool, s: Session) -> Told {
@@ -173,12 +180,12 @@ pub fn run(line: &[u8], s: Session) -> Told {
         value: 0,
     };
     match kind {
-        NO_KIND => unknown(s),
-        REGISTER..=CLEAR => run_record(line, p, kind, s),
+        FIRST_RECORD..=LAST_RECORD => run_record(line, p, kind, s),
+        FIRST_QUERY..=LAST_QUERY => run_query(line, p, kind, s),
         OPEN => run_open(line, p, s),
         OFFER => run_message(line, p, false, s),
         EXECUTION => run_message(line, p, true, s),
         REPORT => run_report(line, p, s),
-        _ => run_query(line, p, kind, s),
+        _ => unknown(s),
     }
 }

@@ -16,6 +16,21 @@ use session::Key;
 use session::Published;
 use session::Unit;
 
+// The kinds of records. 1 to 100 are kept for them: other lines of a rehearsal have kinds from 101 on (crates/wording).
+pub const REGISTER: u8 = 1;
+
+pub const CAPACITY: u8 = 2;
+
+pub const AVAILABLE: u8 = 3;
+
+pub const LODGE: u8 = 4;
+
+pub const ANNUL: u8 = 5;
+
+pub const CLOSE: u8 = 6;
+
+pub const CLEAR: u8 = 7;
+
 // What the numbers of answers of one kind are counted from.
 const KIND: u64 = 1_152_921_504_606_846_976;
 
@@ -23,25 +38,25 @@ const KIND: u64 = 1_152_921_504_606_846_976;
 pub fn is_call(kind: u8, size: usize) -> bool
     ensures { λ r. ⌜ r ≡ isCall kind size ⌝ }
 {
-    if kind == 1 {
+    if kind == REGISTER {
         return size == 18;
     }
-    if kind == 2 {
+    if kind == CAPACITY {
         return size == 840;
     }
-    if kind == 3 {
+    if kind == AVAILABLE {
         return size == 108;
     }
-    if kind == 4 {
+    if kind == LODGE {
         return true;
     }
-    if kind == 5 {
+    if kind == ANNUL {
         return size == 10;
     }
-    if kind == 6 {
+    if kind == CLOSE {
         return size == 0;
     }
-    if kind == 7 {
+    if kind == CLEAR {
         return size == 0;
     }
     false

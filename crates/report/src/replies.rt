@@ -43,15 +43,14 @@ fn put_hour(hour: u32) {
     put_number(hour);
 }
 
-// "refused 10 maximum hour 3": the limits, 10 to 12, have an hour.
+// "refused 10 maximum hour 3", "refused 2 gate": a row that has no hour of its own gives 0.
 fn put_refusal(row: u32, hour: u32) {
     put(b"refused ");
     put_number(row);
     put(b" ");
     put_row(row);
-    match row {
-        10..=12 => put_hour(hour),
-        _ => {}
+    if hour != 0 {
+        put_hour(hour);
     }
 }
 

@@ -58,16 +58,21 @@ bytes1 =
 abbrev clock : ℕ → Bool → Clock
 clock name second = record { name = name; second = second }
 
--- A whole day: the answers to opening and to each call, then what the queries show at its end.
+-- A day's calls handed to the book, here alone: the answers to opening and to each call, and the book at their end.
+pub record Played : Type 0 where
+  pub answers : List Answer
+  pub book : Book
+
+abbrev pub played : Date → List Call → Played
+played d calls = record { answers = opening d .answer ∷ answers (opening d .book) calls; book = after (opening d .book) calls }
+
+-- A whole day: those answers, then what the queries show at its end.
 pub record Day : Type 0 where
   pub answers : List Answer
   pub shown : List (Outcome Shown)
 
-abbrev pub dayOf : Date → List Call → List Query → Day
-dayOf d calls queries = record {
-  answers = opening d .answer ∷ answers (opening d .book) calls;
-  shown = map (query (after (opening d .book) calls)) queries;
-}
+abbrev pub dayOf : Played → List Query → Day
+dayOf p queries = record { answers = p .answers; shown = map (query (p .book)) queries }
 
 -- 11 and 12 stand in hour 1 of 2006-06-01.
 abbrev unit : ℕ → ℕ → Bool → Call
@@ -84,9 +89,12 @@ calls11 =
     ∷ capacity (some (replicate 24 100) ∷ replicate 7 none)
     ∷ firstHour false 1 0 300 3000 ∷ firstHour false 2 0 150 5000 ∷ firstHour false 3 0 100 4000 ∷ []
 
+abbrev day11 : Played
+day11 = played (date 2006 6 1) (calls11 ++ (close ∷ clear ∷ []))
+
 -- "another agent's French export execution of 60"
-abbrev calls12 : List Call
-calls12 = calls11 ++ (firstHour true 4 9 60 0 ∷ close ∷ clear ∷ [])
+abbrev day12 : Played
+day12 = played (date 2006 6 1) (calls11 ++ (firstHour true 4 9 60 0 ∷ close ∷ clear ∷ []))
 
 -- the two final balances of a border together
 abbrev balancesSum : Book → ℕ → ℕ → ℤ
@@ -107,14 +115,14 @@ twelve =
     ∷ figure (marketMaximum 100 (pos 20) (pos 30) 0) 80
     ∷ figure (marketMaximum 100 (pos 60) (pos 150) 120) 100
     ∷ figure (share 10 (7 ∷ 7 ∷ 7 ∷ [])) (4 ∷ 3 ∷ 3 ∷ [])
-    ∷ figure (dayOf (date 2006 6 1) (calls11 ++ (close ∷ clear ∷ [])) (matched 2 1 ∷ market 1 1 ∷ []))
+    ∷ figure (dayOf day11 (matched 2 1 ∷ market 1 1 ∷ []))
     (record {
       answers = replicate 6 done ++ (numbered 1 ∷ numbered 2 ∷ numbered 3 ∷ done ∷ steps 1 ∷ []);
       shown = energy 100 ∷ energy 100 ∷ [];
     })
     ∷ figure {A = Day × ℤ} (
-      dayOf (date 2006 6 1) calls12 (marketMax 1 true 1 ∷ executed 4 1 ∷ market 1 1 ∷ bilateral 1 1 ∷ []),
-      balancesSum (after (opening (date 2006 6 1) .book) calls12) 1 1,
+      dayOf day12 (marketMax 1 true 1 ∷ executed 4 1 ∷ market 1 1 ∷ bilateral 1 1 ∷ []),
+      balancesSum (day12 .book) 1 1,
     ) (
       record {
         answers = replicate 6 done ++ (numbered 1 ∷ numbered 2 ∷ numbered 3 ∷ numbered 4 ∷ done ∷ steps 1 ∷ []);

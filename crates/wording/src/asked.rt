@@ -3,8 +3,12 @@ use crate::words::Scan;
 use crate::words::ended;
 use crate::words::number;
 use crate::words::one_of;
+use asking::BILATERAL;
 use asking::BILATERAL_MAXIMUM;
+use asking::EXECUTED;
+use asking::MARKET;
 use asking::MARKET_MAXIMUM;
+use asking::MATCHED;
 use asking::PRICE;
 use asking::VERDICT;
 
@@ -55,10 +59,21 @@ fn ask_direction(line: &[u8], p: Scan) -> Question {
     }
 }
 
+// What is no query asks for nothing.
+fn no_question() -> Question {
+    Question {
+        good: false,
+        of: 0,
+        import: 0,
+        hour: 0,
+    }
+}
+
 pub fn question_of(line: &[u8], p: Scan, kind: u8) -> Question {
     match kind {
         VERDICT | PRICE => ask_hour(line, p),
+        MATCHED | EXECUTED | MARKET | BILATERAL => ask_pair(line, p),
         MARKET_MAXIMUM | BILATERAL_MAXIMUM => ask_direction(line, p),
-        _ => ask_pair(line, p),
+        _ => no_question(),
     }
 }

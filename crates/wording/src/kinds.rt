@@ -1,4 +1,5 @@
-// What a line asks for, by its first word.
+// What a line asks for, by its first word: a kind. The kinds of the log's records are 1 to 100 (crates/log), those of the queries
+// 101 to 200 (crates/asking), and what is neither stands from 201 on: each has room for more, and its hundred says which it is.
 use crate::words::Word;
 use crate::words::is_word;
 use asking::BILATERAL;
@@ -9,33 +10,33 @@ use asking::MARKET_MAXIMUM;
 use asking::MATCHED;
 use asking::PRICE;
 use asking::VERDICT;
+use log::ANNUL;
+use log::AVAILABLE;
+use log::CAPACITY;
+use log::CLEAR;
+use log::CLOSE;
+use log::LODGE;
+use log::REGISTER;
 
-// Register to clear are the kinds of the log's records; 11 to 18 are the queries (crates/asking).
 pub const NO_KIND: u8 = 0;
 
-pub const REGISTER: u8 = 1;
+pub const FIRST_RECORD: u8 = 1;
 
-pub const CAPACITY: u8 = 2;
+pub const LAST_RECORD: u8 = 100;
 
-pub const AVAILABLE: u8 = 3;
+pub const FIRST_QUERY: u8 = 101;
 
-pub const LODGE: u8 = 4;
+pub const LAST_QUERY: u8 = 200;
 
-pub const ANNUL: u8 = 5;
+pub const OPEN: u8 = 201;
 
-pub const CLOSE: u8 = 6;
+pub const OFFER: u8 = 202;
 
-pub const CLEAR: u8 = 7;
+pub const EXECUTION: u8 = 203;
 
-pub const OPEN: u8 = 8;
+pub const REPORT: u8 = 204;
 
-pub const OFFER: u8 = 9;
-
-pub const EXECUTION: u8 = 10;
-
-pub const REPORT: u8 = 19;
-
-fn call_kind(line: &[u8], w: Word) -> u8 {
+fn record_kind(line: &[u8], w: Word) -> u8 {
     if is_word(line, w, b"register") {
         return REGISTER;
     }
@@ -56,15 +57,6 @@ fn call_kind(line: &[u8], w: Word) -> u8 {
     }
     if is_word(line, w, b"clear") {
         return CLEAR;
-    }
-    if is_word(line, w, b"open") {
-        return OPEN;
-    }
-    if is_word(line, w, b"offer") {
-        return OFFER;
-    }
-    if is_word(line, w, b"execution") {
-        return EXECUTION;
     }
     NO_KIND
 }
@@ -94,6 +86,20 @@ fn query_kind(line: &[u8], w: Word) -> u8 {
     if is_word(line, w, b"bilateral-maximum") {
         return BILATERAL_MAXIMUM;
     }
+    NO_KIND
+}
+
+// Neither a record nor a query.
+fn other_kind(line: &[u8], w: Word) -> u8 {
+    if is_word(line, w, b"open") {
+        return OPEN;
+    }
+    if is_word(line, w, b"offer") {
+        return OFFER;
+    }
+    if is_word(line, w, b"execution") {
+        return EXECUTION;
+    }
     if is_word(line, w, b"report") {
         return REPORT;
     }
@@ -101,9 +107,13 @@ fn query_kind(line: &[u8], w: Word) -> u8 {
 }
 
 pub fn kind_of(line: &[u8], w: Word) -> u8 {
-    let kind = call_kind(line, w);
-    if kind != NO_KIND {
-        return kind;
+    let record = record_kind(line, w);
+    if record != NO_KIND {
+        return record;
     }
-    query_kind(line, w)
+    let query = query_kind(line, w);
+    if query != NO_KIND {
+        return query;
+    }
+    other_kind(line, w)
 }

@@ -1,6 +1,7 @@
-// The lines of a rehearsal read (docs/REHEARSAL.md): words and numbers, the records of calls, the fields of messages, what
+// The lines of a rehearsal read (docs/REHEARSAL.md): words, numbers and bytes, the records of calls, the fields of messages, what
 // queries ask for. Nothing of a session.
 pub mod asked;
+pub mod hex;
 pub mod kinds;
 pub mod messages;
 pub mod records;

@@ -1,5 +1,7 @@
 // A line as the record of a call (crates/log), which `daybook::run` runs. There is room for as many bytes as a line's
-// hexadecimal digits can give.
+// hexadecimal digits can give. Places here are counted from BASE on.
+use crate::hex::byte_in;
+use crate::hex::bytes_in;
 use crate::words::Scan;
 use crate::words::Word;
 use crate::words::after;
@@ -14,6 +16,12 @@ use crate::words::one_of;
 use crate::words::optional;
 use bits::byte_at;
 
+// Where what a call brings starts in its record: nothing stands before it.
+const BASE: usize = 0;
+
+// How many bytes there is room for behind it.
+const ROOM: usize = 4096 - BASE;
+
 // Whether a line is a call, and how many bytes its record has.
 pub struct Record {
     pub good: bool,
@@ -21,9 +29,17 @@ pub struct Record {
 }
 
 fn put_byte(record: &mut [u8; 4096], at: usize, b: u8) {
-    if at < 4096 {
-        record[at] = b;
+    if at < ROOM {
+        record[BASE + at] = b;
     }
+}
+
+// Whether a byte was put at a place.
+fn is_put(record: &[u8; 4096], at: usize) -> bool {
+    if at < ROOM {
+        return record[BASE + at] != 0;
+    }
+    false
 }
 
 fn low_byte(n: u32) -> u8 {
@@ -41,8 +57,22 @@ fn put_number(record: &mut [u8; 4096], at: usize, n: u32) {
     put_byte(record, at + 3, low_byte(n));
 }
 
-fn sized(p: Scan, size: usize) -> Record {
-    Record { good: p.good, size }
+// The record of a call that brings some bytes.
+fn sized(good: bool, bytes: usize) -> Record {
+    if ROOM < bytes {
+        return no_record();
+    }
+    Record {
+        good,
+        size: BASE + bytes,
+    }
+}
+
+pub fn no_record() -> Record {
+    Record {
+        good: false,
+        size: 0,
+    }
 }
 
 // register 7 agent 100 border 1 purchase max 500 legacy
@@ -62,7 +92,8 @@ pub fn register(line: &[u8], start: Scan, record: &mut [u8; 4096]) -> Record {
     put_byte(record, 12, low_byte(side.value));
     put_number(record, 13, maximum.value);
     put_byte(record, 17, low_byte(legacy.value));
-    sized(ended(line, legacy), 18)
+    let end = ended(line, legacy);
+    sized(end.good, 18)
 }
 
 // annul execution 8 default contract 12
@@ -75,7 +106,8 @@ pub fn annul(line: &[u8], start: Scan, record: &mut [u8; 4096]) -> Record {
     put_byte(record, 1, low_byte(default.value));
     put_number(record, 2, unit.value);
     put_number(record, 6, contract.value);
-    sized(ended(line, contract), 10)
+    let end = ended(line, contract);
+    sized(end.good, 10)
 }
 
 // An execution names a contract; the contract of an offer is 0.
@@ -227,7 +259,8 @@ pub fn available(line: &[u8], start: Scan, record: &mut [u8; 4096]) -> Record {
     let unit = number(line, start);
     put_number(record, 0, unit.value);
     let p = energies(line, unit, record, 4);
-    sized(ended(line, p), 108)
+    let end = ended(line, p);
+    sized(end.good, 108)
 }
 
 // Capacities
@@ -256,7 +289,7 @@ fn with_direction(line: &[u8], p: Scan, record: &mut [u8; 4096]) -> Scan {
         q.good = false;
         return q;
     }
-    if record[at] != 0 {
+    if is_put(record, at) {
         q.good = false;
     }
     put_byte(record, at, 1);
@@ -279,88 +312,15 @@ pub fn capacity(line: &[u8], start: Scan, record: &mut [u8; 4096]) -> Record {
     for i in 0..9usize {
         p = direction_if_any(line, p, record);
     }
-    sized(ended(line, p), 840)
+    let end = ended(line, p);
+    sized(end.good, 840)
 }
 
-// Bytes in hexadecimal
-
-// The value of a hexadecimal digit, 16 for what is none.
-fn hex(b: u8) -> u8 {
-    match b {
-        b'0'..=b'9' => b - b'0',
-        b'A'..=b'F' => b - b'A' + 10,
-        b'a'..=b'f' => b - b'a' + 10,
-        _ => 16,
-    }
-}
-
-fn joined(high: u8, low: u8) -> u8 {
-    if 15 < high {
-        return 0;
-    }
-    if 15 < low {
-        return 0;
-    }
-    high * 16 + low
-}
-
-fn all_hex(line: &[u8], from: usize, to: usize) -> bool {
-    for i in from..to {
-        if 15 < hex(byte_at(line, i)) {
-            return false;
-        }
-    }
-    true
-}
-
-// The k-th byte that the digits from a place on give.
-fn put_pair(line: &[u8], from: usize, k: usize, record: &mut [u8; 4096]) {
-    if 1_000_000 < from {
-        return;
-    }
-    if 1_000_000 < k {
-        return;
-    }
-    let at = from + k * 2;
-    let high = hex(byte_at(line, at));
-    let low = hex(byte_at(line, at + 1));
-    put_byte(record, k, joined(high, low));
-}
+// Messages
 
 fn put_hex(line: &[u8], from: usize, count: usize, record: &mut [u8; 4096]) {
     for k in 0..count {
-        put_pair(line, from, k, record);
-    }
-}
-
-fn no_record() -> Record {
-    Record {
-        good: false,
-        size: 0,
-    }
-}
-
-// The bytes of a word.
-fn bytes_in(line: &[u8], w: Word, record: &mut [u8; 4096]) -> Record {
-    let from = w.from;
-    let to = w.to;
-    if to <= from {
-        return no_record();
-    }
-    let digits = to - from;
-    if digits % 2 != 0 {
-        return no_record();
-    }
-    if 8192 < digits {
-        return no_record();
-    }
-    if !all_hex(line, from, to) {
-        return no_record();
-    }
-    put_hex(line, from, digits / 2, record);
-    Record {
-        good: true,
-        size: digits / 2,
+        put_byte(record, k, byte_in(line, from, k));
     }
 }
 
@@ -370,10 +330,24 @@ pub fn lodge(line: &[u8], start: Scan, record: &mut [u8; 4096]) -> Record {
     if !is_ended(line, w.to) {
         return no_record();
     }
-    bytes_in(line, w, record)
+    let bytes = bytes_in(line, w);
+    if !bytes.good {
+        return no_record();
+    }
+    put_hex(line, w.from, bytes.count, record);
+    sized(true, bytes.count)
+}
+
+// The first bytes of a message, lodged.
+pub fn lodging(message: &[u8], count: usize, record: &mut [u8; 4096]) -> Record {
+    for k in 0..count {
+        put_byte(record, k, byte_at(message, k));
+    }
+    sized(true, count)
 }
 
 // close, clear
 pub fn bare(line: &[u8], start: Scan) -> Record {
-    sized(ended(line, start), 0)
+    let end = ended(line, start);
+    sized(end.good, 0)
 }

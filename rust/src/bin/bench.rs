@@ -67,9 +67,9 @@ fn full<E: Exchange>(congested: bool) -> E {
             }
         }
     }
-    exchange.capacity(&notice).unwrap();
+    exchange.call(Call::Capacity(&notice)).unwrap();
     for number in 1..=64 {
-        exchange.register(unit(number, border(number), purchase(number))).unwrap();
+        exchange.call(Call::Register(unit(number, border(number), purchase(number)))).unwrap();
     }
     for number in 1..=64 {
         let energy = |hour: u32| 100 + (number * 37 + hour * 11) % 400;
@@ -78,12 +78,12 @@ fn full<E: Exchange>(congested: bool) -> E {
             false => 2000 + (number * 97 + hour * 23) % 3000,
         };
         let lodged = message(&fields(offer(number), 25, |hour| (energy(hour), price(hour))));
-        exchange.lodge(&lodged).unwrap();
+        exchange.call(Call::Lodge(&lodged)).unwrap();
     }
     for number in 33..=64 {
         for contract in 1..=2 {
             let lodged = message(&fields(execution(number, contract), 25, |hour| (20 + (number + hour) % 30, 0)));
-            exchange.lodge(&lodged).unwrap();
+            exchange.call(Call::Lodge(&lodged)).unwrap();
         }
     }
     exchange
@@ -93,7 +93,7 @@ fn full<E: Exchange>(congested: bool) -> E {
 fn without_units<E: Exchange>() -> E {
     let mut exchange: E = full(false);
     for number in 1..=64 {
-        exchange.available(number, &Energies::flat(0, 25)).unwrap();
+        exchange.call(Call::Available(number, &Energies::flat(0, 25))).unwrap();
     }
     exchange
 }
@@ -104,10 +104,10 @@ fn without_units<E: Exchange>() -> E {
 fn adversarial<E: Exchange>() -> E {
     const MANY: u32 = 10_000;
     let mut exchange = E::opened(LONG_DAY).1;
-    exchange.capacity(&Capacities::none().with(1, Direction::Export, Energies::flat(0, 25))).unwrap();
+    exchange.call(Call::Capacity(&Capacities::none().with(1, Direction::Export, Energies::flat(0, 25)))).unwrap();
     let mut lodge = |unit: Unit, energy: u32, price: u32| {
-        exchange.register(unit).unwrap();
-        exchange.lodge(&message(&Fields::of(offer(unit.number)).with(1, energy, price))).unwrap();
+        exchange.call(Call::Register(unit)).unwrap();
+        exchange.call(Call::Lodge(&message(&Fields::of(offer(unit.number)).with(1, energy, price)))).unwrap();
     };
     for number in 1..=30 {
         lodge(unit(number, 0, false), 10, 100 + number);
@@ -116,9 +116,9 @@ fn adversarial<E: Exchange>() -> E {
     lodge(unit(61, 0, false), 1, 1000);
     lodge(unit(62, 1, true), MANY, 5000);
     lodge(unit(63, 1, false), MANY, 3000);
-    exchange.register(unit(64, 3, true)).unwrap();
+    exchange.call(Call::Register(unit(64, 3, true))).unwrap();
     for contract in 1..=64 {
-        exchange.lodge(&message(&Fields::of(execution(64, contract)).with(1, 1, 0))).unwrap();
+        exchange.call(Call::Lodge(&message(&Fields::of(execution(64, contract)).with(1, 1, 0)))).unwrap();
     }
     exchange
 }
@@ -173,9 +173,11 @@ struct Day<E> {
 impl<E: Exchange + Clone> Day<E> {
     fn of(lodged: E) -> Day<E> {
         let mut closed = lodged.clone();
-        closed.close().unwrap();
+        closed.call(Call::Close).unwrap();
         let mut cleared = closed.clone();
-        let steps = cleared.clear().unwrap().0;
+        let Ok(Accepted::Steps(Steps(steps))) = cleared.call(Call::Clear) else {
+            panic!("a closed day is cleared");
+        };
         Day { lodged, closed, cleared, steps }
     }
 }

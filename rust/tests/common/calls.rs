@@ -1,4 +1,4 @@
-//! Calls and queries as values, and two exchanges played side by side.
+//! Lists of calls and queries, and two exchanges played side by side.
 
 use jeddyspangle::*;
 use std::fmt;
@@ -15,8 +15,9 @@ pub enum Query {
     Price(u32),
 }
 
+/// An entry of a list: a call, or a query.
 #[derive(Clone, Debug)]
-pub enum Call {
+pub enum Entry {
     Register(Unit),
     Available(u32, Energies),
     Capacity(Box<Capacities>),
@@ -33,7 +34,7 @@ pub enum Call {
 #[derive(Clone, Debug)]
 pub struct List {
     pub date: Date,
-    pub calls: Vec<Call>,
+    pub calls: Vec<Entry>,
 }
 
 #[derive(Clone, Copy, Debug, PartialEq)]
@@ -65,20 +66,28 @@ pub fn ask<E: Exchange>(exchange: &E, query: Query) -> Answer {
     }
 }
 
-/// The answer to a call that is not `AskAll`.
-pub fn answer<E: Exchange>(exchange: &mut E, call: &Call) -> Answer {
-    let done = |result| told(result, |()| Answer::Done);
-    match call {
-        Call::Register(unit) => done(exchange.register(*unit)),
-        Call::Available(unit, energies) => done(exchange.available(*unit, energies)),
-        Call::Capacity(capacities) => done(exchange.capacity(capacities)),
-        Call::Lodge(message) => told(exchange.lodge(message), |number| Answer::Number(number.0)),
-        Call::Annul(key) => done(exchange.annul(*key)),
-        Call::Close => done(exchange.close()),
-        Call::Clear => told(exchange.clear(), |steps| Answer::Steps(steps.0)),
-        Call::Ask(query) => ask(exchange, *query),
-        Call::AskAll => unreachable!("asked query by query"),
-    }
+fn make<E: Exchange>(exchange: &mut E, call: Call<'_>) -> Answer {
+    told(exchange.call(call), |accepted| match accepted {
+        Accepted::Done => Answer::Done,
+        Accepted::Number(number) => Answer::Number(number.0),
+        Accepted::Steps(steps) => Answer::Steps(steps.0),
+    })
+}
+
+/// The answer to an entry that is not `AskAll`.
+pub fn answer<E: Exchange>(exchange: &mut E, entry: &Entry) -> Answer {
+    let call = match entry {
+        Entry::Register(unit) => Call::Register(*unit),
+        Entry::Available(unit, energies) => Call::Available(*unit, energies),
+        Entry::Capacity(capacities) => Call::Capacity(capacities),
+        Entry::Lodge(message) => Call::Lodge(message),
+        Entry::Annul(key) => Call::Annul(*key),
+        Entry::Close => Call::Close,
+        Entry::Clear => Call::Clear,
+        Entry::Ask(query) => return ask(exchange, *query),
+        Entry::AskAll => unreachable!("asked query by query"),
+    };
+    make(exchange, call)
 }
 
 /// Every query of a session with these units and lodging numbers up to `last`; stops when told to.
@@ -125,7 +134,7 @@ pub struct Difference {
 
 /// What is told of each call and of each query, with its answer.
 pub trait Observer {
-    fn called(&mut self, call: &Call, answer: Answer);
+    fn called(&mut self, call: &Entry, answer: Answer);
     fn asked(&mut self, query: Query, answer: Answer);
     fn opened(&mut self, answer: Answer);
 }
@@ -134,7 +143,7 @@ pub trait Observer {
 pub struct Nobody;
 
 impl Observer for Nobody {
-    fn called(&mut self, _: &Call, _: Answer) {}
+    fn called(&mut self, _: &Entry, _: Answer) {}
     fn asked(&mut self, _: Query, _: Answer) {}
     fn opened(&mut self, _: Answer) {}
 }
@@ -151,7 +160,7 @@ pub fn compare<A: Exchange, B: Exchange>(list: &List, observer: &mut impl Observ
     let mut units = Vec::new();
     let mut last = 0;
     for (index, call) in list.calls.iter().enumerate() {
-        if let Call::AskAll = call {
+        if let Entry::AskAll = call {
             let mut found = Ok(());
             every_query(&units, last, |query| {
                 let (left, right) = (ask(&a, query), ask(&b, query));
@@ -166,16 +175,16 @@ pub fn compare<A: Exchange, B: Exchange>(list: &List, observer: &mut impl Observ
         }
         let (left, right) = (answer(&mut a, call), answer(&mut b, call));
         if left != right {
-            let query = if let Call::Ask(query) = call { Some(*query) } else { None };
+            let query = if let Entry::Ask(query) = call { Some(*query) } else { None };
             return Err(Difference { index: Some(index), query, left, right });
         }
         match (call, right) {
-            (Call::Register(unit), Answer::Done) => units.push(unit.number),
-            (Call::Lodge(_), Answer::Number(number)) => last = number,
+            (Entry::Register(unit), Answer::Done) => units.push(unit.number),
+            (Entry::Lodge(_), Answer::Number(number)) => last = number,
             _ => {}
         }
         match call {
-            Call::Ask(query) => observer.asked(*query, right),
+            Entry::Ask(query) => observer.asked(*query, right),
             _ => observer.called(call, right),
         }
     }
@@ -219,17 +228,17 @@ impl fmt::Display for Query {
 }
 
 /// A call as a line of a rehearsal (`docs/REHEARSAL.md`), so that a list that was found can be played there.
-impl fmt::Display for Call {
+impl fmt::Display for Entry {
     fn fmt(&self, f: &mut fmt::Formatter<'_>) -> fmt::Result {
         match self {
-            Call::Register(unit) => {
+            Entry::Register(unit) => {
                 let side = if unit.purchase { "purchase" } else { "sale" };
                 let legacy = if unit.legacy { " legacy" } else { "" };
                 let Unit { number, agent, border, maximum, .. } = unit;
                 write!(f, "register {number} agent {agent} border {border} {side} max {maximum}{legacy}")
             }
-            Call::Available(unit, list) => write!(f, "available {unit} {}", energies(list)),
-            Call::Capacity(capacities) => {
+            Entry::Available(unit, list) => write!(f, "available {unit} {}", energies(list)),
+            Entry::Capacity(capacities) => {
                 write!(f, "capacity")?;
                 for (index, direction) in capacities.directions().iter().enumerate() {
                     if let Some(list) = direction {
@@ -239,7 +248,7 @@ impl fmt::Display for Call {
                 }
                 Ok(())
             }
-            Call::Lodge(message) => {
+            Entry::Lodge(message) => {
                 write!(f, "lodge ")?;
                 message.iter().try_for_each(|byte| write!(f, "{byte:02X}"))?;
                 match model::message::read(message) {
@@ -247,7 +256,7 @@ impl fmt::Display for Call {
                     Err(refusal) => write!(f, "   # {refusal}"),
                 }
             }
-            Call::Annul(key) => {
+            Entry::Annul(key) => {
                 let kind = if key.execution { "execution" } else { "offer" };
                 let default = if key.default { " default" } else { "" };
                 write!(f, "annul {kind} {}{default}", key.unit)?;
@@ -256,10 +265,10 @@ impl fmt::Display for Call {
                     _ => write!(f, " contract {}", key.contract),
                 }
             }
-            Call::Close => write!(f, "close"),
-            Call::Clear => write!(f, "clear"),
-            Call::Ask(query) => write!(f, "{query}"),
-            Call::AskAll => write!(f, "# every query"),
+            Entry::Close => write!(f, "close"),
+            Entry::Clear => write!(f, "clear"),
+            Entry::Ask(query) => write!(f, "{query}"),
+            Entry::AskAll => write!(f, "# every query"),
         }
     }
 }

@@ -1,6 +1,6 @@
 //! Random lists of calls.
 
-use super::calls::{Call, List, Query};
+use super::calls::{Entry, List, Query};
 use super::Rng;
 use jeddyspangle::model::calendar;
 use jeddyspangle::*;
@@ -118,7 +118,7 @@ struct Maker {
     contracts: u32,
     /// Calls in a hundred that break a rule.
     broken: u32,
-    calls: Vec<Call>,
+    calls: Vec<Entry>,
 }
 
 impl Maker {
@@ -174,7 +174,7 @@ impl Maker {
             }
         }
         self.units.push(unit);
-        self.calls.push(Call::Register(unit));
+        self.calls.push(Entry::Register(unit));
     }
 
     fn any_unit(&mut self) -> Option<Unit> {
@@ -219,7 +219,7 @@ impl Maker {
             _ if tight => rng.below(2 * scale),
             _ => 2 * scale,
         });
-        self.calls.push(Call::Available(unit, energies));
+        self.calls.push(Entry::Available(unit, energies));
     }
 
     fn capacity(&mut self) {
@@ -246,7 +246,7 @@ impl Maker {
                 notice = notice.with(border as u32, way, energies);
             }
         }
-        self.calls.push(Call::Capacity(Box::new(notice)));
+        self.calls.push(Entry::Capacity(Box::new(notice)));
     }
 
     fn fields(&mut self) -> Fields {
@@ -305,7 +305,7 @@ impl Maker {
         self.keys.push(fields.key);
         let kind = u32::from(fields.key.execution);
         let message = if self.rng.chance(self.broken) { self.broken_message(fields) } else { packed(1, kind, &fields) };
-        self.calls.push(Call::Lodge(message));
+        self.calls.push(Entry::Lodge(message));
     }
 
     /// A message that breaks a rule, or nearly.
@@ -367,7 +367,7 @@ impl Maker {
                 }
             }
         }
-        self.calls.push(Call::Annul(key));
+        self.calls.push(Entry::Annul(key));
     }
 
     fn query(&mut self) -> Query {
@@ -404,11 +404,11 @@ impl Maker {
             870..=899 => self.register(),
             900..=979 => {
                 let query = self.query();
-                self.calls.push(Call::Ask(query));
+                self.calls.push(Entry::Ask(query));
             }
-            980..=993 => self.calls.push(Call::Clear),
-            994..=996 => self.calls.push(Call::AskAll),
-            _ if self.theme == Theme::Broken => self.calls.push(Call::Close),
+            980..=993 => self.calls.push(Entry::Clear),
+            994..=996 => self.calls.push(Entry::AskAll),
+            _ if self.theme == Theme::Broken => self.calls.push(Entry::Close),
             _ => self.lodge(),
         }
     }
@@ -444,16 +444,16 @@ impl Maker {
         let hours = self.hours as usize;
         let notice = Capacities::none().with(1, way, Energies::flat(capacity, hours));
         let notice = if self.rng.chance(50) { notice.with(1, other, Energies::flat(90_000, hours)) } else { notice };
-        self.calls.push(Call::Capacity(Box::new(notice)));
+        self.calls.push(Entry::Capacity(Box::new(notice)));
         for (mut unit, energy, price) in lodged {
             unit.purchase ^= mirrored;
             self.units.push(unit);
-            self.calls.push(Call::Register(unit));
+            self.calls.push(Entry::Register(unit));
             let price = if mirrored { 6000 - price } else { price };
             let key = Key { execution: false, default: false, unit: unit.number, contract: 0 };
             self.keys.push(key);
             let fields = Fields::of(key).with(hour, energy, price);
-            self.calls.push(Call::Lodge(packed(1, 0, &fields)));
+            self.calls.push(Entry::Lodge(packed(1, 0, &fields)));
         }
     }
 
@@ -559,23 +559,23 @@ pub fn list(seed: u64) -> List {
         maker.available();
     }
     if maker.rng.chance(5) {
-        maker.calls.push(Call::AskAll);
+        maker.calls.push(Entry::AskAll);
     }
     if maker.rng.chance(95) {
-        maker.calls.push(Call::Close);
+        maker.calls.push(Entry::Close);
         if maker.rng.chance(10) {
             maker.some_calls(8);
-            maker.calls.push(Call::AskAll);
+            maker.calls.push(Entry::AskAll);
         }
         if maker.rng.chance(97) {
-            maker.calls.push(Call::Clear);
+            maker.calls.push(Entry::Clear);
             if maker.rng.chance(10) {
                 maker.some_calls(8);
-                maker.calls.push(Call::Clear);
-                maker.calls.push(Call::Close);
+                maker.calls.push(Entry::Clear);
+                maker.calls.push(Entry::Close);
             }
         }
     }
-    maker.calls.push(Call::AskAll);
+    maker.calls.push(Entry::AskAll);
     List { date, calls: maker.calls }
 }

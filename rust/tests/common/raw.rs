@@ -1,6 +1,6 @@
 //! Calls and queries through the C interface, with any bytes in the reserved fields of what is passed.
 
-use super::calls::{Call, Query};
+use super::calls::{Entry, Query};
 use jeddyspangle::ffi::{self, Plain, Response};
 use jeddyspangle::*;
 
@@ -66,19 +66,19 @@ pub fn asked(session: &ffi::Session, query: Query) -> Response {
 }
 
 /// Makes a call that is not `AskAll`.
-pub fn called(session: &mut ffi::Session, call: &Call, reserved: u8) -> Response {
+pub fn called(session: &mut ffi::Session, call: &Entry, reserved: u8) -> Response {
     match call {
-        Call::Register(one) => ffi::register(session, unit(one, reserved)),
-        Call::Available(unit, energies) => ffi::available(session, available(*unit, energies, reserved)),
-        Call::Capacity(capacities) => {
+        Entry::Register(one) => ffi::register(session, unit(one, reserved)),
+        Entry::Available(unit, energies) => ffi::available(session, available(*unit, energies, reserved)),
+        Entry::Capacity(capacities) => {
             let directions = capacities.directions().each_ref().map(|direction| published(direction, reserved));
             ffi::capacity(session, ffi::Capacities { directions })
         }
-        Call::Lodge(message) => ffi::lodge(session, message),
-        Call::Annul(one) => ffi::annul(session, key(one, reserved)),
-        Call::Close => ffi::close(session),
-        Call::Clear => ffi::clear(session),
-        Call::Ask(query) => asked(session, *query),
-        Call::AskAll => unreachable!("asked query by query"),
+        Entry::Lodge(message) => ffi::lodge(session, message),
+        Entry::Annul(one) => ffi::annul(session, key(one, reserved)),
+        Entry::Close => ffi::close(session),
+        Entry::Clear => ffi::clear(session),
+        Entry::Ask(query) => asked(session, *query),
+        Entry::AskAll => unreachable!("asked query by query"),
     }
 }

@@ -1,6 +1,6 @@
 //! What the random lists met, so that a test can insist that they met everything.
 
-use super::calls::{Answer, Call, Observer, Query};
+use super::calls::{Answer, Entry, Observer, Query};
 use jeddyspangle::*;
 use std::fmt;
 
@@ -42,14 +42,14 @@ pub struct Seen {
 
 const CALLS: [&str; 7] = ["register", "available", "capacity", "lodge", "annul", "close", "clear"];
 
-fn index(call: &Call) -> usize {
+fn index(call: &Entry) -> usize {
     match call {
-        Call::Register(_) => 0,
-        Call::Available(..) => 1,
-        Call::Capacity(_) => 2,
-        Call::Lodge(_) => 3,
-        Call::Annul(_) => 4,
-        Call::Close => 5,
+        Entry::Register(_) => 0,
+        Entry::Available(..) => 1,
+        Entry::Capacity(_) => 2,
+        Entry::Lodge(_) => 3,
+        Entry::Annul(_) => 4,
+        Entry::Close => 5,
         _ => 6,
     }
 }
@@ -91,13 +91,13 @@ impl Observer for Seen {
         }
     }
 
-    fn called(&mut self, call: &Call, answer: Answer) {
+    fn called(&mut self, call: &Entry, answer: Answer) {
         self.calls += 1;
         match answer {
             Answer::Refused(refusal) => {
                 self.refused[refusal.number() as usize] += 1;
                 match (refusal, call) {
-                    (Refusal::Full, Call::Register(_)) => self.full_units += 1,
+                    (Refusal::Full, Entry::Register(_)) => self.full_units += 1,
                     (Refusal::Full, _) => self.full_lodgements += 1,
                     _ => {}
                 }

@@ -1,6 +1,6 @@
 //! A list that two exchanges answer differently, made as small as this finds.
 
-use super::calls::{compare, Call, List, Nobody};
+use super::calls::{compare, Entry, List, Nobody};
 use jeddyspangle::model::message;
 use jeddyspangle::*;
 use std::panic::{catch_unwind, set_hook, take_hook, AssertUnwindSafe};
@@ -19,10 +19,10 @@ pub fn difference<A: Exchange, B: Exchange>(list: &List) -> Option<String> {
 }
 
 /// Smaller notices, unit or message for a call, the smallest first.
-fn simpler(call: &Call) -> Vec<Call> {
+fn simpler(call: &Entry) -> Vec<Entry> {
     let mut all = Vec::new();
     match call {
-        Call::Lodge(bytes) => {
+        Entry::Lodge(bytes) => {
             let Ok(fields) = message::read(bytes) else {
                 return all;
             };
@@ -30,7 +30,7 @@ fn simpler(call: &Call) -> Vec<Call> {
                 let mut buffer = [0; LONGEST_MESSAGE];
                 if let Ok(length) = message::write(&fields, &mut buffer) {
                     if buffer[..length] != bytes[..] {
-                        all.push(Call::Lodge(buffer[..length].to_vec()));
+                        all.push(Entry::Lodge(buffer[..length].to_vec()));
                     }
                 }
             };
@@ -60,7 +60,7 @@ fn simpler(call: &Call) -> Vec<Call> {
                 }
             }
         }
-        Call::Capacity(capacities) => {
+        Entry::Capacity(capacities) => {
             let every: Vec<_> = capacities.directions().iter().enumerate().collect();
             let build = |change: &dyn Fn(usize, Energies) -> Option<Energies>| {
                 every.iter().fold(Capacities::none(), |notice, (index, direction)| {
@@ -73,30 +73,30 @@ fn simpler(call: &Call) -> Vec<Call> {
             };
             for (gone, direction) in &every {
                 let Some(energies) = direction else { continue };
-                all.push(Call::Capacity(Box::new(build(&|index, energies| (index != *gone).then_some(energies)))));
+                all.push(Entry::Capacity(Box::new(build(&|index, energies| (index != *gone).then_some(energies)))));
                 for value in [0, energies.values()[0], 99_999] {
                     let flat = Energies::flat(value, energies.count());
                     if flat != *energies && (value != 99_999 || energies.values().iter().any(|v| *v != energies.values()[0]))
                     {
-                        all.push(Call::Capacity(Box::new(build(&|index, same| {
+                        all.push(Entry::Capacity(Box::new(build(&|index, same| {
                             Some(if index == *gone { flat } else { same })
                         }))));
                     }
                 }
             }
         }
-        Call::Register(unit) => {
+        Entry::Register(unit) => {
             if unit.legacy {
-                all.push(Call::Register(Unit { legacy: false, ..*unit }));
+                all.push(Entry::Register(Unit { legacy: false, ..*unit }));
             }
             if unit.maximum < LARGEST_ENERGY {
-                all.push(Call::Register(Unit { maximum: LARGEST_ENERGY, ..*unit }));
+                all.push(Entry::Register(Unit { maximum: LARGEST_ENERGY, ..*unit }));
             }
         }
-        Call::Available(unit, energies) => {
+        Entry::Available(unit, energies) => {
             let flat = Energies::flat(energies.values()[0], energies.count());
             if flat != *energies {
-                all.push(Call::Available(*unit, flat));
+                all.push(Entry::Available(*unit, flat));
             }
         }
         _ => {}
@@ -162,7 +162,7 @@ pub fn report<A: Exchange, B: Exchange>(seed: u64, list: &List) -> String {
     if let Ok(Err(found)) = catch_unwind(AssertUnwindSafe(|| compare::<A, B>(&least, &mut Nobody))) {
         if let (Some(index), Some(query)) = (found.index, found.query) {
             let mut one = least.clone();
-            one.calls[index] = Call::Ask(query);
+            one.calls[index] = Entry::Ask(query);
             if difference::<A, B>(&one).is_some() {
                 least = one;
             }

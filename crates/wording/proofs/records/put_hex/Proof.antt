@@ -10,4 +10,4 @@ abbrev μ-loop : tie.MeasureT-loop
 μ-loop line from count record₀ k₀ «record» k = count - k
 
 pub put-hex-spec : {M : Type 1} → statement M
-put-hex-spec = tie.close (tie.spec Inv-loop μ-loop (λ c. search needs) (λ c κs. search needs) (λ c. search needs) (λ c. search needs) (λ c. search needs) (λ c. search needs))
+put-hex-spec = tie.close (tie.spec Inv-loop μ-loop (λ c. search needs) (λ c κs. search needs) (λ c κs. search needs) (λ c. search needs) (λ c. search needs) (λ c. search needs) (λ c. search needs))

@@ -1,7 +1,7 @@
 use Prim.Native.Nat.{_-_}
 use borrow.Author.Needs.{needs}
-use Rattle.wording.proofs.records.all_hex.Statement.{statement}
-use Rattle.wording.proofs.records.all_hex.Tie as tie
+use Rattle.wording.proofs.hex.all_hex.Statement.{statement}
+use Rattle.wording.proofs.hex.all_hex.Tie as tie
 
 abbrev Inv-loop : tie.InvT-loop
 Inv-loop line from to i₀ i = Unit {0}
