@@ -191,7 +191,8 @@ impl Gate {
     /// assert_eq!(Gate::hour_named(day, Clock { name: 2, second: true }), Ok(4));
     /// ```
     pub fn hour_named(day: Date, clock: Clock) -> Result<u32, Refusal> {
-        amount(&ffi::hour(date(day), ffi::Clock { name: clock.name, second: clock.second.into(), reserved: 0, reserved2: 0 }))
+        let clock = ffi::Clock { name: clock.name, second: clock.second.into(), reserved: 0, reserved2: 0 };
+        amount(&ffi::hour(date(day), clock))
     }
 
     /// The fields of a message by itself, whatever the day. Refused as 3, 4 or 5.
@@ -289,7 +290,9 @@ impl Gate {
         match *response {
             Response { kind: 0, row: 0, hour: 0, reserved: 0, value: 0, count: 0 } => Ok(Verdict::Accepted),
             Response { kind: 4, row: 0, hour: 0, reserved: 0, value: 0, count: 0 } => Ok(Verdict::Hidden),
-            Response { kind: 5, row, hour, reserved: 0, value: 0, count: 0 } => Ok(Verdict::Refused { limit: limit(row), hour }),
+            Response { kind: 5, row, hour, reserved: 0, value: 0, count: 0 } => {
+                Ok(Verdict::Refused { limit: limit(row), hour })
+            }
             _ => Err(refused(response)),
         }
     }

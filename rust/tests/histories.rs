@@ -107,7 +107,7 @@ fn play(seed: u64, list: &List, bytes: (u8, u8), seen: &mut Differences) {
         }
         true
     });
-    assert!(reserved_are_0(&a.session) && reserved_are_0(&b.session), "seed {seed}: a reserved field of the session is not 0");
+    assert!(reserved_are_0(&a.session) && reserved_are_0(&b.session), "seed {seed}: something reserved is not 0");
 }
 
 fn reserved_are_0(s: &ffi::Session) -> bool {
@@ -129,8 +129,9 @@ fn equal_histories_leave_equal_bytes() {
         play(seed, &list(seed), bytes, &mut seen);
     }
     let Differences { calls, sessions, answers, first } = seen;
-    println!("{lists} lists, {calls} calls: at most {sessions} bytes of a session and {answers} of an answer differ");
-    assert!((sessions, answers) == (0, 0), "{sessions} bytes of a session and {answers} of an answer differ; {}", first.unwrap());
+    let told = format!("{calls} calls: at most {sessions} bytes of a session and {answers} of an answer differ");
+    println!("{lists} lists, {told}");
+    assert!((sessions, answers) == (0, 0), "{told}; {}", first.unwrap_or_default());
 }
 
 /// The answers that are of no session.

@@ -5,7 +5,8 @@ ghost use Rattle.answer.specs.Told as T;
 use calendar::Counted;
 use calendar::Named;
 
-// An answer. Its kind says which of the other fields hold something; those that do not are 0.
+// An answer. Its kind says which of the other fields hold something; those that do not are 0, and so is what is reserved, which leaves
+// no padding for C.
 #[repr(C)]
 pub struct Response {
     pub kind: u32,

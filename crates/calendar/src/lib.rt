@@ -12,7 +12,7 @@ pub struct Date {
     pub day: u32,
 }
 
-// A clock name with its mark: the starting local hour, and whether it is marked "second".
+// A clock name with its mark: the starting local hour, and whether it is marked "second". Reserved fields leave no padding for C.
 #[repr(C)]
 pub struct Clock {
     pub name: u32,

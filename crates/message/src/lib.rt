@@ -2,7 +2,8 @@
 pub mod form;
 pub mod judge;
 
-// What a message says, and what a writer is given. Energies and prices are by hour, hour 1 first.
+// What a message says, and what a writer is given. Energies and prices are by hour, hour 1 first. What is reserved, here and below,
+// leaves no padding for C.
 #[repr(C)]
 pub struct Fields {
     pub execution: bool,

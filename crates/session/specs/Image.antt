@@ -45,7 +45,7 @@ capacitiesIn ps = map publishedIn ps
 abbrev pub keyIn : Key → M.Key
 keyIn k = record { execution = k .execution; default = k .default; unit = k .unit; contract = k .contract }
 
--- How the book's things are laid out
+-- How the book's things are laid out; what is reserved is 0
 
 abbrev pub dateAs : H.Date → Date
 dateAs d = record { year = d .year; month = d .month; day = d .day }

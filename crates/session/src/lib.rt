@@ -10,6 +10,9 @@ use calendar::Date;
 
 pub mod units;
 
+// No struct that C holds has padding, which would keep what the memory held before. Where fields leave a gap stands a reserved one: 0 in a
+// session and in every answer, and in what is passed not looked at.
+
 // Number and agent are 1 to 65,535; border is 0 domestic, 1 France, 2 Andorra, 3 Portugal, 4 Morocco.
 #[repr(C)]
 pub struct Unit {
