@@ -4,15 +4,14 @@ ghost use mathlib.Core.Bool.{Bool};
 ghost use mathlib.Core.List.{List, map};
 ghost use Prim.Native.Nat.{ℕ, _≤_, _<_};
 ghost use lib.ListN.{getD};
-ghost use Rattle.rules.specs.Units.{maxEnergy};
 ghost use Rattle.rules.specs.Match.{Offer};
 ghost use Rattle.rules.specs.Borders.{Execution};
 ghost use Rattle.rules.specs.Split.{maximumOf};
 ghost use Rattle.rules.specs.Withdrawal.{overruns};
-ghost use Rattle.arrays.specs.Listing.{Listed};
 ghost use Rattle.borders.specs.Ways.{wayOf, publishedIn, overIn};
 ghost use Rattle.borders.specs.Flows.{countedFor, ByWay, Abroad, MarketFlows, BorderFlows, LegacyFlows, ExecutionFlows, Small};
 ghost use Rattle.borders.specs.Limits.{acrossOf, maximumIn, excessIn, nonEmpty};
+ghost use Rattle.borders.specs.Located.{Crossing, Ranged, Located};
 
 // The place of a border and direction in an array of ten: export of border 0, import of border 0, export of border 1, ..
 // Those of border 0 stay empty.
@@ -60,7 +59,7 @@ pub fn flows<'a>(
     legacy: &'a [bool; 128],
     energy: &'a [u32; 128],
 ) -> [u32; 10]
-    requires { ⌜ (n ≤ 128) × ((i : ℕ) → i < n → getD (now border) i 0 < 5) × ((i : ℕ) → getD (now energy) i 0 ≤ maxEnergy) ⌝ }
+    requires { ⌜ (n ≤ 128) × Crossing n (now border) × Ranged (now energy) ⌝ }
     ensures { λ r. ⌜ ByWay only (now (border .entry)) (now (purchase .entry)) (now (legacy .entry)) (now (energy .entry)) n r ⌝ }
 {
     let mut f = [0u32; 10];
@@ -80,7 +79,7 @@ pub fn abroad<'a>(
     purchase: &'a [bool; 128],
     energy: &'a [u32; 128],
 ) -> [u32; 10]
-    requires { ⌜ (n ≤ 128) × ((i : ℕ) → i < n → getD (now border) i 0 < 5) × ((i : ℕ) → getD (now energy) i 0 ≤ maxEnergy) × Listed (now border) n (now at) ⌝ }
+    requires { ⌜ Located n (now border) (now at) × Ranged (now energy) ⌝ }
     ensures { λ r. ⌜ Abroad (now (border .entry)) (now (purchase .entry)) (now (energy .entry)) n r ⌝ }
 {
     let mut f = [0u32; 10];

@@ -5,12 +5,12 @@ ghost use mathlib.Core.List.{List};
 ghost use mathlib.Core.Option.{some};
 ghost use Prim.Native.Nat.{ℕ, _<_, _≤_};
 ghost use lib.ListN.{getD};
-ghost use Rattle.rules.specs.Units.{maxEnergy, maxPrice};
+ghost use Rattle.rules.specs.Units.{maxPrice};
 ghost use Rattle.rules.specs.Withdrawal.{extreme, further as furtherOf, atPrice, groupOf};
 ghost use Rattle.matching.specs.declared.Offers.{Offers};
-ghost use Rattle.matching.specs.View.{offersOf};
+ghost use Rattle.matching.specs.View.{offersOf, Priced};
 ghost use Rattle.borders.specs.Ways.{overIn};
-ghost use Rattle.arrays.specs.Listing.{Listed};
+ghost use Rattle.borders.specs.Located.{Ranged, Located};
 ghost use Rattle.overrun.specs.Lent.{Lent};
 ghost use Rattle.overrun.specs.Group.{groupIn};
 ghost use Rattle.choice.specs.Prices.{pricedOf, pricesFrom, outer, priceIn, beyond, pastOf, pastFrom};
@@ -68,7 +68,7 @@ fn furthest<'a>(
     price: &'a [u32; 128],
     matched: &[u32; 128],
 ) -> u32
-    requires { ⌜ (n ≤ 128) × ((i : ℕ) → i < n → getD (now border) i 0 < 5) × ((i : ℕ) → i < n → getD (now price) i 0 ≤ maxPrice) × Listed (now border) n (now at) ⌝ }
+    requires { ⌜ Located n (now border) (now at) × Priced n (now price) ⌝ }
     ensures { λ r. ⌜ priceIn r ≡ extreme (outer side) (pricesFrom side (now (over .entry)) (now (border .entry)) (now (purchase .entry)) (now (legacy .entry)) (now (price .entry)) (now (matched .entry)) 0 n) ⌝ }
 {
     let mut best = NONE;
@@ -117,7 +117,7 @@ fn all_past<'a>(
     price: &'a [u32; 128],
     matched: &[u32; 128],
 ) -> u32
-    requires { ⌜ (n ≤ 128) × ((i : ℕ) → getD (now matched) i 0 ≤ maxEnergy) ⌝ }
+    requires { ⌜ (n ≤ 128) × Ranged (now matched) ⌝ }
     ensures { λ r. ⌜ r ≡ pastFrom side p (now (purchase .entry)) (now (price .entry)) (now (matched .entry)) 0 n ⌝ }
 {
     let mut s: u32 = 0;
@@ -150,7 +150,7 @@ pub fn choose<'a>(
     price: &'a [u32; 128],
     matched: &[u32; 128],
 ) -> Group
-    requires { ⌜ (n ≤ 128) × ((i : ℕ) → i < n → getD (now border) i 0 < 5) × ((i : ℕ) → i < n → getD (now price) i 0 ≤ maxPrice) × ((i : ℕ) → getD (now matched) i 0 ≤ maxEnergy) × Listed (now border) n (now at) ⌝ }
+    requires { ⌜ Located n (now border) (now at) × Priced n (now price) × Ranged (now matched) ⌝ }
     ensures { λ r. ⌜ ((h : Offers) (e : List ℕ)
         → Lent h n (now (border .entry)) (now (purchase .entry)) (now (legacy .entry)) (now (price .entry))
         → groupIn r ≡ groupOf (overIn (now (over .entry))) (offersOf h e (now (matched .entry)))) ⌝ }

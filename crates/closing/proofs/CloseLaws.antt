@@ -10,7 +10,7 @@ use Rattle.rules.specs.Closing as C
 use Rattle.rules.specs.DayBook as D
 use Rattle.rules.proofs.BookLaws.{frozen-judgements}
 use Rattle.session.specs.Laid.{pad}
-use Rattle.session.specs.Image.{image, verdictAs, noVerdict, verdictsIn, hoursIn}
+use Rattle.session.specs.Image.{image, Sound, verdictAs, noVerdict, verdictsIn, hoursIn}
 use Rattle.answer.specs.Told.{told, isRefusal}
 use Rattle.changes.specs.Changes.{withVerdicts}
 use Rattle.session.specs.Parts.{Within, Judges, Entered}
@@ -21,10 +21,10 @@ use Rattle.session.proofs.ImageLaws.{closed-as, standing-as}
 use Rattle.session.proofs.SoundLaws.{open-stage}
 use Rattle.session.proofs.StepLaws.{open-row}
 use Rattle.ceilings.specs.Ceilings.{ceilingAt}
-use Rattle.turns.specs.Passes.{PassesTurn}
+use Rattle.turns.specs.Passes.{ClosingAt}
 use Rattle.closing.specs.Closed.{closedTurn}
 use Rattle.validation.proofs.TurnLaws.{reached-first, reached-next, reached-end}
-use Rattle.turns.proofs.RoomLaws.{kept-start}
+use Rattle.turns.proofs.RoomLaws.{closing-at, reached-at, kept-start}
 
 -- 2: "closing [..] twice"
 module _ (s : Session) where
@@ -49,17 +49,21 @@ close-image : (b : Book) → b .cleared ≡ false → withVerdicts (image b) tru
 unfolding D.applied
 close-image b c = ap (λ vs. withVerdicts (image b) true (pad 128 noVerdict (map verdictAs vs))) (sym (stage-verdicts b)) ∙ stage-image b c
 
+-- a turn from its last place to its first
+abbrev Turned : Session → ℕ → List Verdict → List ℕ → List Verdict → List ℕ → Type 0
+Turned s turn vs room r rest = (b : Book) → Sound b → s ≡ image b → ClosingAt s b turn (s .standing) vs room → ClosingAt s b turn 0 r rest
+
 pub close-entered : (s : Session) (none : Verdict) (xs ys zs : List Verdict) (room rest last end : List ℕ) → Within s → none ≡ noVerdict
     → ((p h : ℕ) → p < s .enrolled → h < 25 → getD room (p * 25 + h) 0 ≡ ceilingAt (s .units) (s .notices) (s .capacities) p h)
-    → PassesTurn s 0 (replicate 128 none) room xs rest → PassesTurn s 1 xs rest ys last → PassesTurn s 2 ys last zs end → length zs ≡ 128
+    → Turned s 0 (replicate 128 none) room xs rest → Turned s 1 xs rest ys last → Turned s 2 ys last zs end → length zs ≡ 128
     → Entered s D.close (closedTurn s zs)
 unfolding told isRefusal D.reply D.rowsOf D.gateRow D.callRows
 close-entered s none xs ys zs room rest last end w blank top p q r h = record {
   book = λ b sound o e.
       let n = standing-as s b e in
-      let x = p b sound e (record { reached = rw (blank, ← n) (reached-first b); kept = kept-start s none room w blank top }) in
-      let y = q b sound e (record { reached = rw (← n) (reached-next b 0 1 xs refl (x .reached)); kept = x .kept }) in
-      let z = r b sound e (record { reached = rw (← n) (reached-next b 1 2 ys refl (y .reached)); kept = y .kept }) in
-      record { answer = refl; session = rw (reached-end b zs h (sound .ranges .standing .room) (z .reached), e) (close-image b (open-stage b sound (open-row b [] o))) };
+      let x = p b sound e (closing-at (rw (blank, ← n) (reached-first b)) (kept-start s none room w blank top)) in
+      let y = q b sound e (closing-at (rw (← n) (reached-next b 0 1 xs refl (reached-at x))) (x .left)) in
+      let z = r b sound e (closing-at (rw (← n) (reached-next b 1 2 ys refl (reached-at y))) (y .left)) in
+      record { answer = refl; session = rw (reached-end b zs h (sound .ranges .standing .room) (reached-at z), e) (close-image b (open-stage b sound (open-row b [] o))) };
   fine = refl;
 }

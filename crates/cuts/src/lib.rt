@@ -1,16 +1,16 @@
 // Executions cut back to what the borders leave them (document 01, "Executions").
 ghost use mathlib.Core.Path.{_≡_};
 ghost use mathlib.Core.List.{List};
-ghost use Prim.Native.Nat.{ℕ, _≤_, _<_};
+ghost use Prim.Native.Nat.{ℕ, _≤_};
 ghost use lib.ListN.{getD, length, replicate};
 ghost use Rattle.rules.specs.Lists.{All};
-ghost use Rattle.rules.specs.Units.{maxEnergy};
 ghost use Rattle.rules.specs.Match.{Offer};
 ghost use Rattle.rules.specs.Executions.{cutAll};
 ghost use Rattle.arrays.specs.Places.{layOn};
 ghost use Rattle.borders.specs.declared.Executions.{Executions};
 ghost use Rattle.borders.specs.Ways.{publishedIn};
 ghost use Rattle.borders.specs.Flows.{MarketFlows, ExecutionFlows, Small};
+ghost use Rattle.borders.specs.Located.{Crossing, Ranged};
 ghost use Rattle.borders.specs.View.{executionsOf};
 ghost use Rattle.cuts.specs.Cuts.{Enough, bothAt, wayAt, lessAt};
 
@@ -29,7 +29,7 @@ fn together(market: &[u32; 10], executions: &[u32; 10]) -> [u32; 10]
 
 // The direction in which each of the first n executions runs.
 fn all_ways<'a>(ways: &mut [u32; 128], n: usize, border: &'a [u32; 128], purchase: &'a [bool; 128])
-    requires { ⌜ (n ≤ 128) × ((i : ℕ) → i < n → getD (now border) i 0 < 5) ⌝ }
+    requires { ⌜ (n ≤ 128) × Crossing n (now border) ⌝ }
     ensures { λ _. ⌜ now (ways .exit) ≡ layOn (wayAt (now (border .entry)) (now (purchase .entry))) n 0 (now (ways .entry)) ⌝ }
 {
     for i in 0..n {
@@ -60,7 +60,7 @@ pub fn cut<'a>(
     market: &[u32; 10],
     executions: &[u32; 10],
 )
-    requires { ⌜ (n ≤ 128) × ((i : ℕ) → i < n → getD (now border) i 0 < 5) × ((i : ℕ) → getD (now energy) i 0 ≤ maxEnergy)
+    requires { ⌜ (n ≤ 128) × Crossing n (now border) × Ranged (now energy)
         × Small (now market) × Small (now executions) × (length (now energy) ≡ 128) ⌝ }
     ensures { λ _. ⌜ ((x : Executions) (os : List Offer)
         → x .count ≡ n → x .border ≡ now (border .entry) → x .purchase ≡ now (purchase .entry)

@@ -17,7 +17,8 @@ use Rattle.matching.specs.View.{Matched, offersOf}
 use Rattle.matching.proofs.ViewLaws.{matched-small}
 use Rattle.borders.specs.Ways.{publishedIn}
 use Rattle.withdrawal.specs.declared.Ended.{Ended}
-use Rattle.withdrawal.specs.Turns.{Energies, Withdrew}
+use Rattle.withdrawal.specs.Steps.{Energies}
+use Rattle.withdrawal.specs.Turns.{Withdrew}
 use Rattle.market.specs.Parts.{MarketCleared}
 
 -- the energies after the first match

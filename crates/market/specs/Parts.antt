@@ -10,7 +10,7 @@ use Rattle.matching.specs.declared.Offers.{Offers}
 use Rattle.matching.specs.View.{Matched, offersOf}
 use Rattle.matching.specs.Orders.{Along}
 use Rattle.borders.specs.Ways.{publishedIn}
-use Rattle.withdrawal.specs.Turns.{Energies}
+use Rattle.withdrawal.specs.Steps.{Energies}
 use Rattle.market.specs.declared.First.{First}
 use Rattle.market.specs.declared.Market.{Market}
 

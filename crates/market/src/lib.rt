@@ -5,14 +5,14 @@ ghost use mathlib.Core.Path.{_≡_};
 ghost use mathlib.Core.Bool.{Bool};
 ghost use mathlib.Core.List.{List, map};
 ghost use Prim.Native.Nat.{ℕ, _≤_};
-ghost use lib.ListN.{getD, length};
-ghost use Rattle.rules.specs.Units.{maxEnergy};
+ghost use lib.ListN.{length};
 ghost use Rattle.rules.specs.Borders.{Execution};
 ghost use Rattle.rules.specs.Split.{maximumOf};
 ghost use Rattle.matching.specs.View.{Sound, offersOf};
 ghost use Rattle.borders.specs.Ways.{publishedIn};
 ghost use Rattle.borders.specs.Flows.{MarketFlows, ExecutionFlows, Small};
-ghost use Rattle.withdrawal.specs.Turns.{Energies, Crossing};
+ghost use Rattle.borders.specs.Located.{Crossing, Ranged};
+ghost use Rattle.withdrawal.specs.Steps.{Energies};
 ghost use Rattle.market.specs.Parts.{Begun, MarketCleared};
 
 // The first match: the order of either side, what is matched, and the volume.
@@ -35,7 +35,7 @@ pub struct Market {
 
 // The first match of an hour's offers.
 fn first_match(o: Offers, offered: &[u32; 128]) -> First
-    requires { ⌜ Sound o × ((i : ℕ) → getD (now offered) i 0 ≤ maxEnergy) × (length (now offered) ≡ 128) ⌝ }
+    requires { ⌜ Sound o × Ranged (now offered) × (length (now offered) ≡ 128) ⌝ }
     ensures { λ r. ⌜ Begun o (now (offered .entry)) r ⌝ }
 {
     let n = o.count;
@@ -69,7 +69,7 @@ fn first_maxima(
     capacity: &[u32; 10],
     executions: &[u32; 10],
 ) -> [u32; 10]
-    requires { ⌜ (o .count ≤ 128) × Crossing (o .count) (o .border) × ((i : ℕ) → getD (now matched) i 0 ≤ maxEnergy) × Small (now capacity) × Small (now executions)
+    requires { ⌜ (o .count ≤ 128) × Crossing (o .count) (o .border) × Ranged (now matched) × Small (now capacity) × Small (now executions)
         × Small (now market) × ((e : List ℕ) → MarketFlows (now market) (offersOf o e (now matched))) ⌝ }
     ensures { λ r. ⌜ ((flags : List Bool) (e : List ℕ) (xs : List Execution)
         → ExecutionFlows (now (executions .entry)) xs
@@ -88,7 +88,7 @@ pub fn clear(
     capacity: &[u32; 10],
     executions: &[u32; 10],
 ) -> Market
-    requires { ⌜ Sound o × Crossing (o .count) (o .border) × ((i : ℕ) → getD before i 0 ≤ maxEnergy) × Small (now capacity) × Small (now executions) ⌝ }
+    requires { ⌜ Sound o × Crossing (o .count) (o .border) × Ranged before × Small (now capacity) × Small (now executions) ⌝ }
     ensures { λ r. ⌜ ((xs : List Execution) → ExecutionFlows (now (executions .entry)) xs → MarketCleared o before (now (published .entry)) (now (capacity .entry)) xs r) ⌝ }
     ensures { λ r. ⌜ MarketFlows (r .flows) (offersOf o (r .offered) (r .matched)) × Small (r .flows) × Energies (o .count) (r .offered) (r .matched) ⌝ }
 {

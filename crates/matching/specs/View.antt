@@ -27,11 +27,15 @@ offerAt h e m i = record {
 unfoldable pub offersOf : Offers → List ℕ → List ℕ → List Offer
 offersOf h e m = map (offerAt h e m) (from 0 (h .count))
 
+-- "Price is in hundredths of a euro per MWh, 0 to 18,030.": that of each of the first n
+abbrev pub Priced : ℕ → List ℕ → Type 0
+Priced n price = (i : ℕ) → i < n → getD price i 0 ≤ maxPrice
+
 -- an hour that the session can hold: by rising lodging number, prices in their range
 pub record Sound (h : Offers) : Type 0 where
   pub few : h .count ≤ 128
   pub rising : (i j : ℕ) → i < j → j < h .count → getD (h .number) i 0 < getD (h .number) j 0
-  pub priced : (i : ℕ) → i < h .count → getD (h .price) i 0 ≤ maxPrice
+  pub priced : Priced (h .count) (h .price)
 
 -- `matched` is the match of energies e, and v its volume; indices past the offers are as `before`
 pub record Matched (h : Offers) (e before matched : List ℕ) (v : ℕ) : Type 0 where

@@ -2,14 +2,14 @@
 // matched.
 ghost use mathlib.Core.Path.{_≡_};
 ghost use mathlib.Core.List.{map};
-ghost use Prim.Native.Nat.{ℕ, _<_, _≤_};
-ghost use lib.ListN.{length, getD};
+ghost use Prim.Native.Nat.{_<_};
+ghost use lib.ListN.{length};
 ghost use Rattle.rules.specs.Withdrawal.{keepMatched};
 ghost use Rattle.matching.specs.declared.Offers.{Offers};
 ghost use Rattle.matching.specs.View.{offersOf};
 ghost use Rattle.borders.specs.Ways.{overIn};
+ghost use Rattle.borders.specs.Located.{Located};
 ghost use Rattle.arrays.specs.Places.{layOn};
-ghost use Rattle.arrays.specs.Listing.{Listed};
 ghost use Rattle.overrun.specs.Kept.{runsOver, keptOf, keptAt};
 ghost use Rattle.overrun.specs.Lent.{Lent};
 
@@ -65,7 +65,7 @@ pub fn keep_matched<'a>(
     legacy: &'a [bool; 128],
     matched: &[u32; 128],
 )
-    requires { ⌜ (n ≤ 128) × ((i : ℕ) → i < n → getD (now border) i 0 < 5) × (length (now offered) ≡ 128) × Listed (now border) n (now at) ⌝ }
+    requires { ⌜ Located n (now border) (now at) × (length (now offered) ≡ 128) ⌝ }
     ensures { λ _. ⌜ now (offered .exit) ≡ layOn (keptAt (now (over .entry)) (now (border .entry)) (now (purchase .entry)) (now (legacy .entry)) (now (matched .entry))) n 0 (now (offered .entry)) ⌝ }
     ensures { λ _. ⌜ ((h : Offers)
         → Lent h n (now (border .entry)) (now (purchase .entry)) (now (legacy .entry)) (h .price)

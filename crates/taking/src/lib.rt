@@ -5,13 +5,12 @@ ghost use mathlib.Core.Bool.{cond};
 ghost use lib.Dec.{eqb};
 ghost use Prim.Native.Nat.{ℕ, _-_, _<_, _≤_};
 ghost use lib.ListN.{length, getD};
-ghost use Rattle.rules.specs.Units.{maxEnergy};
 ghost use Rattle.rules.specs.Withdrawal.{takeFrom};
 ghost use Rattle.matching.specs.declared.Offers.{Offers};
 ghost use Rattle.matching.specs.View.{offersOf};
 ghost use Rattle.borders.specs.Ways.{overIn};
+ghost use Rattle.borders.specs.Located.{Ranged, Located};
 ghost use Rattle.arrays.specs.Places.{layOn};
-ghost use Rattle.arrays.specs.Listing.{Listed};
 ghost use Rattle.overrun.specs.Lent.{Lent};
 ghost use Rattle.overrun.specs.Group.{groupIn};
 ghost use Rattle.taking.specs.Given.{inside, givenOf, givenAt, leftAt, Lower};
@@ -61,7 +60,7 @@ fn all_given<'a>(
     legacy: &'a [bool; 128],
     price: &'a [u32; 128],
 )
-    requires { ⌜ (n ≤ 128) × ((i : ℕ) → i < n → getD (now border) i 0 < 5) × ((i : ℕ) → getD (now ways) i 0 ≤ 0) × Listed (now border) n (now at) ⌝ }
+    requires { ⌜ Located n (now border) (now at) × ((i : ℕ) → getD (now ways) i 0 ≤ 0) ⌝ }
     ensures { λ _. ⌜ now (ways .exit) ≡ layOn (givenAt (now (over .entry)) g (now (border .entry)) (now (purchase .entry)) (now (legacy .entry)) (now (price .entry))) n 0 (now (ways .entry)) ⌝ }
 {
     for k in 0..at.len() {
@@ -112,7 +111,7 @@ pub fn take_from<'a>(
     price: &'a [u32; 128],
     matched: &[u32; 128],
 )
-    requires { ⌜ (n ≤ 128) × ((i : ℕ) → i < n → getD (now border) i 0 < 5) × ((i : ℕ) → getD (now matched) i 0 ≤ maxEnergy) × (length (now offered) ≡ 128) × Listed (now border) n (now at) ⌝ }
+    requires { ⌜ Located n (now border) (now at) × Ranged (now matched) × (length (now offered) ≡ 128) ⌝ }
     ensures { λ _. ⌜ Lower n (now (offered .entry)) (now (matched .entry)) (now (offered .exit)) ⌝ }
     ensures { λ _. ⌜ ((h : Offers)
         → Lent h n (now (border .entry)) (now (purchase .entry)) (now (legacy .entry)) (now (price .entry))

@@ -18,8 +18,8 @@ use Rattle.room.proofs.FitLaws.{held, admitted-taken, admitted-left}
 use Rattle.validation.specs.Turns.{isTaken, Loaded, JudgesAt, verdictBy}
 use Rattle.validation.proofs.TurnLaws.{reached-past, reached-taken}
 use Rattle.validation.proofs.JudgeLaws.{unit-placed}
-use Rattle.turns.specs.Passes.{TakesAt, Held, Along, PassesTurn}
-use Rattle.turns.proofs.RoomLaws.{kept-refused, kept-accepted, not-yet, admitted, refused}
+use Rattle.turns.specs.Passes.{TakesAt, Held, ClosingAt}
+use Rattle.turns.proofs.RoomLaws.{closing-at, reached-at, kept-refused, kept-accepted, not-yet, admitted, refused}
 
 -- each one's unit has a row of the room
 pub holder-in : (s : Session) (holders : List ℕ) → Within s → Held s holders → (j : ℕ) → getD holders j 0 < 65
@@ -28,23 +28,23 @@ holder-in s holders w held j = omega (arith, held .most j, w .enrolled)
 module _ (s : Session) (turn : ℕ) (start : List Verdict) (all : List ℕ) where
   -- with some places left
   abbrev pub Left : ℕ → List Verdict → List ℕ → Type 0
-  Left left given room = (b : Book) → Sound b → s ≡ image b → Along s b turn (s .standing) start all → Along s b turn left given room
+  Left left given room = (b : Book) → Sound b → s ≡ image b → ClosingAt s b turn (s .standing) start all → ClosingAt s b turn left given room
 
   pub left-start : (left : ℕ) → left ≡ s .standing → Left left start all
   left-start left h b sound e r = rw h r
 
-  pub left-end : (left : ℕ) (given : List Verdict) (room : List ℕ) → left ≤ 0 → Left left given room → PassesTurn s turn start all given room
+  pub left-end : (left : ℕ) (given : List Verdict) (room : List ℕ) → left ≤ 0 → Left left given room → Left 0 given room
   left-end left given room h f b sound e r = let k : left ≡ 0 = omega arith in rw k at (f b sound e r)
 
   -- the last of them is next
   module _ (left at rest : ℕ) (given : List Verdict) (room : List ℕ) (next : at + 1 ≡ left) (same : at ≡ rest) (in-list : at < s .standing) (f : Left left given room) where
-    here : (b : Book) → Sound b → s ≡ image b → Along s b turn (s .standing) start all → Along s b turn (at + 1) given room
+    here : (b : Book) → Sound b → s ≡ image b → ClosingAt s b turn (s .standing) start all → ClosingAt s b turn (at + 1) given room
     here b sound e r = rw next (f b sound e r)
 
     pub left-past : (t : Bool) → TakesAt s turn at t → t ≡ false → Left rest given room
     left-past t k q b sound e r =
         let a = here b sound e r in
-        rw (← same) (record { reached = reached-past b (sound .ranges .standing .rising) turn at given (omega (arith, standing-as s b e)) (sym (k b e) ∙ q) (a .reached); kept = a .kept })
+        rw (← same) (closing-at (reached-past b (sound .ranges .standing .rising) turn at given (omega (arith, standing-as s b e)) (sym (k b e) ∙ q) (reached-at a)) (a .left))
 
     -- what its room holds of a lodgement that is taken
     module _ (t : Bool) (k : TakesAt s turn at t) (q : t ≡ true) (long : at < length given) (w : Within s) (loads after : List ℕ) (lent : Loaded s loads) (p : ℕ) (holder : p ≡ holderAt (s .units) (s .enrolled) (s .lodgements) at) (v : Verdict) (a : Bool) (m : Admitted p loads at (s .hours) room after a) where
@@ -57,11 +57,11 @@ module _ (s : Session) (turn : ℕ) (start : List Verdict) (all : List ℕ) wher
           let x : isTaken b turn at ≡ true = sym (k b e) ∙ q in
           let g = here b sound e r in
           let d = admitted-taken _ _ _ _ _ _ placed y in
-          rw (← same) (record {
-            reached = reached-taken b turn at given v long x (admitted s given room loads at in-list w lent (g .kept) v ev (d .0) b turn sound e (g .reached) x) (g .reached);
-            kept = kept-accepted s given room after loads at v long (not-yet b turn at given (g .reached) x) w lent in-list (g .kept) (ap (λ (z : Verdict). z .accepted) ev) (held _ _ _ _ (d .0) refl) (d .1)
-                (ap length (units-as s b e) ∙ length-map (b .units) unitOf ∙ enrolled-as s b e) (unit-placed s given at in-list noLodgement b sound e);
-          })
+          let a = reached-at g in
+          rw (← same) (closing-at
+          (reached-taken b turn at given v long x (admitted s given room loads at in-list w lent (g .left) v ev (d .0) b turn sound e a x) a)
+          (kept-accepted s given room after loads at v long (not-yet b turn at given a x) w lent in-list (g .left) (ap (λ (z : Verdict). z .accepted) ev) (held _ _ _ _ (d .0) refl) (d .1)
+          (ap length (units-as s b e) ∙ length-map (b .units) unitOf ∙ enrolled-as s b e) (unit-placed s given at in-list noLodgement b sound e)))
 
       pub left-refused : a ≡ false → JudgesAt s given at v → Left rest (set given at v) after
       unfolding holderAt
@@ -69,7 +69,7 @@ module _ (s : Session) (turn : ℕ) (start : List Verdict) (all : List ℕ) wher
           let x : isTaken b turn at ≡ true = sym (k b e) ∙ q in
           let g = here b sound e r in
           let d = admitted-left _ _ _ _ _ _ placed y in
-          rw (← same, d .1) (record {
-            reached = reached-taken b turn at given v long x (j b turn sound e (g .reached) x) (g .reached);
-            kept = kept-refused s given room at v long (not-yet b turn at given (g .reached) x) (refused s given room loads at in-list w lent (g .kept) v b turn j (d .0) sound e (g .reached) x) (g .kept);
-          })
+          let a = reached-at g in
+          rw (← same, d .1) (closing-at
+          (reached-taken b turn at given v long x (j b turn sound e a x) a)
+          (kept-refused s given room at v long (not-yet b turn at given a x) (refused s given room loads at in-list w lent (g .left) v b turn j (d .0) sound e a x) (g .left)))

@@ -38,7 +38,19 @@ use Rattle.validation.proofs.PlaceLaws.{by-not-yet}
 use Rattle.validation.proofs.TurnLaws.{taken-turn}
 use Rattle.validation.proofs.StandingLaws.{loaded-at}
 use Rattle.validation.proofs.JudgeLaws.{unit-placed, judge-given}
-use Rattle.turns.specs.Passes.{usedIn, Kept}
+use Rattle.turns.specs.Passes.{roomOn, acceptedOn, ceilingOn, ClosingAt}
+
+-- A closing that stands somewhere: its verdicts, and the room that they leave
+
+abbrev pub Kept : Session → List Verdict → List ℕ → Type 0
+Kept s vs room = (unit h : ℕ) → unitPlace s unit < s .enrolled → h < s .hours → roomOn s room unit h + acceptedOn s vs unit h ≡ ceilingOn s unit h
+
+module _ {s : Session} {b : Book} {turn i : ℕ} {vs : List Verdict} {room : List ℕ} where
+  pub closing-at : Reached b turn i vs → Kept s vs room → ClosingAt s b turn i vs room
+  closing-at r k = record { passed = r .passed; waiting = r .waiting; left = k }
+
+  pub reached-at : ClosingAt s b turn i vs room → Reached b turn i vs
+  reached-at a = record { passed = a .passed; waiting = a .waiting }
 
 -- Marks of what is accepted on a unit
 
@@ -86,17 +98,17 @@ module _ (s : Session) (vs : List Verdict) (i : ℕ) (v : Verdict) (h : i < leng
   unfolding countsAt countsOn
   uncounted unit = rw blank
 
-  used-same : (unit x : ℕ) → countsOn unit v (getD (s .lodgements) i noLodgement) ≡ false → usedIn s (set vs i v) unit x ≡ usedIn s vs unit x
-  unfolding usedIn
-  used-same unit x e = ap (λ ms. sumOf (energyIn x) (marked ms (take (s .standing) (s .energies)))) (marks-same (s .lodgements) unit vs i v h e (uncounted unit))
+  used-same : (unit x : ℕ) → countsOn unit v (getD (s .lodgements) i noLodgement) ≡ false → acceptedOn s (set vs i v) unit x ≡ acceptedOn s vs unit x
+  unfolding acceptedOn
+  used-same unit x e = ap (λ ms. sumOf (energyIn (suc x)) (marked ms (take (s .standing) (s .energies)))) (marks-same (s .lodgements) unit vs i v h e (uncounted unit))
 
   module _ (w : s .standing ≤ 128) (room : s .standing ≤ length (s .energies)) (in-list : i < s .standing) where
     energy-here : (x : ℕ) → energyIn (suc x) (getD (take (s .standing) (s .energies)) i bareEnergies) ≡ getD (getD (s .energies) i bareEnergies .energies) x 0
     energy-here x = hourly-suc (getD (take (s .standing) (s .energies)) i bareEnergies .energies) x ∙ ap (λ (e : Energies). getD (e .energies) x 0) (getD-take (s .standing) (s .energies) i bareEnergies in-list)
 
     used-more : (unit x : ℕ) → countsOn unit v (getD (s .lodgements) i noLodgement) ≡ true
-        → usedIn s (set vs i v) unit (suc x) ≡ getD (getD (s .energies) i bareEnergies .energies) x 0 + usedIn s vs unit (suc x)
-    unfolding usedIn
+        → acceptedOn s (set vs i v) unit x ≡ getD (getD (s .energies) i bareEnergies .energies) x 0 + acceptedOn s vs unit x
+    unfolding acceptedOn
     used-more unit x e =
         ap (λ ms. sumOf (energyIn (suc x)) (marked ms (take (s .standing) (s .energies)))) (marks-more (s .lodgements) unit vs i v h (omega arith) e)
         ∙ sum-mark (energyIn (suc x)) (marks (s .lodgements) unit vs) (take (s .standing) (s .energies)) i bareEnergies (omega (arith, marks-length (s .lodgements) unit vs))
@@ -123,9 +135,7 @@ places-differ us a b h e =
 pub kept-refused : (s : Session) (vs : List Verdict) (room : List ℕ) (i : ℕ) (v : Verdict) → i < length vs → getD vs i noVerdict .accepted ≡ false → v .accepted ≡ false
     → Kept s vs room → Kept s (set vs i v) room
 unfolding countsOn
-kept-refused s vs room i v h blank e k = record {
-  left = λ unit x p m. rw (used-same s vs i v h blank unit (suc x) (rw e)) (k .left unit x p m);
-}
+kept-refused s vs room i v h blank e k = λ unit x p m. rw (used-same s vs i v h blank unit x (rw e)) (k unit x p m)
 
 -- what is accepted takes its energies
 module _ (s : Session) (vs : List Verdict) (room after loads : List ℕ) (i : ℕ) (v : Verdict) (h : i < length vs) (blank : getD vs i noVerdict .accepted ≡ false) (w : Within s) (lent : Loaded s loads) (in-list : i < s .standing) (k : Kept s vs room) (yes : v .accepted ≡ true) where
@@ -135,11 +145,11 @@ module _ (s : Session) (vs : List Verdict) (room after loads : List ℕ) (i : �
   module _ (f : (x : ℕ) → x < s .hours → getD loads (i * 25 + x) 0 ≤ getD room (unitPlace s unitHere * 25 + x) 0) (r : RowAt (unitPlace s unitHere) (leftAt room (unitPlace s unitHere) loads i) (s .hours) room after) where
     -- on its own unit
     left-here : (x : ℕ) → x < s .hours → unitPlace s unitHere < s .enrolled
-        → getD after (unitPlace s unitHere * 25 + x) 0 + usedIn s (set vs i v) unitHere (suc x) ≡ ceilingAt (s .units) (s .notices) (s .capacities) (unitPlace s unitHere) x
+        → getD after (unitPlace s unitHere * 25 + x) 0 + acceptedOn s (set vs i v) unitHere x ≡ ceilingAt (s .units) (s .notices) (s .capacities) (unitPlace s unitHere) x
     unfolding countsOn leftAt
     left-here x m p =
         let used = used-more s vs i v h blank (w .standing) (lent .room) in-list unitHere x (rw (yes, eq-eqb unitHere unitHere refl)) in
-        omega (arith, r .here x m, used, loaded-at s loads i x in-list (w .standing) lent (omega (arith, w .hours)), f x m, k .left unitHere x p m)
+        omega (arith, r .here x m, used, loaded-at s loads i x in-list (w .standing) lent (omega (arith, w .hours)), f x m, k unitHere x p m)
 
     -- on another
     row-other : (p x : ℕ) → (p ≡ unitPlace s unitHere → ⊥) → x < s .hours → getD after (p * 25 + x) 0 ≡ getD room (p * 25 + x) 0
@@ -154,18 +164,17 @@ module _ (s : Session) (vs : List Verdict) (room after loads : List ℕ) (i : �
 
     module _ (full : length (take (s .enrolled) (s .units)) ≡ s .enrolled) (q : unitPlace s unitHere < s .enrolled) where
       left-other : (unit x : ℕ) → eqb unitHere unit ≡ false → unitPlace s unit < s .enrolled → x < s .hours
-          → getD after (unitPlace s unit * 25 + x) 0 + usedIn s (set vs i v) unit (suc x) ≡ ceilingAt (s .units) (s .notices) (s .capacities) (unitPlace s unit) x
+          → getD after (unitPlace s unit * 25 + x) 0 + acceptedOn s (set vs i v) unit x ≡ ceilingAt (s .units) (s .notices) (s .capacities) (unitPlace s unit) x
       unfolding countsOn
       left-other unit x e p m =
           let other : unitPlace s unit ≡ unitPlace s unitHere → ⊥ = λ z. eqb-false unitHere unit e (sym (places-differ (take (s .enrolled) (s .units)) unitHere unit (omega arith) z)) in
-          rw (row-other (unitPlace s unit) x other m, used-same s vs i v h blank unit (suc x) (rw (yes, e))) (k .left unit x p m)
+          rw (row-other (unitPlace s unit) x other m, used-same s vs i v h blank unit x (rw (yes, e))) (k unit x p m)
 
       pub kept-accepted : Kept s (set vs i v) after
-      kept-accepted = record {
-        left = λ unit x p m. by-bool (eqb unitHere unit)
-            (λ t. subst (λ u. unitPlace s u < s .enrolled → getD after (unitPlace s u * 25 + x) 0 + usedIn s (set vs i v) u (suc x) ≡ ceilingAt (s .units) (s .notices) (s .capacities) (unitPlace s u) x) (eqb-true unitHere unit t) (left-here x m) p)
-            (λ t. left-other unit x t p m);
-      }
+      kept-accepted = λ unit x p m.
+          by-bool (eqb unitHere unit)
+          (λ t. subst (λ u. unitPlace s u < s .enrolled → getD after (unitPlace s u * 25 + x) 0 + acceptedOn s (set vs i v) u x ≡ ceilingAt (s .units) (s .notices) (s .capacities) (unitPlace s u) x) (eqb-true unitHere unit t) (left-here x m) p)
+          (λ t. left-other unit x t p m)
 
 -- nothing is accepted at the start
 marks-none : (ls : List Lodgement) (unit : ℕ) → marks ls unit (replicate 128 noVerdict) ≡ replicate 128 false
@@ -177,10 +186,9 @@ marks-none ls unit =
 
 pub kept-start : (s : Session) (none : Verdict) (room : List ℕ) → Within s → none ≡ noVerdict
     → ((p h : ℕ) → p < s .enrolled → h < 25 → getD room (p * 25 + h) 0 ≡ ceilingAt (s .units) (s .notices) (s .capacities) p h) → Kept s (replicate 128 none) room
-unfolding usedIn sumOf sum
-kept-start s none room w e f = record {
-  left = λ unit x p m. rw (e, marks-none (s .lodgements) unit, marked-nothing 128 (take (s .standing) (s .energies))) (omega (arith, f (unitPlace s unit) x p (omega (arith, w .hours))));
-}
+unfolding acceptedOn sumOf sum
+kept-start s none room w e f = λ unit x p m.
+    rw (e, marks-none (s .lodgements) unit, marked-nothing 128 (take (s .standing) (s .energies))) (omega (arith, f (unitPlace s unit) x p (omega (arith, w .hours))))
 
 -- a place that is taken has no verdict yet
 pub not-yet : (b : Book) (turn i : ℕ) (vs : List Verdict) → Reached b turn (i + 1) vs → isTaken b turn i ≡ true → getD vs i noVerdict .accepted ≡ false
@@ -205,8 +213,8 @@ module _ (s : Session) (vs : List Verdict) (room loads : List ℕ) (i : ℕ) (h 
   abbrev judged : Judged
   judged = judgedIn (getD (s .units) (unitPlace s holder) noUnit) (getD (s .notices) (unitPlace s holder) bareNotice) (s .capacities) false (s .hours) own load
 
-  load-is : (x : ℕ) → load (suc x) ≡ getD own x 0 + usedIn s vs holder (suc x)
-  unfolding loadIn usedIn
+  load-is : (x : ℕ) → load (suc x) ≡ getD own x 0 + acceptedOn s vs holder x
+  unfolding loadIn acceptedOn
   load-is x = ap (λ n. n + sumOf (energyIn (suc x)) (marked (marks (s .lodgements) holder vs) (take (s .standing) (s .energies)))) (hourly-suc own x)
 
   module _ (q : unitPlace s holder < s .enrolled) where
@@ -217,14 +225,14 @@ module _ (s : Session) (vs : List Verdict) (room loads : List ℕ) (i : ℕ) (h 
         (λ x a b. let e : suc (x - 1) ≡ x = omega arith in rw e at (under (x - 1) (omega arith)))
       where
         under : (x : ℕ) → x < s .hours → load (suc x) ≤ ceilingAt (s .units) (s .notices) (s .capacities) (unitPlace s holder) x
-        under x m = omega (arith, load-is x, loaded-at s loads i x h (w .standing) lent (omega (arith, w .hours)), f x m, k .left holder x q m)
+        under x m = omega (arith, load-is x, loaded-at s loads i x h (w .standing) lent (omega (arith, w .hours)), f x m, k holder x q m)
 
     judged-lacks : (x : ℕ) → x < s .hours → getD room (unitPlace s holder * 25 + x) 0 < getD loads (i * 25 + x) 0 → Refuses judged
     unfolding ceilingAt
     judged-lacks x m l =
         let own-is = loaded-at s loads i x h (w .standing) lent (omega (arith, w .hours)) in
         judged-over (getD (s .units) (unitPlace s holder) noUnit) (getD (s .notices) (unitPlace s holder) bareNotice) (s .capacities) (s .hours) own load (suc x) (omega arith) m
-        (λ z. absurd (omega (arith, hourly-suc own x))) (omega (arith, load-is x, k .left holder x q m))
+        (λ z. absurd (omega (arith, hourly-suc own x))) (omega (arith, load-is x, k holder x q m))
 
   -- what the room holds is accepted
   pub admitted : (v : Verdict) → v ≡ verdictBy Clear → Fits room (unitPlace s holder) loads i (s .hours) true → JudgesAt s vs i v

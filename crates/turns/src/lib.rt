@@ -2,10 +2,10 @@
 ghost use mathlib.Core.Path.{_≡_};
 ghost use Prim.Native.Nat.{ℕ, _<_};
 ghost use lib.ListN.{getD, length};
-ghost use Rattle.session.specs.Image.{noLodgement};
+ghost use Rattle.rules.specs.Book.{Book};
+ghost use Rattle.session.specs.Image.{image, Sound, noLodgement};
 ghost use Rattle.session.specs.Parts.{Within};
-ghost use Rattle.validation.specs.Turns.{Loaded};
-ghost use Rattle.turns.specs.Passes.{turnIn, TakesAt, Held, PassesTurn};
+ghost use Rattle.turns.specs.Passes.{turnIn, TakesAt, Prepared, ClosingAt};
 use keys::is_hidden;
 use room::admits;
 use session::Key;
@@ -51,8 +51,8 @@ fn takes(s: Session, turn: u32, l: Lodgement) -> bool
     !is_hidden(lodgements, s.standing, key)
 }
 
-// One turn: "latest number first", each judged with what was accepted before it. One that the room under its unit's ceiling
-// holds passes no limit; another's limit and hour are looked for.
+// One turn, from its last place to its first: "latest number first", each judged with what was accepted before it. One that the room
+// under its unit's ceiling holds passes no limit; another's limit and hour are looked for.
 pub fn pass(
     s: Session,
     loads: &[u32; 3200],
@@ -61,8 +61,10 @@ pub fn pass(
     turn: u32,
     verdicts: [Verdict; 128],
 ) -> [Verdict; 128]
-    requires { ⌜ Within s × Loaded s (now loads) × Held s (now holders) × (length (now room) ≡ 1625) ⌝ }
-    ensures { λ r. ⌜ (length (now (room .exit)) ≡ 1625) × PassesTurn s turn verdicts (now (room .entry)) r (now (room .exit)) ⌝ }
+    requires { ⌜ Within s × Prepared s (now loads) (now holders) (now room) ⌝ }
+    ensures { λ r. ⌜ ((b : Book) → Sound b → s ≡ image b
+        → ClosingAt s b turn (s .standing) verdicts (now (room .entry)) → ClosingAt s b turn 0 r (now (room .exit))) ⌝ }
+    ensures { λ _. ⌜ length (now (room .exit)) ≡ 1625 ⌝ }
 {
     let mut given = verdicts;
     let lodgements = s.lodgements;

@@ -36,8 +36,9 @@ use Rattle.limits.specs.Limits.{judgedIn}
 use Rattle.limits.proofs.NoticeLaws.{judged-as}
 use Rattle.loads.proofs.MarkLaws.{load-keep}
 use Rattle.limits.proofs.PlaceLaws.{judged-places, judged-same}
-use Rattle.validation.specs.Turns.{beyond, standingAt, verdictAt, turnAt, isTaken, verdictSoFar, Reached, Loaded, JudgesAt, countsOn, countsAt, verdictBy}
+use Rattle.validation.specs.Turns.{beyond, standingAt, verdictAt, turnAt, isTaken, Reached, Loaded, JudgesAt, countsOn, countsAt, verdictBy}
 use Rattle.validation.proofs.CountLaws.{length-from, places-at, counted-as}
+use Rattle.validation.proofs.PlaceLaws.{verdictSoFar, so-far}
 use Rattle.validation.proofs.TurnLaws.{closing-before, taken-turn, verdict-at}
 use Rattle.validation.proofs.StandingLaws.{stands, lodgement-at, energies-at, loaded-at}
 
@@ -66,7 +67,7 @@ module _ (s : Session) (b : Book) (sound : Sound b) (e : s ≡ image b) (vs : Li
   counts-before : (j : ℕ) → j < length (b .standing) → countsAt (l .key .unit) vs (s .lodgements) j ≡ before (standingAt b j)
   unfolding countsAt countsOn verdictSoFar
   counts-before j k =
-      rw (r .at j, lodgement-at s b e j (omega (arith, standing-as s b e)) noLodgement, closing-before b (sound .ranges .standing .rising) turn i j (stands s b e i h) k of-turn, verdict-at b j k)
+      rw (so-far (turnAt b) (verdictAt b) turn (i + 1) vs r j, lodgement-at s b e j (omega (arith, standing-as s b e)) noLodgement, closing-before b (sound .ranges .standing .rising) turn i j (stands s b e i h) k of-turn, verdict-at b j k)
       (counted-as (takenBefore (standingAt b j) l) (verdictOf b (standingAt b j)) (eqb (standingAt b j .key .unit) (l .key .unit)))
 
   -- the marks of those that are counted

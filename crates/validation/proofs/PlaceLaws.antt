@@ -17,7 +17,7 @@ use Rattle.rules.proofs.BoolLaws.{by-bool}
 use Rattle.rules.proofs.ListLaws.{all-at}
 use Rattle.session.specs.Image.{verdictAs, noVerdict}
 use Rattle.session.specs.declared.Verdict.{Verdict}
-use Rattle.validation.specs.Turns.{hasPassed, verdictSoFar, ReachedBy}
+use Rattle.validation.specs.Turns.{hasPassed, ReachedBy}
 
 and-false : (x : Bool) → (x && false) ≡ false
 and-false true = refl
@@ -49,8 +49,20 @@ module _ {A : Type 0} (number : A → ℕ) (d : A) where
   unfolding hasPassed isBefore
   passed-before turns at f n turn i j h k e = rw (← e, f i, f j, later-places n i j h k)
 
+-- the verdict of place j when a closing stands at place i of a turn, none yet where it is not passed
+unfoldable pub verdictSoFar : (ℕ → ℕ) → (ℕ → C.Verdict) → ℕ → ℕ → ℕ → Verdict
+verdictSoFar turns given turn i j = cond (hasPassed turns turn i j) (verdictAs (given j)) noVerdict
+
 module _ (turns : ℕ → ℕ) (given : ℕ → C.Verdict) where
   -- Verdicts so far
+
+  pub so-far : (turn i : ℕ) (vs : List Verdict) → ReachedBy turns given turn i vs → (j : ℕ) → getD vs j noVerdict ≡ verdictSoFar turns given turn i j
+  unfolding verdictSoFar
+  so-far turn i vs r j = by-bool (hasPassed turns turn i j) (λ t. rw t (r .passed j t)) (λ t. rw t (r .waiting j t))
+
+  reached-so-far : (turn i : ℕ) (vs : List Verdict) → ((j : ℕ) → getD vs j noVerdict ≡ verdictSoFar turns given turn i j) → ReachedBy turns given turn i vs
+  unfolding verdictSoFar
+  reached-so-far turn i vs f = record { passed = λ j t. f j ∙ rw t; waiting = λ j t. f j ∙ rw t }
 
   blank : (t : Bool) (v : C.Verdict) → v ≡ C.hidden → cond t (verdictAs v) noVerdict ≡ noVerdict
   unfolding verdictAs
@@ -84,9 +96,9 @@ module _ (turns : ℕ → ℕ) (given : ℕ → C.Verdict) where
       (λ t. so-far-same turn (i + 1) turn i i (rw t))
 
   pub by-past : (turn i : ℕ) (vs : List Verdict) → (eqb (turns i) turn ≡ true → given i ≡ C.hidden) → ReachedBy turns given turn (i + 1) vs → ReachedBy turns given turn i vs
-  by-past turn i vs f r = record {
-    at = λ j. r .at j ∙ by-bool (eqb j i) (λ t. let q = eqb-true j i t in rw q (skipped turn i f)) (λ t. so-far-other turn i j (eqb-false j i t));
-  }
+  by-past turn i vs f r =
+      reached-so-far turn i vs
+      (λ j. so-far turn (i + 1) vs r j ∙ by-bool (eqb j i) (λ t. let q = eqb-true j i t in rw q (skipped turn i f)) (λ t. so-far-other turn i j (eqb-false j i t)))
 
   -- a place that is taken has its verdict
   taken-now : (turn i : ℕ) → turns i ≡ turn → verdictSoFar turns given turn i i ≡ verdictAs (given i)
@@ -95,16 +107,16 @@ module _ (turns : ℕ → ℕ) (given : ℕ → C.Verdict) where
 
   pub by-taken : (turn i : ℕ) (vs : List Verdict) (v : Verdict) → i < length vs → turns i ≡ turn → v ≡ verdictAs (given i)
       → ReachedBy turns given turn (i + 1) vs → ReachedBy turns given turn i (set vs i v)
-  by-taken turn i vs v h e q r = record {
-    at = λ j. by-bool (eqb j i)
-        (λ t. let p = eqb-true j i t in rw (p, getD-set-same vs i v noVerdict h) (q ∙ sym (taken-now turn i e)))
-        (λ t. getD-set-other vs i j v noVerdict (eqb-false j i t) ∙ r .at j ∙ so-far-other turn i j (eqb-false j i t));
-  }
+  by-taken turn i vs v h e q r =
+      reached-so-far turn i (set vs i v)
+      (λ j. by-bool (eqb j i)
+      (λ t. let p = eqb-true j i t in rw (p, getD-set-same vs i v noVerdict h) (q ∙ sym (taken-now turn i e)))
+      (λ t. getD-set-other vs i j v noVerdict (eqb-false j i t) ∙ so-far turn (i + 1) vs r j ∙ so-far-other turn i j (eqb-false j i t)))
 
   -- and none before
   pub by-not-yet : (turn i : ℕ) (vs : List Verdict) → ReachedBy turns given turn (i + 1) vs → turns i ≡ turn → getD vs i noVerdict ≡ noVerdict
-  unfolding verdictSoFar hasPassed
-  by-not-yet turn i vs r e = r .at i ∙ rw (le-ltb (turns i) turn (omega arith), lt-leb (i + 1) i (omega arith), and-false (eqb (turns i) turn))
+  unfolding hasPassed
+  by-not-yet turn i vs r e = r .waiting i (rw (le-ltb (turns i) turn (omega arith), lt-leb (i + 1) i (omega arith)) (and-false (eqb (turns i) turn)))
 
   -- From turn to turn
 
@@ -119,7 +131,7 @@ module _ (turns : ℕ → ℕ) (given : ℕ → C.Verdict) where
     not-passed j e = rw e
 
     pub by-first : ReachedBy turns given 0 n (replicate 128 noVerdict)
-    by-first = record { at = λ j. blanks j ∙ sym (none-yet j) }
+    by-first = reached-so-far 0 n (replicate 128 noVerdict) (λ j. blanks j ∙ sym (none-yet j))
       where
         blanks : (j : ℕ) → getD (replicate 128 noVerdict) j noVerdict ≡ noVerdict
         blanks j = by-bool (ltb j 128) (λ t. getD-replicate 128 j noVerdict noVerdict (ltb-true j 128 t))
@@ -141,7 +153,7 @@ module _ (turns : ℕ → ℕ) (given : ℕ → C.Verdict) where
         above a d = ⊎-elim (λ e. absurd (d (sym e))) (λ m. omega arith) (eq-or-lt-of-le a)
 
     pub by-next : (turn next : ℕ) (vs : List Verdict) → next ≡ turn + 1 → ReachedBy turns given turn 0 vs → ReachedBy turns given next n vs
-    by-next turn next vs e r = rw e (record { at = λ j. r .at j ∙ on j })
+    by-next turn next vs e r = rw e (reached-so-far (turn + 1) n vs (λ j. so-far turn 0 vs r j ∙ on j))
       where
         on : (j : ℕ) → verdictSoFar turns given turn 0 j ≡ verdictSoFar turns given (turn + 1) n j
         on j = by-bool (ltb j n) (λ t. so-far-same turn 0 (turn + 1) n j (turn-ends turn j (ltb-true _ _ t)))
@@ -158,9 +170,5 @@ module _ (turns : ℕ → ℕ) (given : ℕ → C.Verdict) where
       or-true true = refl
       or-true false = refl
 
-  last-verdict : (turn j : ℕ) → turns j ≤ turn → verdictSoFar turns given turn 0 j ≡ verdictAs (given j)
-  unfolding verdictSoFar
-  last-verdict turn j h = rw (all-passed turn j h)
-
   pub by-last : (turn : ℕ) (vs : List Verdict) → ((j : ℕ) → turns j ≤ turn) → ReachedBy turns given turn 0 vs → (j : ℕ) → getD vs j noVerdict ≡ verdictAs (given j)
-  by-last turn vs f r j = r .at j ∙ last-verdict turn j (f j)
+  by-last turn vs f r j = r .passed j (all-passed turn j (f j))

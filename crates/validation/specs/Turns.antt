@@ -1,7 +1,7 @@
 -- How far a closing has come, and what the session's verdicts are there.
 use Prim.Native.Nat.{ℕ, _+_, _≤_}
 use mathlib.Core.Path.{_≡_}
-use mathlib.Core.Bool.{Bool, true, false, cond, not, _&&_, _||_}
+use mathlib.Core.Bool.{Bool, true, false, not, _&&_, _||_}
 use mathlib.Core.List.{List, []}
 use lib.Dec.{ltb, leb, eqb}
 use lib.ListN.{length, getD, take}
@@ -19,17 +19,16 @@ use Rattle.session.specs.declared.Judged.the-variants.{No, Clear}
 
 -- By turns, the last place first
 
--- "latest number first": what stands at place i of a turn has passed the earlier turns, and of its own the places from i on
+-- "within each, latest number first": a closing at place i of a turn has passed the earlier turns, and of this one the places from i on
 unfoldable pub hasPassed : (ℕ → ℕ) → ℕ → ℕ → ℕ → Bool
 hasPassed turns turn i j = ltb (turns j) turn || (eqb (turns j) turn && leb i j)
 
--- the verdict of place j there, none yet where it is not passed
-unfoldable pub verdictSoFar : (ℕ → ℕ) → (ℕ → C.Verdict) → ℕ → ℕ → ℕ → Verdict
-verdictSoFar turns given turn i j = cond (hasPassed turns turn i j) (verdictAs (given j)) noVerdict
-
--- these verdicts are those there
+-- The verdicts of a closing there.
 pub record ReachedBy (turns : ℕ → ℕ) (given : ℕ → C.Verdict) (turn i : ℕ) (vs : List Verdict) : Type 0 where
-  pub at : (j : ℕ) → getD vs j noVerdict ≡ verdictSoFar turns given turn i j
+  -- a place that is passed has its verdict
+  pub passed : (j : ℕ) → hasPassed turns turn i j ≡ true → getD vs j noVerdict ≡ verdictAs (given j)
+  -- and another has none yet
+  pub waiting : (j : ℕ) → hasPassed turns turn i j ≡ false → getD vs j noVerdict ≡ noVerdict
 
 -- The book's side
 

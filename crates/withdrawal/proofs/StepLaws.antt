@@ -14,7 +14,8 @@ use Rattle.arrays.specs.Places.{layOn}
 use Rattle.arrays.proofs.PlaceLaws.{lay-at, lay-length}
 use Rattle.arrays.proofs.LayLaws.{lay-beyond}
 use Rattle.matching.specs.declared.Offers.{Offers}
-use Rattle.matching.specs.View.{offersOf, Matched}
+use Rattle.matching.specs.View.{offersOf, Sound, Matched}
+use Rattle.matching.specs.Orders.{Ordered, Along}
 use Rattle.borders.specs.Ways.{overIn}
 use Rattle.overrun.specs.Kept.{keptAt}
 use Rattle.overrun.specs.Lent.{Lent}
@@ -23,6 +24,11 @@ use Rattle.overrun.specs.declared.Group.{Group}
 use Rattle.overrun.specs.Group.{groupIn}
 use Rattle.taking.specs.Given.{Lower}
 use Rattle.withdrawal.specs.Steps.{Stepped}
+
+-- keys of lent arrays are those of their hour
+pub along-lent : {side : Bool} {h : Offers} {n : ℕ} {border : List ℕ} {purchase legacy : List Bool} {price keys : List ℕ} {k : ℕ}
+    → Sound h → Lent h n border purchase legacy price → Ordered side n price purchase keys k → Along side h price keys k
+along-lent s t o = record { sound = s; prices = t .prices; order = rw (t .counts, t .prices, t .sides) o }
 
 -- what is written anew is as long as before
 pub anew-long : (f : ℕ → ℕ → ℕ) (n : ℕ) (e : List ℕ) {l : List ℕ} → l ≡ layOn f n 0 e → length e ≡ 128 → length l ≡ 128
@@ -55,8 +61,9 @@ module _ (over : List ℕ) (m : List ℕ) (n : ℕ) (border : List ℕ) (purchas
         traded = r .traded matched;
         lower = after-lower e l w q d;
         within = r .within;
-        offered-beyond = λ i k. d .beyond i (omega (arith, t .counts)) ∙ rw q (lay-beyond (keptAt over border purchase legacy m) n 0 i e (omega (arith, t .counts)));
-        matched-beyond = r .beyond;
-        offered-long = d .long ∙ rw q (lay-length (keptAt over border purchase legacy m) n 0 e);
-        matched-long = r .long;
+        offered-written = record {
+          beyond = λ i k. d .beyond i (omega (arith, t .counts)) ∙ rw q (lay-beyond (keptAt over border purchase legacy m) n 0 i e (omega (arith, t .counts)));
+          long = d .long ∙ rw q (lay-length (keptAt over border purchase legacy m) n 0 e);
+        };
+        matched-written = record { beyond = r .beyond; long = r .long };
       }

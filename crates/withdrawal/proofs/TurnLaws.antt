@@ -23,8 +23,8 @@ use Rattle.borders.specs.Ways.{publishedIn, overIn}
 use Rattle.borders.specs.Flows.{BorderFlows}
 use Rattle.borders.specs.Limits.{nonEmpty}
 use Rattle.overrun.specs.Lent.{Lent}
-use Rattle.withdrawal.specs.Steps.{Stepped}
-use Rattle.withdrawal.specs.Turns.{Energies, Turning, Withdrew}
+use Rattle.withdrawal.specs.Steps.{Energies, Stepped}
+use Rattle.withdrawal.specs.Turns.{Turning, Withdrew}
 
 -- energies stay in their range
 pub energies-stepped : {h : Offers} {over e m e′ m′ : List ℕ} {v : ℕ} → Energies (h .count) e m → Stepped h over e m e′ m′ v → Energies (h .count) e′ m′
@@ -32,10 +32,10 @@ energies-stepped {h} k s = record {
   small = λ i. le-trans (s .lower i) (k .small i);
   part = λ i. by-bool (ltb i (h .count))
       (λ t. le-trans (s .within i (omega (arith, ltb-true i (h .count) t))) (le-trans (s .lower i) (k .small i)))
-      (λ t. rw (s .matched-beyond i (omega (arith, ltb-false i (h .count) t))) (k .part i));
+      (λ t. rw (s .matched-written .beyond i (omega (arith, ltb-false i (h .count) t))) (k .part i));
   within = s .within;
-  offered-long = s .offered-long ∙ k .offered-long;
-  matched-long = s .matched-long ∙ k .matched-long;
+  offered-long = s .offered-written .long ∙ k .offered-long;
+  matched-long = s .matched-written .long ∙ k .matched-long;
 }
 
 -- what is offered of the first n

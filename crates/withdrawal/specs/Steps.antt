@@ -8,14 +8,33 @@ use Rattle.rules.specs.Withdrawal.{step}
 use Rattle.matching.specs.declared.Offers.{Offers}
 use Rattle.matching.specs.View.{offersOf}
 use Rattle.borders.specs.Ways.{overIn}
+use Rattle.borders.specs.Located.{Ranged}
 
--- energies e, m of an hour before a step of the directions in `over`, and after it; v is the volume
-pub record Stepped (h : Offers) (over e m after matched : List ℕ) (v : ℕ) : Type 0 where
-  pub offers : offersOf h after matched ≡ step (overIn over) (offersOf h e m)
-  pub traded : v ≡ volume (offersOf h after matched)
-  pub lower : (i : ℕ) → getD after i 0 ≤ getD e i 0
-  pub within : (i : ℕ) → i < h .count → getD matched i 0 ≤ getD after i 0
-  pub offered-beyond : (i : ℕ) → h .count ≤ i → getD after i 0 ≡ getD e i 0
-  pub matched-beyond : (i : ℕ) → h .count ≤ i → getD matched i 0 ≡ getD m i 0
-  pub offered-long : length after ≡ length e
-  pub matched-long : length matched ≡ length m
+-- What is offered and matched of n offers, as a step asks for it and leaves it.
+pub record Energies (n : ℕ) (offered matched : List ℕ) : Type 0 where
+  -- in the range of energies
+  pub small : Ranged offered
+  pub part : Ranged matched
+  -- no more matched than offered
+  pub within : (i : ℕ) → i < n → getD matched i 0 ≤ getD offered i 0
+  -- arrays of 128
+  pub offered-long : length offered ≡ 128
+  pub matched-long : length matched ≡ 128
+
+-- only the first n of an array are written
+pub record Written (n : ℕ) (before after : List ℕ) : Type 0 where
+  pub beyond : (i : ℕ) → n ≤ i → getD after i 0 ≡ getD before i 0
+  pub long : length after ≡ length before
+
+-- A step of an hour's offers: what is offered and matched before it, and after it; `over` has the excesses by direction.
+pub record Stepped (h : Offers) (over offered matched offered′ matched′ : List ℕ) (v : ℕ) : Type 0 where
+  -- the rules' step, "Match again" included
+  pub offers : offersOf h offered′ matched′ ≡ step (overIn over) (offersOf h offered matched)
+  -- v is the volume of that match
+  pub traded : v ≡ volume (offersOf h offered′ matched′)
+  -- none offers more than before, and no more is matched than offered
+  pub lower : (i : ℕ) → getD offered′ i 0 ≤ getD offered i 0
+  pub within : (i : ℕ) → i < h .count → getD matched′ i 0 ≤ getD offered′ i 0
+  -- nothing is written behind the offers
+  pub offered-written : Written (h .count) offered offered′
+  pub matched-written : Written (h .count) matched matched′

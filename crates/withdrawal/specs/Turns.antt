@@ -1,28 +1,30 @@
 -- The repetition of the step.
-use Prim.Native.Nat.{ℕ, _≤_, _<_}
+use Prim.Native.Nat.{ℕ}
 use mathlib.Core.Path.{_≡_}
 use mathlib.Core.Bool.{Bool}
 use mathlib.Core.List.{List}
-use lib.ListN.{getD, length}
-use Rattle.rules.specs.Units.{maxEnergy}
 use Rattle.rules.specs.Match.{volume}
 use Rattle.rules.specs.Withdrawal.{repeat, withdraw}
 use Rattle.matching.specs.declared.Offers.{Offers}
-use Rattle.matching.specs.View.{offersOf}
+use Rattle.matching.specs.declared.Order.{Order}
+use Rattle.matching.specs.View.{offersOf, Sound}
+use Rattle.matching.specs.Orders.{LaidOut}
 use Rattle.borders.specs.Ways.{publishedIn}
+use Rattle.borders.specs.Located.{Crossing}
 use Rattle.withdrawal.specs.declared.Ended.{Ended}
+use Rattle.withdrawal.specs.Steps.{Energies}
 
--- the first n are at borders 0 to 4
-abbrev pub Crossing : ℕ → List ℕ → Type 0
-Crossing n border = (i : ℕ) → i < n → getD border i 0 < 5
-
--- what is offered and matched of n offers: in the range of energies, and no more matched than offered
-pub record Energies (n : ℕ) (offered matched : List ℕ) : Type 0 where
-  pub small : (i : ℕ) → getD offered i 0 ≤ maxEnergy
-  pub part : (i : ℕ) → getD matched i 0 ≤ maxEnergy
-  pub within : (i : ℕ) → i < n → getD matched i 0 ≤ getD offered i 0
-  pub offered-long : length offered ≡ 128
-  pub matched-long : length matched ≡ 128
+-- An hour after its first match, which a withdrawal starts from; v is the volume.
+pub record FirstMatched (o : Offers) (sales purchases : Order) (offered matched : List ℕ) (v : ℕ) : Type 0 where
+  -- its offers stand by rising lodging number
+  pub sound : Sound o
+  -- each is domestic or at one of the four borders
+  pub borders : Crossing (o .count) (o .border)
+  -- both sides in their orders
+  pub laid : LaidOut (o .count) (o .price) (o .purchase) (sales .keys) (sales .count) (purchases .keys) (purchases .count)
+  -- energies in their range, and no more matched than offered
+  pub energies : Energies (o .count) offered matched
+  pub traded : v ≡ volume (offersOf o offered matched)
 
 -- a withdrawal, from energies e, m to e′, m′
 pub record Withdrew (h : Offers) (published : List Bool) (maxima e m e′ m′ : List ℕ) (r : Ended) : Type 0 where

@@ -1,20 +1,14 @@
 // The withdrawal on the arrays of an hour: its step, and the repetition (document 01, "Withdrawal step").
 use matching::Offers;
 use matching::Order;
-ghost use mathlib.Core.Path.{_≡_};
-ghost use mathlib.Core.Bool.{true, false};
-ghost use Prim.Native.Nat.{ℕ, _<_, _≤_};
-ghost use lib.ListN.{length, getD};
-ghost use Rattle.rules.specs.Units.{maxEnergy, maxPrice};
-ghost use Rattle.rules.specs.Match.{volume};
 ghost use Rattle.matching.specs.declared.Offers.{Offers};
-ghost use Rattle.matching.specs.View.{offersOf};
-ghost use Rattle.matching.specs.Orders.{Along};
-ghost use Rattle.arrays.specs.Listing.{Listed};
+ghost use Rattle.matching.specs.View.{offersOf, Sound};
+ghost use Rattle.matching.specs.Orders.{LaidOut};
 ghost use Rattle.borders.specs.Flows.{MarketFlows};
+ghost use Rattle.borders.specs.Located.{Located};
 ghost use Rattle.overrun.specs.Lent.{Lent};
-ghost use Rattle.withdrawal.specs.Steps.{Stepped};
-ghost use Rattle.withdrawal.specs.Turns.{Energies, Crossing, Withdrew};
+ghost use Rattle.withdrawal.specs.Steps.{Energies, Stepped};
+ghost use Rattle.withdrawal.specs.Turns.{FirstMatched, Withdrew};
 
 // How a withdrawal ended: the count of its steps, and the volume of the last match.
 pub struct Ended {
@@ -22,9 +16,9 @@ pub struct Ended {
     pub volume: u32,
 }
 
-// One step, of the directions with an excess above 0, and the volume after it. `at` lists the places of the offers at a border: they
-// alone keep less, set a price and give way; C and V′ are of all. 5. "Match again."
-pub fn step<'a>(
+// One step, of the directions with an excess above 0, and the volume after it: the rules' step of every hour that has the lent arrays.
+// `at` lists the places of the offers at a border: they alone keep less, set a price and give way; C and V′ are of all. 5. "Match again."
+fn step<'a>(
     offered: &mut [u32; 128],
     matched: &mut [u32; 128],
     n: usize,
@@ -39,11 +33,11 @@ pub fn step<'a>(
     purchases: &[u32; 128],
     np: usize,
 ) -> u32
-    requires { ⌜ (n ≤ 128) × (ns ≤ 128) × (np ≤ 128) × ((i : ℕ) → i < n → getD (now border) i 0 < 5) × ((i : ℕ) → i < n → getD (now price) i 0 ≤ maxPrice) × ((i : ℕ) → getD (now offered) i 0 ≤ maxEnergy) × ((i : ℕ) → getD (now matched) i 0 ≤ maxEnergy) × ((i : ℕ) → i < n → getD (now matched) i 0 ≤ getD (now offered) i 0) × (length (now offered) ≡ 128) × (length (now matched) ≡ 128) × Listed (now border) n (now at) ⌝ }
-    ensures { λ r. ⌜ ((h : Offers)
+    requires { ⌜ Located n (now border) (now at)
+        × LaidOut n (now price) (now purchase) (now sales) ns (now purchases) np
+        × Energies n (now offered) (now matched) ⌝ }
+    ensures { λ r. ⌜ ((h : Offers) → Sound h
         → Lent h n (now (border .entry)) (now (purchase .entry)) (now (legacy .entry)) (now (price .entry))
-        → Along false h (now (price .entry)) (now (sales .entry)) ns
-        → Along true h (now (price .entry)) (now (purchases .entry)) np
         → Stepped h (now (over .entry)) (now (offered .entry)) (now (matched .entry)) (now (offered .exit)) (now (matched .exit)) r) ⌝ }
 {
     overrun::keep_matched(offered, n, at, over, border, purchase, legacy, matched);
@@ -74,9 +68,7 @@ fn repeat(
     published: &[bool; 10],
     maxima: &[u32; 10],
 ) -> Ended
-    requires { ⌜ Crossing (o .count) (o .border) × Energies (o .count) (now offered) (now matched)
-        × Along false o (o .price) (sales .keys) (sales .count) × Along true o (o .price) (purchases .keys) (purchases .count)
-        × (first ≡ volume (offersOf o (now offered) (now matched))) ⌝ }
+    requires { ⌜ FirstMatched o sales purchases (now offered) (now matched) first ⌝ }
     ensures { λ r. ⌜ Withdrew o (now (published .entry)) (now (maxima .entry)) (now (offered .entry)) (now (matched .entry)) (now (offered .exit)) (now (matched .exit)) r ⌝ }
 {
     let n = o.count;
@@ -127,9 +119,7 @@ pub fn withdraw(
     maxima: &[u32; 10],
     market: &[u32; 10],
 ) -> Ended
-    requires { ⌜ Crossing (o .count) (o .border) × Energies (o .count) (now offered) (now matched)
-        × Along false o (o .price) (sales .keys) (sales .count) × Along true o (o .price) (purchases .keys) (purchases .count)
-        × (first ≡ volume (offersOf o (now offered) (now matched))) × MarketFlows (now market) (offersOf o (now offered) (now matched)) ⌝ }
+    requires { ⌜ FirstMatched o sales purchases (now offered) (now matched) first × MarketFlows (now market) (offersOf o (now offered) (now matched)) ⌝ }
     ensures { λ r. ⌜ Withdrew o (now (published .entry)) (now (maxima .entry)) (now (offered .entry)) (now (matched .entry)) (now (offered .exit)) (now (matched .exit)) r ⌝ }
 {
     let over = borders::excesses(published, maxima, market);

@@ -22,7 +22,7 @@ unfolding behind
 loop-holds c = (omega arith, refl, (λ w. omega (arith, zeros 10 w)), (λ ls w h. omega (arith, zeros 10 w)))
 
 add-f : tie.Need-add-f Inv-loop μ-loop
-add-f c = omega (arith, c .before .before .before .before .before .before .before .before .pre .3 .few, c .before .before .before .before .before .before .loop .inv .2 (c .before .way .result), c .before .before .before .before .before .before .before .before .pre .2 (getD (c .before .before .before .before .before .before .before .before .args .at .now) (c .before .before .before .before .before .before .loop .k) 0))
+add-f c = omega (arith, c .before .before .before .before .before .before .before .before .pre .0 .listed .few, c .before .before .before .before .before .before .loop .inv .2 (c .before .way .result), c .before .before .before .before .before .before .before .before .pre .1 (getD (c .before .before .before .before .before .before .before .before .args .at .now) (c .before .before .before .before .before .before .loop .k) 0))
 
 loop-again : tie.Need-loop-again Inv-loop μ-loop
 loop-again c =
@@ -34,15 +34,15 @@ loop-again c =
     let new = getD (l .f) v 0 + x in (
       omega arith,
       length-set (l .f) v new ∙ l .inv .1,
-      set-more (maxEnergy * l .k) (maxEnergy * (l .k + 1)) v new (l .f) (l .inv .2) (omega (arith, l .inv .2 v, s .2 (getD (a .at .now) (l .k) 0))) (omega arith),
-      counting-next (a .border .now) (a .purchase .now) (a .energy .now) (s .3) (l .f) (l .k) v x (omega arith) (c .before .way .ensures .0) (omega arith) refl (l .inv .3),
+      set-more (maxEnergy * l .k) (maxEnergy * (l .k + 1)) v new (l .f) (l .inv .2) (omega (arith, l .inv .2 v, s .1 (getD (a .at .now) (l .k) 0))) (omega arith),
+      counting-next (a .border .now) (a .purchase .now) (a .energy .now) (s .0 .listed) (l .f) (l .k) v x (omega arith) (c .before .way .ensures .0) (omega arith) refl (l .inv .3),
     )
 
 returns : tie.Need-returns Inv-loop μ-loop
 returns c =
     let a = c .before .before .before .args in
     let l = c .before .loop in
-    counting-end (a .border .now) (a .purchase .now) (a .energy .now) (c .before .before .before .pre .3) (l .f) (l .k) (omega arith) (l .inv .3)
+    counting-end (a .border .now) (a .purchase .now) (a .energy .now) (c .before .before .before .pre .0 .listed) (l .f) (l .k) (omega arith) (l .inv .3)
 
 pub abroad-spec : {M : Type 1} → statement M
 abroad-spec =
@@ -53,12 +53,12 @@ abroad-spec =
     loop-holds
     (λ c. search needs)
     (λ c. search needs)
-    (λ c. omega (arith, c .before .before .before .before .pre .3 .inside (c .before .before .loop .k) (omega arith)))
-    (λ c. omega (arith, c .before .before .before .before .pre .3 .inside (c .before .before .loop .k) (omega arith)))
-    (λ c. omega (arith, c .before .before .before .before .before .pre .3 .inside (c .before .before .before .loop .k) (omega arith)))
-    (λ c κs. c .before .before .before .before .before .before .pre .1 _ (c .before .before .before .before .before .before .pre .3 .inside (c .before .before .before .before .loop .k) (omega arith)))
-    (λ c. omega (arith, c .before .before .before .before .before .before .before .pre .3 .inside (c .before .before .before .before .before .loop .k) (omega arith)))
-    (λ c. omega (arith, c .before .before .before .before .before .before .before .pre .3 .inside (c .before .before .before .before .before .loop .k) (omega arith)))
+    (λ c. omega (arith, c .before .before .before .before .pre .0 .listed .inside (c .before .before .loop .k) (omega arith)))
+    (λ c. omega (arith, c .before .before .before .before .pre .0 .listed .inside (c .before .before .loop .k) (omega arith)))
+    (λ c. omega (arith, c .before .before .before .before .before .pre .0 .listed .inside (c .before .before .before .loop .k) (omega arith)))
+    (λ c κs. c .before .before .before .before .before .before .pre .0 .borders _ (c .before .before .before .before .before .before .pre .0 .listed .inside (c .before .before .before .before .loop .k) (omega arith)))
+    (λ c. omega (arith, c .before .before .before .before .before .before .before .pre .0 .listed .inside (c .before .before .before .before .before .loop .k) (omega arith)))
+    (λ c. omega (arith, c .before .before .before .before .before .before .before .pre .0 .listed .inside (c .before .before .before .before .before .loop .k) (omega arith)))
     (λ c. search needs)
     (λ c. search needs)
     add-f

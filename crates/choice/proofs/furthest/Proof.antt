@@ -18,14 +18,14 @@ abbrev μ-loop : tie.MeasureT-loop
 μ-loop side n at over border purchase legacy price matched best₀ k₀ best k = k
 
 loop-holds : tie.Need-loop-holds Inv-loop μ-loop
-loop-holds c = let a = c .before .args in (omega arith, listed-none (a .side) (a .over .now) (a .border .now) (a .purchase .now) (a .legacy .now) (a .price .now) (a .matched .now) (a .n) (c .before .pre .3))
+loop-holds c = let a = c .before .args in (omega arith, listed-none (a .side) (a .over .now) (a .border .now) (a .purchase .now) (a .legacy .now) (a .price .now) (a .matched .now) (a .n) (c .before .pre .0 .listed))
 
 loop-again : tie.Need-loop-again Inv-loop μ-loop
 loop-again c =
     let a = c .before .before .before .before .before .before .before .before .before .before .before .before .args in
     let l = c .before .before .before .before .before .before .before .before .before .before .loop in (
       omega arith,
-      listed-in (a .side) (a .over .now) (a .border .now) (a .purchase .now) (a .legacy .now) (a .price .now) (a .matched .now) (a .n) (c .before .before .before .before .before .before .before .before .before .before .before .before .pre .3) (l .k) (l .k - 1) (l .best)
+      listed-in (a .side) (a .over .now) (a .border .now) (a .purchase .now) (a .legacy .now) (a .price .now) (a .matched .now) (a .n) (c .before .before .before .before .before .before .before .before .before .before .before .before .pre .0 .listed) (l .k) (l .k - 1) (l .best)
           (omega arith) (omega arith) (c .before .before .before .is-priced .ensures) (l .inv .1) _ (c .before .before .if1 .taken) (c .further .ensures),
     )
 
@@ -34,7 +34,7 @@ loop-again-2 c =
     let a = c .before .before .before .before .before .before .before .before .before .before .args in
     let l = c .before .before .before .before .before .before .before .before .loop in (
       omega arith,
-      listed-out (a .side) (a .over .now) (a .border .now) (a .purchase .now) (a .legacy .now) (a .price .now) (a .matched .now) (a .n) (c .before .before .before .before .before .before .before .before .before .before .pre .3) (l .k) (l .k - 1) (l .best)
+      listed-out (a .side) (a .over .now) (a .border .now) (a .purchase .now) (a .legacy .now) (a .price .now) (a .matched .now) (a .n) (c .before .before .before .before .before .before .before .before .before .before .pre .0 .listed) (l .k) (l .k - 1) (l .best)
           (omega arith) (omega arith) (c .before .is-priced .ensures) (l .inv .1) (c .if1 .left),
     )
 
@@ -56,16 +56,16 @@ furthest-spec =
     (λ c. search needs)
     (λ c. search needs)
     (λ c. search needs)
-    (λ c. omega (arith, c .before .before .before .before .pre .3 .inside (c .before .before .loop .k - 1) (omega arith)))
-    (λ c. omega (arith, c .before .before .before .before .pre .3 .inside (c .before .before .loop .k - 1) (omega arith)))
-    (λ c. omega (arith, c .before .before .before .before .before .pre .3 .inside (c .before .before .before .loop .k - 1) (omega arith)))
-    (λ c. omega (arith, c .before .before .before .before .before .before .pre .3 .inside (c .before .before .before .before .loop .k - 1) (omega arith)))
-    (λ c. omega (arith, c .before .before .before .before .before .before .before .pre .3 .inside (c .before .before .before .before .before .loop .k - 1) (omega arith)))
-    (λ c. omega (arith, c .before .before .before .before .before .before .before .pre .3 .inside (c .before .before .before .before .before .loop .k - 1) (omega arith)))
-    (λ c κs. c .before .before .before .before .before .before .before .before .pre .1 _ (c .before .before .before .before .before .before .before .before .pre .3 .inside (c .before .before .before .before .before .before .loop .k - 1) (omega arith)))
-    (λ c. omega (arith, c .before .before .before .before .before .before .before .before .before .before .pre .3 .inside (c .before .before .before .before .before .before .before .before .loop .k - 1) (omega arith)))
-    (λ c. omega (arith, c .before .before .before .before .before .before .before .before .before .before .pre .3 .inside (c .before .before .before .before .before .before .before .before .loop .k - 1) (omega arith)))
-    (λ c κs. c .before .before .before .before .before .before .before .before .before .before .before .pre .2 _ (c .before .before .before .before .before .before .before .before .before .before .before .pre .3 .inside (c .before .before .before .before .before .before .before .before .before .loop .k - 1) (omega arith)))
+    (λ c. omega (arith, c .before .before .before .before .pre .0 .listed .inside (c .before .before .loop .k - 1) (omega arith)))
+    (λ c. omega (arith, c .before .before .before .before .pre .0 .listed .inside (c .before .before .loop .k - 1) (omega arith)))
+    (λ c. omega (arith, c .before .before .before .before .before .pre .0 .listed .inside (c .before .before .before .loop .k - 1) (omega arith)))
+    (λ c. omega (arith, c .before .before .before .before .before .before .pre .0 .listed .inside (c .before .before .before .before .loop .k - 1) (omega arith)))
+    (λ c. omega (arith, c .before .before .before .before .before .before .before .pre .0 .listed .inside (c .before .before .before .before .before .loop .k - 1) (omega arith)))
+    (λ c. omega (arith, c .before .before .before .before .before .before .before .pre .0 .listed .inside (c .before .before .before .before .before .loop .k - 1) (omega arith)))
+    (λ c κs. c .before .before .before .before .before .before .before .before .pre .0 .borders _ (c .before .before .before .before .before .before .before .before .pre .0 .listed .inside (c .before .before .before .before .before .before .loop .k - 1) (omega arith)))
+    (λ c. omega (arith, c .before .before .before .before .before .before .before .before .before .before .pre .0 .listed .inside (c .before .before .before .before .before .before .before .before .loop .k - 1) (omega arith)))
+    (λ c. omega (arith, c .before .before .before .before .before .before .before .before .before .before .pre .0 .listed .inside (c .before .before .before .before .before .before .before .before .loop .k - 1) (omega arith)))
+    (λ c κs. c .before .before .before .before .before .before .before .before .before .before .before .pre .1 _ (c .before .before .before .before .before .before .before .before .before .before .before .pre .0 .listed .inside (c .before .before .before .before .before .before .before .before .before .loop .k - 1) (omega arith)))
     (λ c. search needs)
     loop-again
     (λ c. search needs)

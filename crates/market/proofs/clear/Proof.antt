@@ -20,9 +20,18 @@ first-maxima-requires c κs =
 
 withdraw-requires : tie.Need-withdraw-requires
 withdraw-requires c κs =
+    let s = c .before .before .before .before .before .before .before .before .before .before .before .before .before .before .before .before .before .before in
     let f = c .before .before .before .before .before .before .before .before .before .before .before .before .before .before .before .before .first-match in
-    let b = f .ensures in
-    (c .before .before .before .before .before .before .before .before .before .before .before .before .before .before .before .before .before .before .pre .1, b .energies, b .rising, b .falling, b .matching .traded (f .result .matched), market-flows (c .before .before .before .before .before .before .before .before .before .before .before .before .before .before .before .before .before .before .args .t1) _ _ (c .before .before .before .before .before .before .before .flows .ensures))
+    let b = f .ensures in (
+      record {
+        sound = s .pre .0;
+        borders = s .pre .1;
+        laid = record { prices = s .pre .0 .priced; rising = b .rising .order; falling = b .falling .order };
+        energies = b .energies;
+        traded = b .matching .traded (f .result .matched);
+      },
+      market-flows (s .args .t1) _ _ (c .before .before .before .before .before .before .before .flows .ensures),
+    )
 
 flows-requires-2 : tie.Need-flows-requires-2
 flows-requires-2 c κs = let s = c .before .before .before .before .before .before .before .before .before .before .before .before .before .before .before .before .before .before .before .before .before .before .before .before .pre in (s .0 .few, s .1, c .before .before .before .before .before .withdraw .ensures .kept .part)

@@ -21,14 +21,14 @@ abbrev μ-loop : tie.MeasureT-loop
 
 loop-holds : tie.Need-loop-holds Inv-loop μ-loop
 unfolding behind
-loop-holds c = (omega arith, (λ m h. c .before .pre .2 m), laying-start)
+loop-holds c = (omega arith, (λ m h. c .before .pre .1 m), laying-start)
 
 loop-again : tie.Need-loop-again Inv-loop μ-loop
 unfolding givenAt
 loop-again c =
     let a = c .before .before .before .before .before .before .before .before .before .args in
     let l = c .before .before .before .before .before .before .before .loop in
-    let t = c .before .before .before .before .before .before .before .before .before .pre .3 in (
+    let t = c .before .before .before .before .before .before .before .before .before .pre .0 .listed in (
       omega arith,
       (λ m h. set-behind 0 _ _ (l .ways) (λ j o. l .inv .1 j (le-trans (t .before (l .k) (omega arith) .forward) o)) m (omega (arith, behind-next (a .at .now) (l .k)))),
       listed-next t (λ m o z. domestic-given (a .over .now) (a .g) (a .border .now) (a .purchase .now) (a .legacy .now) (a .price .now) m (getD (l .ways) m 0) z ∙ omega (arith, l .inv .1 m o)) (omega arith) (c .given .ensures) (l .inv .2),
@@ -38,7 +38,7 @@ returns : tie.Need-returns Inv-loop μ-loop
 returns c =
     let a = c .before .before .before .args in
     let l = c .before .loop in
-    listed-end (c .before .before .before .pre .3) (λ m o z. domestic-given (a .over .now) (a .g) (a .border .now) (a .purchase .now) (a .legacy .now) (a .price .now) m (getD (l .ways) m 0) z ∙ omega (arith, l .inv .1 m o)) (omega arith) (l .inv .2)
+    listed-end (c .before .before .before .pre .0 .listed) (λ m o z. domestic-given (a .over .now) (a .g) (a .border .now) (a .purchase .now) (a .legacy .now) (a .price .now) m (getD (l .ways) m 0) z ∙ omega (arith, l .inv .1 m o)) (omega arith) (l .inv .2)
 
 pub all-given-spec : {M : Type 1} → statement M
 all-given-spec =
@@ -49,15 +49,15 @@ all-given-spec =
     loop-holds
     (λ c. search needs)
     (λ c. search needs)
-    (λ c. omega (arith, c .before .before .before .before .pre .3 .inside (c .before .before .loop .k) (omega arith)))
-    (λ c. omega (arith, c .before .before .before .before .pre .3 .inside (c .before .before .loop .k) (omega arith)))
-    (λ c. omega (arith, c .before .before .before .before .before .pre .3 .inside (c .before .before .before .loop .k) (omega arith)))
-    (λ c. omega (arith, c .before .before .before .before .before .before .pre .3 .inside (c .before .before .before .before .loop .k) (omega arith)))
-    (λ c. omega (arith, c .before .before .before .before .before .before .before .pre .3 .inside (c .before .before .before .before .before .loop .k) (omega arith)))
-    (λ c. omega (arith, c .before .before .before .before .before .before .before .pre .3 .inside (c .before .before .before .before .before .loop .k) (omega arith)))
-    (λ c κs. c .before .before .before .before .before .before .before .before .pre .1 _ (c .before .before .before .before .before .before .before .before .pre .3 .inside (c .before .before .before .before .before .before .loop .k) (omega arith)))
-    (λ c. omega (arith, c .before .before .before .before .before .before .before .before .before .pre .3 .inside (c .before .before .before .before .before .before .before .loop .k) (omega arith)))
-    (λ c. omega (arith, c .before .before .before .before .before .before .before .before .before .pre .3 .inside (c .before .before .before .before .before .before .before .loop .k) (omega arith)))
+    (λ c. omega (arith, c .before .before .before .before .pre .0 .listed .inside (c .before .before .loop .k) (omega arith)))
+    (λ c. omega (arith, c .before .before .before .before .pre .0 .listed .inside (c .before .before .loop .k) (omega arith)))
+    (λ c. omega (arith, c .before .before .before .before .before .pre .0 .listed .inside (c .before .before .before .loop .k) (omega arith)))
+    (λ c. omega (arith, c .before .before .before .before .before .before .pre .0 .listed .inside (c .before .before .before .before .loop .k) (omega arith)))
+    (λ c. omega (arith, c .before .before .before .before .before .before .before .pre .0 .listed .inside (c .before .before .before .before .before .loop .k) (omega arith)))
+    (λ c. omega (arith, c .before .before .before .before .before .before .before .pre .0 .listed .inside (c .before .before .before .before .before .loop .k) (omega arith)))
+    (λ c κs. c .before .before .before .before .before .before .before .before .pre .0 .borders _ (c .before .before .before .before .before .before .before .before .pre .0 .listed .inside (c .before .before .before .before .before .before .loop .k) (omega arith)))
+    (λ c. omega (arith, c .before .before .before .before .before .before .before .before .before .pre .0 .listed .inside (c .before .before .before .before .before .before .before .loop .k) (omega arith)))
+    (λ c. omega (arith, c .before .before .before .before .before .before .before .before .before .pre .0 .listed .inside (c .before .before .before .before .before .before .before .loop .k) (omega arith)))
     (λ c. search needs)
     (λ c. search needs)
     loop-again

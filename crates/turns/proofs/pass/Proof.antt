@@ -17,7 +17,7 @@ cast-hours : tie.Need-cast-hours Inv-loop μ-loop
 cast-hours c = search needs
 
 loop-holds : tie.Need-loop-holds Inv-loop μ-loop
-loop-holds c = (omega arith, omega arith, c .before .before .pre .3, left-start _ _ _ _ _ (omega arith))
+loop-holds c = (omega arith, omega arith, c .before .before .pre .1 .rows, left-start _ _ _ _ _ (omega arith))
 
 add-passed : tie.Need-add-passed Inv-loop μ-loop
 add-passed c = search needs
@@ -41,7 +41,7 @@ element-copy-out-p : tie.Need-element-copy-out-p Inv-loop μ-loop
 element-copy-out-p c = search needs
 
 admits-requires : tie.Need-admits-requires Inv-loop μ-loop
-admits-requires c κs = (holder-in (c .before .before .before .before .before .before .before .before .before .args .s) _ (c .before .before .before .before .before .before .before .before .before .pre .0) (c .before .before .before .before .before .before .before .before .before .pre .2) _, omega arith, c .before .before .before .before .before .before .before .before .before .pre .0 .hours, c .before .before .before .before .before .before .loop .inv .2)
+admits-requires c κs = (holder-in (c .before .before .before .before .before .before .before .before .before .args .s) _ (c .before .before .before .before .before .before .before .before .before .pre .0) (c .before .before .before .before .before .before .before .before .before .pre .1 .units) _, omega arith, c .before .before .before .before .before .before .before .before .before .pre .0 .hours, c .before .before .before .before .before .before .loop .inv .2)
 
 accepted-requires : tie.Need-accepted-requires Inv-loop μ-loop
 accepted-requires c κs = search needs
@@ -59,10 +59,10 @@ loop-again : tie.Need-loop-again Inv-loop μ-loop
 loop-again c =
     let a = c .before .before .before .before .before .before .before .before .before .before .before .before .args in
     let s = c .before .before .before .before .before .before .before .before .before .loop in
-    (omega arith, (simp length-set) ∙ s .inv .1, c .before .before .admits .ensures .0, left-admitted (a .s) (a .turn) (a .verdicts) (a .room .now) (a .s .standing - s .passed) _ _ (s .given) (s .room) (omega arith) (omega arith) (omega arith) (s .inv .3) (c .before .before .before .before .before .before .takes .result) (c .before .before .before .before .before .before .takes .ensures _ (omega arith) refl) (c .before .before .before .before .before .if1 .taken) (omega arith) (c .before .before .before .before .before .before .before .before .before .before .before .before .pre .0) (a .loads .now) _ (c .before .before .before .before .before .before .before .before .before .before .before .before .pre .1) _ (c .before .before .before .before .before .before .before .before .before .before .before .before .pre .2 .at _ (omega arith)) (c .accepted .result) (c .before .before .admits .result) (c .before .before .admits .ensures .1) (c .before .if2 .taken) (c .accepted .ensures))
+    (omega arith, (simp length-set) ∙ s .inv .1, c .before .before .admits .ensures .0, left-admitted (a .s) (a .turn) (a .verdicts) (a .room .now) (a .s .standing - s .passed) _ _ (s .given) (s .room) (omega arith) (omega arith) (omega arith) (s .inv .3) (c .before .before .before .before .before .before .takes .result) (c .before .before .before .before .before .before .takes .ensures _ (omega arith) refl) (c .before .before .before .before .before .if1 .taken) (omega arith) (c .before .before .before .before .before .before .before .before .before .before .before .before .pre .0) (a .loads .now) _ (c .before .before .before .before .before .before .before .before .before .before .before .before .pre .1 .energies) _ (c .before .before .before .before .before .before .before .before .before .before .before .before .pre .1 .units .at _ (omega arith)) (c .accepted .result) (c .before .before .admits .result) (c .before .before .admits .ensures .1) (c .before .if2 .taken) (c .accepted .ensures))
 
 judge-place-requires : tie.Need-judge-place-requires Inv-loop μ-loop
-judge-place-requires c κs = (c .before .before .before .before .before .before .before .before .before .before .before .pre .0, omega arith, c .before .before .before .before .before .before .before .before .before .before .before .pre .1)
+judge-place-requires c κs = (c .before .before .before .before .before .before .before .before .before .before .before .pre .0, omega arith, c .before .before .before .before .before .before .before .before .before .before .before .pre .1 .energies)
 
 mul-given-2 : tie.Need-mul-given-2 Inv-loop μ-loop
 mul-given-2 c = search needs
@@ -77,7 +77,7 @@ loop-again-2 : tie.Need-loop-again-2 Inv-loop μ-loop
 loop-again-2 c =
     let a = c .before .before .before .before .before .before .before .before .before .before .before .before .args in
     let s = c .before .before .before .before .before .before .before .before .before .loop in
-    (omega arith, (simp length-set) ∙ s .inv .1, c .before .before .admits .ensures .0, left-refused (a .s) (a .turn) (a .verdicts) (a .room .now) (a .s .standing - s .passed) _ _ (s .given) (s .room) (omega arith) (omega arith) (omega arith) (s .inv .3) (c .before .before .before .before .before .before .takes .result) (c .before .before .before .before .before .before .takes .ensures _ (omega arith) refl) (c .before .before .before .before .before .if1 .taken) (omega arith) (c .before .before .before .before .before .before .before .before .before .before .before .before .pre .0) (a .loads .now) _ (c .before .before .before .before .before .before .before .before .before .before .before .before .pre .1) _ (c .before .before .before .before .before .before .before .before .before .before .before .before .pre .2 .at _ (omega arith)) (c .judge-place .result) (c .before .before .admits .result) (c .before .before .admits .ensures .1) (c .before .if2 .left) (c .judge-place .ensures))
+    (omega arith, (simp length-set) ∙ s .inv .1, c .before .before .admits .ensures .0, left-refused (a .s) (a .turn) (a .verdicts) (a .room .now) (a .s .standing - s .passed) _ _ (s .given) (s .room) (omega arith) (omega arith) (omega arith) (s .inv .3) (c .before .before .before .before .before .before .takes .result) (c .before .before .before .before .before .before .takes .ensures _ (omega arith) refl) (c .before .before .before .before .before .if1 .taken) (omega arith) (c .before .before .before .before .before .before .before .before .before .before .before .before .pre .0) (a .loads .now) _ (c .before .before .before .before .before .before .before .before .before .before .before .before .pre .1 .energies) _ (c .before .before .before .before .before .before .before .before .before .before .before .before .pre .1 .units .at _ (omega arith)) (c .judge-place .result) (c .before .before .admits .result) (c .before .before .admits .ensures .1) (c .before .if2 .left) (c .judge-place .ensures))
 
 loop-less-3 : tie.Need-loop-less-3 Inv-loop μ-loop
 loop-less-3 c = search needs
@@ -92,7 +92,7 @@ returns : tie.Need-returns Inv-loop μ-loop
 returns c =
     let a = c .before .before .before .before .args in
     let s = c .before .loop in
-    (s .inv .2, left-end (a .s) (a .turn) (a .verdicts) (a .room .now) (a .s .standing - s .passed) (s .given) (s .room) (omega arith) (s .inv .3))
+    (left-end (a .s) (a .turn) (a .verdicts) (a .room .now) (a .s .standing - s .passed) (s .given) (s .room) (omega arith) (s .inv .3), s .inv .2)
 
 pub pass-spec : {M : Type 1} → statement M
 pass-spec =

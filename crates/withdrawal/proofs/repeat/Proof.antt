@@ -1,11 +1,11 @@
 use Prim.Native.Nat.{_+_}
 use mathlib.Core.Path.{_≡_, sym, _∙_}
-use native.Mathlib.Nat.{le-trans}
 use native.Mathlib.Omega.{arith}
 use lib.Seq.{length-take-le}
 use borrow.Author.Tests.{not-true, not-false}
 use Rattle.withdrawal.proofs.FlowLaws.{border-flows}
-use Rattle.withdrawal.specs.Turns.{Energies, Turning}
+use Rattle.withdrawal.specs.Steps.{Energies}
+use Rattle.withdrawal.specs.Turns.{Turning}
 use Rattle.withdrawal.proofs.TurnLaws.{lent, one-made, step-fits, energies-stepped, start-said, out-said, end-said, next-said}
 use borrow.Author.Needs.{needs}
 use Rattle.withdrawal.proofs.repeat.Statement.{statement}
@@ -20,22 +20,24 @@ abbrev μ-loop : tie.MeasureT-loop
     left
 
 nonzero-requires : tie.Need-nonzero-requires Inv-loop μ-loop
-nonzero-requires c κs = c .before .before .pre .2 .sound .few
+nonzero-requires c κs = c .before .before .pre .sound .few
 
 array-share-prefix-all : tie.Need-array-share-prefix-all Inv-loop μ-loop
-array-share-prefix-all c = omega (arith, c .before .before .before .before .pre .2 .sound .few)
+array-share-prefix-all c = omega (arith, c .before .before .before .before .pre .sound .few)
 
 slice-aggregate-at : tie.Need-slice-aggregate-at Inv-loop μ-loop
-slice-aggregate-at c = sym (length-take-le _ _ (omega (arith, c .before .before .before .before .before .pre .2 .sound .few)))
+slice-aggregate-at c = sym (length-take-le _ _ (omega (arith, c .before .before .before .before .before .pre .sound .few)))
 
 total-requires : tie.Need-total-requires Inv-loop μ-loop
-total-requires c κs = (omega (arith, c .before .before .before .before .before .before .pre .2 .sound .few), c .before .before .before .before .before .before .pre .1 .small)
+total-requires c κs = (omega (arith, c .before .before .before .before .before .before .pre .sound .few), c .before .before .before .before .before .before .pre .energies .small)
 
 loop-holds : tie.Need-loop-holds Inv-loop μ-loop
-loop-holds c = (omega arith, c .before .before .before .before .before .before .before .pre .1, start-said (c .total .ensures .0) (c .before .before .before .before .before .before .before .pre .4))
+loop-holds c = (omega arith, c .before .before .before .before .before .before .before .pre .energies, start-said (c .total .ensures .0) (c .before .before .before .before .before .before .before .pre .traded))
 
 abroad-requires : tie.Need-abroad-requires Inv-loop μ-loop
-abroad-requires c κs = (c .before .before .before .before .before .before .before .before .before .before .before .before .before .pre .2 .sound .few, c .before .before .before .before .before .before .before .before .before .before .before .before .before .pre .0, c .before .before .before .before .before .loop .inv .1 .part, c .before .before .before .before .before .before .before .before .before .before .nonzero .ensures .2)
+abroad-requires c κs =
+    let s = c .before .before .before .before .before .before .before .before .before .before .before .before .before .pre in
+    (record { few = s .sound .few; borders = s .borders; listed = c .before .before .before .before .before .before .before .before .before .before .nonzero .ensures .2 }, c .before .before .before .before .before .loop .inv .1 .part)
 
 returns : tie.Need-returns Inv-loop μ-loop
 returns c =
@@ -43,23 +45,16 @@ returns c =
     (sym (c .before .passed .ensures) ∙ not-true _ (c .if1 .taken)) (c .before .before .before .before .before .before .before .before .before .before .before .loop .inv .1)
 
 step-requires : tie.Need-step-requires Inv-loop μ-loop
-step-requires c κs = (
-  c .before .before .before .before .before .before .before .before .before .before .before .before .before .before .before .before .before .before .before .before .before .before .before .before .before .before .before .before .before .before .before .pre .2 .sound .few,
-  le-trans (c .before .before .before .before .before .before .before .before .before .before .before .before .before .before .before .before .before .before .before .before .before .before .before .before .before .before .before .before .before .before .before .pre .2 .order .few) (c .before .before .before .before .before .before .before .before .before .before .before .before .before .before .before .before .before .before .before .before .before .before .before .before .before .before .before .before .before .before .before .pre .2 .sound .few),
-  le-trans (c .before .before .before .before .before .before .before .before .before .before .before .before .before .before .before .before .before .before .before .before .before .before .before .before .before .before .before .before .before .before .before .pre .3 .order .few) (c .before .before .before .before .before .before .before .before .before .before .before .before .before .before .before .before .before .before .before .before .before .before .before .before .before .before .before .before .before .before .before .pre .2 .sound .few),
-  c .before .before .before .before .before .before .before .before .before .before .before .before .before .before .before .before .before .before .before .before .before .before .before .before .before .before .before .before .before .before .before .pre .0,
-  c .before .before .before .before .before .before .before .before .before .before .before .before .before .before .before .before .before .before .before .before .before .before .before .before .before .before .before .before .before .before .before .pre .2 .sound .priced,
-  c .before .before .before .before .before .before .before .before .before .before .before .before .before .before .before .before .before .before .before .before .before .before .before .loop .inv .1 .small,
-  c .before .before .before .before .before .before .before .before .before .before .before .before .before .before .before .before .before .before .before .before .before .before .before .loop .inv .1 .part,
-  c .before .before .before .before .before .before .before .before .before .before .before .before .before .before .before .before .before .before .before .before .before .before .before .loop .inv .1 .within,
-  c .before .before .before .before .before .before .before .before .before .before .before .before .before .before .before .before .before .before .before .before .before .before .before .loop .inv .1 .offered-long,
-  c .before .before .before .before .before .before .before .before .before .before .before .before .before .before .before .before .before .before .before .before .before .before .before .loop .inv .1 .matched-long,
-  c .before .before .before .before .before .before .before .before .before .before .before .before .before .before .before .before .before .before .before .before .before .before .before .before .before .before .before .before .nonzero .ensures .2,
-)
+step-requires c κs =
+    let s = c .before .before .before .before .before .before .before .before .before .before .before .before .before .before .before .before .before .before .before .before .before .before .before .before .before .before .before .before .before .before .before .pre in (
+      record { few = s .sound .few; borders = s .borders; listed = c .before .before .before .before .before .before .before .before .before .before .before .before .before .before .before .before .before .before .before .before .before .before .before .before .before .before .before .before .nonzero .ensures .2 },
+      s .laid,
+      c .before .before .before .before .before .before .before .before .before .before .before .before .before .before .before .before .before .before .before .before .before .before .before .loop .inv .1,
+    )
 
 loop-again : tie.Need-loop-again Inv-loop μ-loop
 loop-again c =
-    let s = c .step .ensures (c .before .before .before .before .before .before .before .before .before .before .before .before .before .before .before .before .before .before .before .before .before .before .before .before .before .before .before .before .before .before .before .before .args .t4) (lent (c .before .before .before .before .before .before .before .before .before .before .before .before .before .before .before .before .before .before .before .before .before .before .before .before .before .before .before .before .before .before .before .before .args .t4)) (c .before .before .before .before .before .before .before .before .before .before .before .before .before .before .before .before .before .before .before .before .before .before .before .before .before .before .before .before .before .before .before .before .pre .2) (c .before .before .before .before .before .before .before .before .before .before .before .before .before .before .before .before .before .before .before .before .before .before .before .before .before .before .before .before .before .before .before .before .pre .3) in (
+    let s = c .step .ensures (c .before .before .before .before .before .before .before .before .before .before .before .before .before .before .before .before .before .before .before .before .before .before .before .before .before .before .before .before .before .before .before .before .args .t4) (c .before .before .before .before .before .before .before .before .before .before .before .before .before .before .before .before .before .before .before .before .before .before .before .before .before .before .before .before .before .before .before .before .pre .sound) (lent (c .before .before .before .before .before .before .before .before .before .before .before .before .before .before .before .before .before .before .before .before .before .before .before .before .before .before .before .before .before .before .before .before .args .t4)) in (
       one-made _ _ _ (c .before .before .before .before .before .before .before .before .before .before .before .before .before .before .before .before .before .before .before .before .before .before .before .before .loop .inv .0) (c .before .before .before .before .before .before .before .before .before .before .before .before .before .before .before .before .before .before .before .before .before .before .before .loop-test .taken),
       energies-stepped (c .before .before .before .before .before .before .before .before .before .before .before .before .before .before .before .before .before .before .before .before .before .before .before .before .loop .inv .1) s,
       next-said (c .before .before .before .before .before .before .before .before .before .before .before .before .before .before .before .before .before .before .before .before .before .before .before .before .loop .inv .2) (c .before .before .before .before .before .before .before .before .before .before .before .before .before .before .before .before .before .before .abroad .result) (c .before .before .before .before .before .before .before .before .before .before .before .before .before .before .before .before .excesses .result) (border-flows (c .before .before .before .before .before .before .before .before .before .before .before .before .before .before .before .before .before .before .before .before .before .before .before .before .before .before .before .before .before .before .before .before .args .t4) (c .before .before .before .before .before .before .before .before .before .before .before .before .before .before .before .before .before .before .before .before .before .before .before .before .loop .offered) (c .before .before .before .before .before .before .before .before .before .before .before .before .before .before .before .before .before .before .before .before .before .before .before .before .loop .matched) (c .before .before .before .before .before .before .before .before .before .before .before .before .before .before .before .before .before .before .abroad .result) (c .before .before .before .before .before .before .before .before .before .before .before .before .before .before .before .before .before .before .abroad .ensures)) (c .before .before .before .before .before .before .before .before .before .before .before .before .before .before .before .before .excesses .ensures .0)
@@ -71,7 +66,7 @@ returns-2 c = out-said (c .before .loop .inv .2) (omega arith) (c .before .loop 
 
 add-steps : tie.Need-add-steps Inv-loop μ-loop
 add-steps c =
-    record { fits = step-fits _ _ _ _ (c .before .before .before .before .before .before .before .before .before .before .before .before .before .before .before .before .before .before .before .before .before .before .before .before .loop .inv .0) (c .before .before .before .before .before .before .before .before .before .before .before .before .before .before .before .before .before .before .before .before .before .before .before .loop-test .taken) (c .before .before .before .before .before .before .before .before .before .before .before .before .before .before .before .before .before .before .before .before .before .before .before .before .before .total .ensures .1) (c .before .before .before .before .before .before .before .before .before .before .before .before .before .before .before .before .before .before .before .before .before .before .before .before .before .before .before .before .before .before .before .before .pre .2 .sound .few) }
+    record { fits = step-fits _ _ _ _ (c .before .before .before .before .before .before .before .before .before .before .before .before .before .before .before .before .before .before .before .before .before .before .before .before .loop .inv .0) (c .before .before .before .before .before .before .before .before .before .before .before .before .before .before .before .before .before .before .before .before .before .before .before .loop-test .taken) (c .before .before .before .before .before .before .before .before .before .before .before .before .before .before .before .before .before .before .before .before .before .before .before .before .before .total .ensures .1) (c .before .before .before .before .before .before .before .before .before .before .before .before .before .before .before .before .before .before .before .before .before .before .before .before .before .before .before .before .before .before .before .before .pre .sound .few) }
 
 pub repeat-spec : {M : Type 1} → statement M
 repeat-spec =

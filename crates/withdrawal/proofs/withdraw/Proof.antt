@@ -8,11 +8,11 @@ use Rattle.withdrawal.proofs.withdraw.Tie as tie
 returns : tie.Need-returns
 returns c =
     let s = c .before .before .before .before .pre in
-    end-said (start-said refl (s .4)) (c .before .before .before .before .args .market .now) (c .before .before .before .excesses .result) (λ b e o l. s .5 b e l) (c .before .before .before .excesses .ensures .0)
-    (sym (c .before .passed .ensures) ∙ not-true _ (c .if1 .taken)) (s .1)
+    end-said (start-said refl (s .0 .traded)) (c .before .before .before .before .args .market .now) (c .before .before .before .excesses .result) (λ b e o l. s .1 b e l) (c .before .before .before .excesses .ensures .0)
+    (sym (c .before .passed .ensures) ∙ not-true _ (c .if1 .taken)) (s .0 .energies)
 
 repeat-requires : tie.Need-repeat-requires
-repeat-requires c κs = let s = c .before .before .before .before .before .before .pre in (s .0, s .1, s .2, s .3, s .4)
+repeat-requires c κs = let s = c .before .before .before .before .before .before .pre in s .0
 
 pub withdraw-spec : {M : Type 1} → statement M
 withdraw-spec =
