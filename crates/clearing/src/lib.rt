@@ -4,11 +4,10 @@ ghost use Rattle.rules.specs.DayBook.{clear};
 ghost use Rattle.session.specs.Steps.{Met};
 ghost use Rattle.session.specs.Parts.{Within, Entered};
 ghost use Rattle.changes.specs.Changes.{clearingTurn};
-ghost use mathlib.Core.List.{List};
-ghost use Rattle.session.specs.declared.Unit.{Unit};
-ghost use Rattle.gathering.specs.Built.{UnitPlaces, Holders, DayOf, dayIn};
+ghost use Rattle.gathering.specs.Built.{DayOf, dayIn};
 ghost use Rattle.clearing.specs.Hours.{HourAs, HoursAs};
 use answer::steps;
+use borders::Executions;
 use changes::ClearingChange;
 use changes::ClearingTurn;
 use changes::clearing_refused;
@@ -32,43 +31,22 @@ pub struct DayEnd {
     pub figures: [Cleared; 25],
 }
 
-// The hour at place k. What is lent is what the day's hours read of the lodgements. An hour that no session of calls has, one
-// that is not ready, gets figures of 0.
+// The hour at place k. `all` and what is lent are what the day's hours read of the lodgements (`gathering::Day`). An hour that no session
+// of calls has, one that is not ready, gets figures of 0.
 fn clear_hour<'a>(
     s: Session,
     k: usize,
+    all: Executions,
     place: &'a [u32; 128],
-    number: &'a [u32; 128],
-    unit: &'a [u32; 128],
-    border: &'a [u32; 128],
-    purchase: &'a [bool; 128],
-    legacy: &'a [bool; 128],
     offer: &'a [bool; 128],
     execution: &'a [bool; 128],
     energy: &'a [u32; 3200],
     price: &'a [u32; 3200],
 ) -> HourEnd
     requires { ⌜ Within s × (k < 25) ⌝ }
-    ensures { λ r. ⌜ ((hs : List Unit) → UnitPlaces s (now (place .entry)) → Holders s hs
-        → DayOf s hs (dayIn (now (number .entry)) (now (unit .entry)) (now (border .entry)) (now (purchase .entry)) (now (legacy .entry)) (now (offer .entry)) (now (execution .entry)) (now (energy .entry)) (now (price .entry)))
-        → HourAs s k r) ⌝ }
+    ensures { λ r. ⌜ (DayOf s (dayIn all (now (place .entry)) (now (offer .entry)) (now (execution .entry)) (now (energy .entry)) (now (price .entry))) → HourAs s k r) ⌝ }
 {
-    let capacities = s.capacities;
-    let g = gathering::hour_at(
-        s.standing,
-        k,
-        place,
-        number,
-        unit,
-        border,
-        purchase,
-        legacy,
-        offer,
-        execution,
-        energy,
-        price,
-        capacities,
-    );
+    let g = gathering::hour_at(s, k, all, place, offer, execution, energy, price);
     let h = g.hour;
     let c = clearhour::clear(h);
     let f = c.figures;
@@ -84,9 +62,8 @@ fn clear_hours(s: Session) -> DayEnd
     requires { ⌜ Within s ⌝ }
     ensures { λ r. ⌜ HoursAs s (s .hours) (r .figures) (r .steps) ⌝ }
 {
-    let place = gathering::unit_places(s);
-    let holders = gathering::holders(s, &place);
-    let d = gathering::day_of(s, holders);
+    let d = gathering::day_of(s);
+    let all = d.holders;
     let none = session::no_figures();
     let n = s.hours as usize;
     let mut figures = [none; 25];
@@ -95,12 +72,8 @@ fn clear_hours(s: Session) -> DayEnd
         let e = clear_hour(
             s,
             k,
-            &place,
-            &d.number,
-            &d.unit,
-            &d.border,
-            &d.purchase,
-            &d.legacy,
+            all,
+            &d.place,
             &d.offer,
             &d.execution,
             &d.energy,

@@ -135,7 +135,7 @@ module _ (f : ℕ → ℕ → ℕ) where
 
 -- An hour's lodgements, read from the numbers of the day
 
-module _ (s : Session) (hs : List Unit) (d : Day) (t : DayOf s hs d) (k : ℕ) (hour : k < 25) where
+module _ (s : Session) (d : Day) (t : DayOf s d) (k : ℕ) (hour : k < 25) where
   pub chosen-as : (execution : Bool) (wanted : List Bool) (p : Places) → Column (acceptedAt (s .verdicts) (s .lodgements) execution) false (s .standing) 128 wanted
       → Selected (countsIn wanted (d .energy) k) (s .standing) p → Chosen (s .verdicts) (s .lodgements) (s .energies) (s .standing) execution k p
   unfolding countsIn countsAt acceptedAt Rows
@@ -156,7 +156,7 @@ module _ (s : Session) (hs : List Unit) (d : Day) (t : DayOf s hs d) (k : ℕ) (
     unfolding slotAt priceAt Rows
     prices-as a c = column-as c (λ i h. t .slots .prices (getD (p .at) i 0) k (inside i h) hour)
 
-    pub holders-as : (x : Executions) → Picked (d .number) (d .unit) (d .border) (d .purchase) (d .legacy) p x → Held (s .lodgements) hs p x
+    pub holders-as : (x : Executions) → Picked (d .holders .number) (d .holders .unit) (d .holders .border) (d .holders .purchase) (d .holders .legacy) p x → Held (s .lodgements) (t .units) p x
     unfolding pickedAt markedAt numberAt unitAt borderAt sideAt legacyAt numberOn unitOn borderOn sideOn legacyOn
     holders-as x c =
         let h = t .holders in
@@ -170,36 +170,34 @@ module _ (s : Session) (hs : List Unit) (d : Day) (t : DayOf s hs d) (k : ℕ) (
         }
 
 -- what is read so is the hour
-module _ (s : Session) (hs : List Unit) (d : Day) (t : DayOf s hs d) (n k : ℕ) (all : s .standing ≡ n) (hour : k < 25) (place : List ℕ) (r : Gathered) where
+module _ (s : Session) (d : Day) (t : DayOf s d) (k : ℕ) (hour : k < 25) (r : Gathered) where
   abbrev h : Hour
   h = r .hour
 
-  pub hour-built : (p q : Places) → Selected (countsIn (d .offer) (d .energy) k) n p → Selected (countsIn (d .execution) (d .energy) k) n q
-      → Picked (d .number) (d .unit) (d .border) (d .purchase) (d .legacy) p (holdersIn (h .offers))
-      → Picked (d .number) (d .unit) (d .border) (d .purchase) (d .legacy) q (h .executions)
+  pub hour-built : (p q : Places) → Selected (countsIn (d .offer) (d .energy) k) (s .standing) p → Selected (countsIn (d .execution) (d .energy) k) (s .standing) q
+      → Picked (d .holders .number) (d .holders .unit) (d .holders .border) (d .holders .purchase) (d .holders .legacy) p (holdersIn (h .offers))
+      → Picked (d .holders .number) (d .holders .unit) (d .holders .border) (d .holders .purchase) (d .holders .legacy) q (h .executions)
       → Column (slotAt (d .price) k (p .at)) 0 (p .count) 128 (h .offers .price)
       → Column (slotAt (d .energy) k (p .at)) 0 (p .count) 128 (h .offered)
       → Column (slotAt (d .energy) k (q .at)) 0 (q .count) 128 (h .energy)
       → Given (s .capacities) k (record { flags = h .published; energies = h .capacity })
-      → Column (pickedAt place (p .at)) 0 (p .count) 128 (r .offering)
-      → Column (pickedAt place (q .at)) 0 (q .count) 128 (r .executing)
-      → Gather s hs place k r
+      → Column (pickedAt (d .place) (p .at)) 0 (p .count) 128 (r .offering)
+      → Column (pickedAt (d .place) (q .at)) 0 (q .count) 128 (r .executing)
+      → Gather s (t .units) (d .place) k r
   hour-built p q c f o x price offered energy given offering executing =
-      let c′ : Selected (countsIn (d .offer) (d .energy) k) (s .standing) p = rw all c in
-      let f′ : Selected (countsIn (d .execution) (d .energy) k) (s .standing) q = rw all f in
       record {
         offering = offering;
         executing = executing;
         built = record {
           places = p;
-          chosen = chosen-as s hs d t k hour false (d .offer) p (t .offers) c′;
-          holders = holders-as s hs d t k hour p (c′ .inside) (holdersIn (h .offers)) o;
-          prices = prices-as s hs d t k hour p (c′ .inside) (h .offers .price) price;
-          offered = energies-as s hs d t k hour p (c′ .inside) (h .offered) offered;
+          chosen = chosen-as s d t k hour false (d .offer) p (t .offers) c;
+          holders = holders-as s d t k hour p (c .inside) (holdersIn (h .offers)) o;
+          prices = prices-as s d t k hour p (c .inside) (h .offers .price) price;
+          offered = energies-as s d t k hour p (c .inside) (h .offered) offered;
           places′ = q;
-          chosen′ = chosen-as s hs d t k hour true (d .execution) q (t .executions) f′;
-          holders′ = holders-as s hs d t k hour q (f′ .inside) (h .executions) x;
-          energies = energies-as s hs d t k hour q (f′ .inside) (h .energy) energy;
+          chosen′ = chosen-as s d t k hour true (d .execution) q (t .executions) f;
+          holders′ = holders-as s d t k hour q (f .inside) (h .executions) x;
+          energies = energies-as s d t k hour q (f .inside) (h .energy) energy;
           capacities = given;
         };
       }

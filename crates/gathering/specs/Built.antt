@@ -171,27 +171,29 @@ pub record HeldBy (ls : List Lodgement) (us : List Unit) (n : ℕ) (x : Executio
   pub sides : Column (sideOn us) false n 128 (x .purchase)
   pub marks : Column (legacyOn us) false n 128 (x .legacy)
 
-abbrev pub dayIn : (number unit border : List ℕ) (purchase legacy offer execution : List Bool) (energy price : List ℕ) → Day
-dayIn number unit border purchase legacy offer execution energy price = record {
-  number = number;
-  unit = unit;
-  border = border;
-  purchase = purchase;
-  legacy = legacy;
+abbrev pub dayIn : (holders : Executions) (place : List ℕ) (offer execution : List Bool) (energy price : List ℕ) → Day
+dayIn holders place offer execution energy price = record {
+  holders = holders;
+  place = place;
   offer = offer;
   execution = execution;
   energy = energy;
   price = price;
 }
 
-abbrev pub holdersOf : ℕ → Day → Executions
-holdersOf n d = record { count = n; number = d .number; unit = d .unit; border = d .border; purchase = d .purchase; legacy = d .legacy }
-
--- what a day's hours read of a session's lodgements
-pub record DayOf (s : Session) (hs : List Unit) (d : Day) : Type 0 where
-  pub holders : HeldBy (s .lodgements) hs (s .standing) (holdersOf (s .standing) d)
+-- What a day's hours read of a session's lodgements.
+pub record DayOf (s : Session) (d : Day) : Type 0 where
+  -- the units that the lodgements are of
+  pub units : List Unit
+  pub found : Holders s units
+  -- number, unit, border, side and legacy mark of each
+  pub holders : HeldBy (s .lodgements) units (s .standing) (d .holders)
+  -- the place of each one's unit among those registered
+  pub places : UnitPlaces s (d .place)
+  -- which are offers and which are executions, accepted at closing
   pub offers : Column (acceptedAt (s .verdicts) (s .lodgements) false) false (s .standing) 128 (d .offer)
   pub executions : Column (acceptedAt (s .verdicts) (s .lodgements) true) false (s .standing) 128 (d .execution)
+  -- energies and prices, 25 for each
   pub slots : Slotted (s .energies) (s .standing) (record { energy = d .energy; price = d .price })
 
 -- Capacities

@@ -26,14 +26,11 @@ pub struct Slots {
     pub price: [u32; 3200],
 }
 
-// What the day's hours read of the standing lodgements, by place: their holders, which are accepted offers or executions, and what
-// they have. They are plain numbers, which can be lent, so that no hour copies them.
+// What the day's hours read of the standing lodgements, by place: their holders, the places of the holders' units, which are accepted
+// offers or executions, and what they have. The arrays are plain numbers, which can be lent, so that no hour copies them.
 pub struct Day {
-    pub number: [u32; 128],
-    pub unit: [u32; 128],
-    pub border: [u32; 128],
-    pub purchase: [bool; 128],
-    pub legacy: [bool; 128],
+    pub holders: Executions,
+    pub place: [u32; 128],
     pub offer: [bool; 128],
     pub execution: [bool; 128],
     pub energy: [u32; 3200],
@@ -54,7 +51,7 @@ pub struct HourCapacities {
 }
 
 // For each standing lodgement the place of its unit among those registered, behind the last where it is not registered.
-pub fn unit_places(s: Session) -> [u32; 128]
+fn unit_places(s: Session) -> [u32; 128]
     requires { ⌜ Within s ⌝ }
     ensures { λ r. ⌜ UnitPlaces s r ⌝ }
 {
@@ -77,7 +74,7 @@ pub fn index(x: u32) -> usize
 }
 
 // For each standing lodgement its unit, `place` being the units' places; a unit with nothing where it is not registered.
-pub fn holders(s: Session, place: &[u32; 128]) -> [Unit; 128]
+fn units_of(s: Session, place: &[u32; 128]) -> [Unit; 128]
     requires { ⌜ Within s × UnitPlaces s (now place) ⌝ }
     ensures { λ r. ⌜ Holders s r ⌝ }
 {
@@ -180,32 +177,26 @@ fn held(lodgements: [Lodgement; 128], units: [Unit; 128], n: usize) -> Execution
     }
 }
 
-// What the hours read of the session's lodgements, `holders` being their units.
-pub fn day_of(s: Session, holders: [Unit; 128]) -> Day
-    requires { ⌜ s .standing ≤ 128 ⌝ }
-    ensures { λ r. ⌜ DayOf s holders r ⌝ }
+// What the hours read of the session's lodgements.
+pub fn day_of(s: Session) -> Day
+    requires { ⌜ Within s ⌝ }
+    ensures { λ r. ⌜ DayOf s r ⌝ }
 {
+    let place = unit_places(s);
+    let units = units_of(s, &place);
     let n = s.standing;
     let lodgements = s.lodgements;
     let verdicts = s.verdicts;
     let energies = s.energies;
-    let x = held(lodgements, holders, n);
-    let number = x.number;
-    let unit = x.unit;
-    let border = x.border;
-    let purchase = x.purchase;
-    let legacy = x.legacy;
+    let holders = held(lodgements, units, n);
     let offer = accepted(verdicts, lodgements, n, false);
     let execution = accepted(verdicts, lodgements, n, true);
     let slots = slots_of(energies, n);
     let energy = slots.energy;
     let price = slots.price;
     Day {
-        number,
-        unit,
-        border,
-        purchase,
-        legacy,
+        holders,
+        place,
         offer,
         execution,
         energy,
@@ -358,33 +349,43 @@ fn offers_of(x: Executions, price: [u32; 128]) -> Offers
     }
 }
 
-// The hour at place k: its accepted offers and executions by rising lodging number, and its published capacities. What is lent is the
-// day's, of n lodgements.
+// The hour at place k: its accepted offers and executions by rising lodging number, and its published capacities. `all` and what is lent
+// are the day's (`Day`).
 pub fn hour_at<'a>(
-    n: usize,
+    s: Session,
     k: usize,
+    all: Executions,
     place: &'a [u32; 128],
-    number: &'a [u32; 128],
-    unit: &'a [u32; 128],
-    border: &'a [u32; 128],
-    purchase: &'a [bool; 128],
-    legacy: &'a [bool; 128],
     offer: &'a [bool; 128],
     execution: &'a [bool; 128],
     energy: &'a [u32; 3200],
     price: &'a [u32; 3200],
-    capacities: [Notice; 8],
 ) -> Gathered
-    requires { ⌜ (n ≤ 128) × (k < 25) ⌝ }
+    requires { ⌜ Within s × (k < 25) ⌝ }
+    ensures { λ r. ⌜ ((t : DayOf s (dayIn all (now (place .entry)) (now (offer .entry)) (now (execution .entry)) (now (energy .entry)) (now (price .entry))))
+        → Gather s (t .units) (now (place .entry)) k r) ⌝ }
     ensures { λ r. ⌜ (r .hour .offers .count ≤ 128) × (r .hour .executions .count ≤ 128) ⌝ }
-    ensures { λ r. ⌜ ((s : Session) (hs : List Unit) → s .standing ≡ n → s .capacities ≡ capacities
-        → DayOf s hs (dayIn (now (number .entry)) (now (unit .entry)) (now (border .entry)) (now (purchase .entry)) (now (legacy .entry)) (now (offer .entry)) (now (execution .entry)) (now (energy .entry)) (now (price .entry)))
-        → Gather s hs (now (place .entry)) k r) ⌝ }
 {
+    let n = s.standing;
+    let capacities = s.capacities;
     let p = chosen(offer, energy, n, k);
     let q = chosen(execution, energy, n, k);
-    let o = holders_at(number, unit, border, purchase, legacy, p);
-    let executions = holders_at(number, unit, border, purchase, legacy, q);
+    let o = holders_at(
+        &all.number,
+        &all.unit,
+        &all.border,
+        &all.purchase,
+        &all.legacy,
+        p,
+    );
+    let executions = holders_at(
+        &all.number,
+        &all.unit,
+        &all.border,
+        &all.purchase,
+        &all.legacy,
+        q,
+    );
     let prices = slots_at(price, k, &p.at, p.count);
     let offered = slots_at(energy, k, &p.at, p.count);
     let energies = slots_at(energy, k, &q.at, q.count);

@@ -1,4 +1,3 @@
-use mathlib.Core.Path.{refl}
 use Rattle.clearing.proofs.EndLaws.{figures-small, hour-told}
 use borrow.Author.Needs.{needs}
 use Rattle.clearing.proofs.clear_hour.Statement.{statement}
@@ -13,18 +12,18 @@ clear-requires c κs = search needs
 kept-requires : tie.Need-kept-requires
 kept-requires c κs =
     let g = c .before .before .before .before .before .before .hour-at in
-    let t = g .ensures .0 in
+    let t = g .ensures .1 in
     let f = c .before .before .before .before .clear in
-    let s = c .before .before .before .before .before .before .before .before .pre .0 in
+    let s = c .before .before .before .before .before .before .before .pre .0 in
     let small = figures-small (g .result .hour) (f .result .figures) (f .ensures .1 .0) (f .ensures .1 .1) in
     (s .enrolled, t .0, t .1, small .0, small .1)
 
 returns : tie.Need-returns
-returns c =
-    let a = c .before .before .before .before .before .before .before .before .before .args in
+returns c t =
+    let a = c .before .before .before .before .before .before .before .before .args in
     let g = c .before .before .before .before .before .before .before .hour-at in
     let f = c .before .before .before .before .before .clear in
-    λ hs unit-places holders t. hour-told (a .s) _ hs (a .k) (g .result) (f .result .figures) (c .kept .result) unit-places holders (g .ensures .1 (a .s) hs refl refl t) (f .ensures .1 .0) (c .kept .ensures)
+    hour-told (a .s) _ (t .units) (a .k) (g .result) (f .result .figures) (c .kept .result) (t .places) (t .found) (g .ensures .0 t) (f .ensures .1 .0) (c .kept .ensures)
 
 pub clear-hour-spec : {M : Type 1} → statement M
 clear-hour-spec = tie.close (tie.spec hour-at-requires clear-requires kept-requires returns)

@@ -5,8 +5,8 @@ use Rattle.gathering.specs.Columns.{Column}
 use Rattle.gathering.proofs.ColumnLaws.{column-start, column-next, column-skip, column-as, column-end}
 use Rattle.gathering.proofs.PlaceLaws.{unitBy, unit-here, unit-none, unit-found}
 use borrow.Author.Needs.{needs}
-use Rattle.gathering.proofs.holders.Statement.{statement}
-use Rattle.gathering.proofs.holders.Tie as tie
+use Rattle.gathering.proofs.units_of.Statement.{statement}
+use Rattle.gathering.proofs.units_of.Tie as tie
 
 abbrev Inv-loop : tie.InvT-loop
 Inv-loop place units enrolled n found₀ i₀ found i = (i ≤ n) × Column (unitBy units enrolled place) noUnit i 128 found
@@ -59,8 +59,8 @@ loop-again-2 c = (omega arith, column-next _ _ _ _ _ _ (c .before .before .befor
 returns : tie.Need-returns Inv-loop μ-loop
 returns c = column-as (column-end _ _ _ _ _ _ (c .before .loop .inv .1) (omega arith)) (λ i h. unit-found _ _ _ i _ (c .before .before .before .pre .1 .at i h))
 
-pub holders-spec : {M : Type 1} → statement M
-holders-spec =
+pub units-of-spec : {M : Type 1} → statement M
+units-of-spec =
     tie.close
     (tie.spec
     Inv-loop
