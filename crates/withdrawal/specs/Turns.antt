@@ -16,11 +16,13 @@ use Rattle.withdrawal.specs.declared.Ended.{Ended}
 abbrev pub Crossing : ℕ → List ℕ → Type 0
 Crossing n border = (i : ℕ) → i < n → getD border i 0 < 5
 
--- what is offered and matched of n offers: in the range of energies, and no more matched than offered
+-- what is offered and matched of n offers: in the range of energies, no more matched than offered, and nothing behind them
 pub record Energies (n : ℕ) (offered matched : List ℕ) : Type 0 where
   pub small : (i : ℕ) → getD offered i 0 ≤ maxEnergy
   pub part : (i : ℕ) → getD matched i 0 ≤ maxEnergy
   pub within : (i : ℕ) → i < n → getD matched i 0 ≤ getD offered i 0
+  pub offered-behind : (i : ℕ) → n ≤ i → getD offered i 0 ≡ 0
+  pub matched-behind : (i : ℕ) → n ≤ i → getD matched i 0 ≡ 0
   pub offered-long : length offered ≡ 128
   pub matched-long : length matched ≡ 128
 
