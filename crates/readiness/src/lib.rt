@@ -93,7 +93,7 @@ fn bad_capacity(published: bool, capacity: u32) -> bool
 }
 
 // Whether the published capacities are in their range, and none is of border 0: "A capacity notice covers the 4 borders".
-pub fn capacities_ready(published: &[bool; 10], capacity: &[u32; 10]) -> bool
+pub fn capacities_ready<'a>(published: &'a [bool; 10], capacity: &'a [u32; 10]) -> bool
     ensures { λ r. ⌜ r ≡ capacitiesReady (now (published .entry)) (now (capacity .entry)) ⌝ }
 {
     if published[0] {
