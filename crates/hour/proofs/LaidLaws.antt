@@ -49,6 +49,22 @@ pairwise-at f a zero h i j l k m = absurd (omega arith)
 pairwise-at f a (suc n) (ahead h t) i j l k m =
     ⊎-elim (λ q. rw (← q) (all-at f (suc a) n h j (omega arith) (omega arith))) (λ q. pairwise-at f (suc a) n t i j q k (omega arith)) (eq-or-lt-of-le l)
 
+pub length-from : (a n : ℕ) → length (from a n) ≡ n
+unfolding from
+length-from a zero = refl
+length-from a (suc n) = ap suc (length-from (suc a) n)
+
+pub from-at : (a n i : ℕ) → i < n → getD (from a n) i 0 ≡ a + i
+unfolding from
+from-at a zero i h = absurd (omega arith)
+from-at a (suc n) zero h = omega arith
+from-at a (suc n) (suc i) h = from-at (suc a) n i (omega arith) ∙ omega arith
+
+pub from-last : (a n : ℕ) → from a (suc n) ≡ from a n ++ ((a + n) ∷ [])
+unfolding from
+from-last a zero = let o : a + 0 ≡ a = omega arith in rw o
+from-last a (suc n) = let o : a + suc n ≡ suc a + n = omega arith in rw o (ap (λ (l : List ℕ). a ∷ l) (from-last (suc a) n))
+
 -- the first n of an array
 first-places : (a : List ℕ) (n : ℕ) → n ≤ length a → map (λ j. getD a j 0) (from 0 n) ≡ take n a
 unfolding vals
