@@ -2,10 +2,15 @@
 use hour::Figures;
 use hour::Hour;
 ghost use mathlib.Core.Path.{_≡_};
-ghost use mathlib.Core.Bool.{false, true};
+ghost use mathlib.Core.Bool.{cond};
+ghost use Prim.Native.Nat.{_≤_};
 ghost use Rattle.rules.specs.Clearing.{clearHour};
-ghost use Rattle.hour.specs.Ready.{Ready, isReady};
-ghost use Rattle.hour.specs.View.{hourIn, figuresIn, noFigures, AtBorders};
+ghost use Rattle.arrays.specs.Places.{vals};
+ghost use Rattle.borders.specs.Ways.{publishedIn};
+ghost use Rattle.session.specs.Laid.{pad};
+ghost use Rattle.session.specs.Image.{byWay, energyOf};
+ghost use Rattle.hour.specs.Ready.{Ready, isReady, figuresOf};
+ghost use Rattle.hour.specs.View.{hourIn, figuresAs, noFigures};
 
 // An hour's answer: whether it is one that a session can hold, and its figures, all of them 0 where it is not.
 pub struct Cleared {
@@ -13,19 +18,53 @@ pub struct Cleared {
     pub figures: Figures,
 }
 
+// The first n energies, and 0 behind them, where anything may stand.
+fn front(a: &[u32; 128], n: usize) -> [u32; 128]
+    requires { ⌜ n ≤ 128 ⌝ }
+    ensures { λ r. ⌜ r ≡ pad 128 0 (vals (now (a .entry)) 0 n) ⌝ }
+{
+    let mut found = [0u32; 128];
+    for i in 0..n {
+        found[i] = a[i];
+    }
+    found
+}
+
+// "Absent means no maximum": 0 stands for it.
+fn given(published: bool, energy: u32) -> u32
+    ensures { λ r. ⌜ r ≡ cond published energy 0 ⌝ }
+{
+    if published {
+        return energy;
+    }
+    0
+}
+
+// What an array has for the published directions of the four borders, and 0 for the others.
+fn published_of<'a>(flags: &[bool; 10], a: &'a [u32; 10]) -> [u32; 10]
+    ensures { λ r. ⌜ r ≡ byWay (energyOf (publishedIn (now (flags .entry)) (now (a .entry)))) ⌝ }
+{
+    let mut found = [0u32; 10];
+    for w in 2..10 {
+        found[w] = given(flags[w], a[w]);
+    }
+    found
+}
+
 // The figures of an hour that is ready: its market, then the cut of its executions.
 fn clear_hour(h: Hour) -> Figures
     requires { ⌜ Ready h ⌝ }
-    ensures { λ r. ⌜ (figuresIn h r ≡ clearHour (hourIn h)) × AtBorders h r ⌝ }
+    ensures { λ r. ⌜ r ≡ figuresAs (clearHour (hourIn h)) ⌝ }
 {
     let x = h.executions;
-    let published = h.published;
-    let capacity = h.capacity;
-    let energy = h.energy;
     let k = x.count;
+    let published = h.published;
+    let capacity = published_of(&published, &h.capacity);
+    let energy = front(&h.energy, k);
     let before = borders::flows(false, k, &x.border, &x.purchase, &x.legacy, &energy);
-    let e = h.offered;
-    let m = market::clear(h.offers, e, &published, &capacity, &before);
+    let o = h.offers;
+    let e = front(&h.offered, o.count);
+    let m = market::clear(o, e, &published, &capacity, &before);
     let market = m.flows;
     let mut executed = energy;
     cuts::cut(
@@ -41,7 +80,7 @@ fn clear_hour(h: Hour) -> Figures
     let bilateral = borders::flows(false, k, &x.border, &x.purchase, &x.legacy, &executed);
     let offered = m.offered;
     let matched = m.matched;
-    let maxima = m.maxima;
+    let maxima = published_of(&published, &m.maxima);
     Figures {
         offered,
         matched,
@@ -72,9 +111,7 @@ fn no_figures() -> Figures
 
 // An hour cleared: the rules' figures where it is one that a session can hold.
 pub fn clear(h: Hour) -> Cleared
-    ensures { λ r. ⌜ r .ready ≡ isReady h ⌝ }
-    ensures { λ r. ⌜ (isReady h ≡ true → (figuresIn h (r .figures) ≡ clearHour (hourIn h)) × AtBorders h (r .figures)) ⌝ }
-    ensures { λ r. ⌜ (isReady h ≡ false → r .figures ≡ noFigures) ⌝ }
+    ensures { λ r. ⌜ (r .ready ≡ isReady h) × (r .figures ≡ figuresOf h) ⌝ }
 {
     if hour::ready(h) {
         let figures = clear_hour(h);

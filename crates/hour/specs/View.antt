@@ -1,12 +1,14 @@
--- An hour in arrays, read as the rules' hour, and its figures.
-use Prim.Native.Nat.{ℕ, _≤_}
-use lib.ListN.{getD, replicate}
-use Rattle.rules.specs.Units.{maxEnergy}
+-- An hour in arrays, read as the rules' hour; the rules' figures laid into arrays, and read back.
+use Prim.Native.Nat.{ℕ}
+use mathlib.Core.List.{List, map}
+use lib.ListN.{replicate}
+use Rattle.rules.specs.Borders.{flow}
 use Rattle.rules.specs.Clearing as C
 use Rattle.matching.specs.View.{offersOf}
 use Rattle.borders.specs.View.{executionsOf}
 use Rattle.borders.specs.Ways.{publishedIn}
-use Rattle.borders.specs.Flows.{MarketFlows, ExecutionFlows, Small}
+use Rattle.session.specs.Laid.{pad}
+use Rattle.session.specs.Image.{byWay, energyOf}
 use Rattle.hour.specs.declared.Hour.{Hour}
 use Rattle.hour.specs.declared.Figures.{Figures}
 
@@ -18,7 +20,21 @@ hourIn h = record {
   executions = executionsOf (h .executions) (h .energy);
 }
 
--- the rules' figures
+-- the rules' figures as clearing gives them: of offers and executions in their places, 0 behind them; by direction, those of border 0
+-- too, where a flow is domestic energy; a maximum that is not published, as those of border 0, is 0
+unfoldable pub figuresAs : C.Figures → Figures
+figuresAs x = record {
+  offered = pad 128 0 (map (λ o. o .offered) (x .offers));
+  matched = pad 128 0 (map (λ o. o .matched) (x .offers));
+  executed = pad 128 0 (map (λ x. x .energy) (x .executions));
+  maxima = byWay (energyOf (x .maxima));
+  market = byWay (λ border export. flow (λ o. o .holder) (λ o. o .matched) border export (x .offers));
+  bilateral = byWay (λ border export. flow (λ x. x .holder) (λ x. x .energy) border export (x .executions));
+  steps = x .steps;
+  price = x .price;
+}
+
+-- read back, beside the hour, which has holders, prices and what is published
 unfoldable pub figuresIn : Hour → Figures → C.Figures
 figuresIn h r = record {
   offers = offersOf (h .offers) (r .offered) (r .matched);
@@ -27,15 +43,6 @@ figuresIn h r = record {
   steps = r .steps;
   price = r .price;
 }
-
--- what figures hold beside the rules': the flows behind the two final balances of each border, and that all is in range
-pub record AtBorders (h : Hour) (r : Figures) : Type 0 where
-  pub market : MarketFlows (r .market) (offersOf (h .offers) (r .offered) (r .matched))
-  pub bilateral : ExecutionFlows (r .bilateral) (executionsOf (h .executions) (r .executed))
-  pub market-small : Small (r .market)
-  pub bilateral-small : Small (r .bilateral)
-  pub matched : (i : ℕ) → getD (r .matched) i 0 ≤ maxEnergy
-  pub executed : (i : ℕ) → getD (r .executed) i 0 ≤ maxEnergy
 
 -- figures that are all 0
 unfoldable pub noFigures : Figures

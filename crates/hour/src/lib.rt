@@ -4,8 +4,8 @@ use matching::Offers;
 ghost use mathlib.Core.Path.{_≡_};
 ghost use Rattle.hour.specs.Ready.{isReady};
 
-// An hour as it is cleared: its accepted offers and executions by rising lodging number with their energies, and its
-// published capacities by direction (`borders::way`). Of the executions the order is the caller's: Share takes them as they
+// An hour as it is cleared: its accepted offers and executions, each kind by rising lodging number, with their energies, and its
+// published capacities by direction (`borders::way`; none of border 0). Behind the counts, and where nothing is published, anything may
 // stand.
 pub struct Hour {
     pub offers: Offers,
@@ -16,9 +16,9 @@ pub struct Hour {
     pub capacity: [u32; 10],
 }
 
-// What clearing gives: what is still offered and what is matched of each offer, what is executed of each execution; by
-// direction the market maximum where it is published, and the energy of matched offers and of executions at the end; the
-// count of withdrawal steps and the price.
+// What clearing gives: what is still offered and what is matched of each offer, what is executed of each execution, 0 behind them; by
+// direction the market maximum, 0 where none is published, and the energy of matched offers and of executions at the end, border 0
+// being domestic; the count of withdrawal steps and the price.
 pub struct Figures {
     pub offered: [u32; 128],
     pub matched: [u32; 128],
@@ -30,15 +30,28 @@ pub struct Figures {
     pub price: u32,
 }
 
-// Whether an hour is one that a session can hold.
+// Whether an hour is one that a session can hold, as far as it tells by itself (`Ready` of specs/Ready.antt).
 pub fn ready(h: Hour) -> bool
     ensures { λ r. ⌜ r ≡ isReady h ⌝ }
 {
-    if !readiness::offers_ready(h.offers) {
+    let o = h.offers;
+    let x = h.executions;
+    let n = o.count;
+    let k = x.count;
+    if 128 < n {
         return false;
     }
-    if !readiness::executions_ready(h.executions) {
+    if 128 - n < k {
         return false;
     }
-    readiness::energies_ready(&h.offered, &h.energy, &h.capacity)
+    if !readiness::lodgements_ready(0, n, &o.number, &o.unit, &o.border, &o.legacy, &h.offered) {
+        return false;
+    }
+    if arrays::any_above(&o.price, n, 18_030) {
+        return false;
+    }
+    if !readiness::lodgements_ready(1, k, &x.number, &x.unit, &x.border, &x.legacy, &h.energy) {
+        return false;
+    }
+    readiness::capacities_ready(&h.published, &h.capacity)
 }

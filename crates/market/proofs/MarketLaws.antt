@@ -22,11 +22,14 @@ use Rattle.withdrawal.specs.Turns.{Withdrew}
 use Rattle.market.specs.Parts.{MarketCleared}
 
 -- the energies after the first match
-pub energies-first : {h : Offers} {e m : List ℕ} {v : ℕ} → Matched h e (replicate 128 0) m v → ((i : ℕ) → getD e i 0 ≤ maxEnergy) → length e ≡ 128 → Energies (h .count) e m
-energies-first d f le = record {
+pub energies-first : {h : Offers} {e m : List ℕ} {v : ℕ} → Matched h e (replicate 128 0) m v → ((i : ℕ) → getD e i 0 ≤ maxEnergy) → ((i : ℕ) → h .count ≤ i → getD e i 0 ≡ 0) → length e ≡ 128
+    → Energies (h .count) e m
+energies-first d f b le = record {
   small = f;
   part = matched-small maxEnergy d f (λ i. rw (zeros 128 i) (omega arith));
   within = d .within;
+  offered-behind = b;
+  matched-behind = λ i l. d .beyond i l ∙ zeros 128 i;
   offered-long = le;
   matched-long = d .long ∙ length-replicate {A = ℕ} 128 0;
 }

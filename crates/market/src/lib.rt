@@ -35,7 +35,7 @@ pub struct Market {
 
 // The first match of an hour's offers.
 fn first_match(o: Offers, offered: &[u32; 128]) -> First
-    requires { ⌜ Sound o × Ranged (now offered) × (length (now offered) ≡ 128) ⌝ }
+    requires { ⌜ Sound o × Ranged (now offered) × ((i : ℕ) → o .count ≤ i → getD (now offered) i 0 ≡ 0) × (length (now offered) ≡ 128) ⌝ }
     ensures { λ r. ⌜ Begun o (now (offered .entry)) r ⌝ }
 {
     let n = o.count;
@@ -88,7 +88,8 @@ pub fn clear(
     capacity: &[u32; 10],
     executions: &[u32; 10],
 ) -> Market
-    requires { ⌜ Sound o × Crossing (o .count) (o .border) × Ranged before × Small (now capacity) × Small (now executions) ⌝ }
+    requires { ⌜ Sound o × Crossing (o .count) (o .border) × Ranged before × Small (now capacity) × Small (now executions)
+        × ((i : ℕ) → o .count ≤ i → getD before i 0 ≡ 0) ⌝ }
     ensures { λ r. ⌜ ((xs : List Execution) → ExecutionFlows (now (executions .entry)) xs → MarketCleared o before (now (published .entry)) (now (capacity .entry)) xs r) ⌝ }
     ensures { λ r. ⌜ MarketFlows (r .flows) (offersOf o (r .offered) (r .matched)) × Small (r .flows) × Energies (o .count) (r .offered) (r .matched) ⌝ }
 {

@@ -1,51 +1,111 @@
-// Whether the parts of an hour are in their ranges, as those of a session's hours are: what `clearhour::clear` tests first.
-use borders::Executions;
-use matching::Offers;
+// Whether the parts of an hour are such as a session's hours have: what `clearhour::clear` tests first. Nothing behind the count
+// of the lodgements is looked at, and no capacity that is not published.
 use rules::MAX_ENERGY;
 ghost use mathlib.Core.Path.{_≡_};
-ghost use Rattle.readiness.specs.Ranges.{offersReady, executionsReady, energiesReady};
+ghost use Prim.Native.Nat.{_≤_};
+ghost use Rattle.readiness.specs.Ranges.{outside, badHolder, badLodgement, lodgementsReady, badCapacity, capacitiesReady};
 
-// Whether offers are by rising lodging number, at borders 0 to 4, and at prices in their range.
-pub fn offers_ready(o: Offers) -> bool
-    ensures { λ r. ⌜ r ≡ offersReady o ⌝ }
+// The highest number of a unit, and of an accepted lodgement.
+const MAX_NUMBER: u32 = 65535;
+
+// Whether a number is outside a range.
+fn is_outside(least: u32, most: u32, x: u32) -> bool
+    ensures { λ r. ⌜ r ≡ outside least most x ⌝ }
 {
-    let n = o.count;
-    if 128 < n {
-        return false;
+    if x < least {
+        return true;
     }
-    if arrays::any_above(&o.border, n, 4) {
-        return false;
-    }
-    if arrays::any_above(&o.price, n, 18_030) {
-        return false;
-    }
-    arrays::rising(&o.number, n)
+    most < x
 }
 
-// Whether executions are at borders 0 to 4.
-pub fn executions_ready(x: Executions) -> bool
-    ensures { λ r. ⌜ r ≡ executionsReady x ⌝ }
+// Whether no session has such a holder, of the unit's border and legacy mark: "(borders 1 to 4 only)".
+fn bad_holder(first: u32, number: u32, unit: u32, border: u32, legacy: bool) -> bool
+    ensures { λ r. ⌜ r ≡ badHolder first number unit border legacy ⌝ }
 {
-    let n = x.count;
-    if 128 < n {
-        return false;
+    if is_outside(1, MAX_NUMBER, number) {
+        return true;
     }
-    !arrays::any_above(&x.border, n, 4)
+    if is_outside(1, MAX_NUMBER, unit) {
+        return true;
+    }
+    if is_outside(first, 4, border) {
+        return true;
+    }
+    if legacy {
+        return border == 0;
+    }
+    false
 }
 
-// Whether offered energies, executions' energies and capacities are in their range. Unused places count too: they hold 0.
-pub fn energies_ready<'a>(
-    offered: &'a [u32; 128],
-    energy: &'a [u32; 128],
-    capacity: &'a [u32; 10],
+// Whether no session has such a lodgement in an hour: "Named energies are 1 to 99,999".
+fn bad_lodgement(
+    first: u32,
+    number: u32,
+    unit: u32,
+    border: u32,
+    legacy: bool,
+    energy: u32,
 ) -> bool
-    ensures { λ r. ⌜ r ≡ energiesReady (now (offered .entry)) (now (energy .entry)) (now (capacity .entry)) ⌝ }
+    ensures { λ r. ⌜ r ≡ badLodgement first number unit border legacy energy ⌝ }
 {
-    if arrays::any_above(offered, 128, MAX_ENERGY) {
+    if bad_holder(first, number, unit, border, legacy) {
+        return true;
+    }
+    is_outside(1, MAX_ENERGY, energy)
+}
+
+// Whether n lodgements are by rising number, each in its ranges, at borders from `first` on: 0 for offers, 1 for executions
+// ("Executions need a border unit.").
+pub fn lodgements_ready<'a>(
+    first: u32,
+    n: usize,
+    number: &'a [u32; 128],
+    unit: &'a [u32; 128],
+    border: &'a [u32; 128],
+    legacy: &'a [bool; 128],
+    energy: &'a [u32; 128],
+) -> bool
+    requires { ⌜ n ≤ 128 ⌝ }
+    ensures { λ r. ⌜ r ≡ lodgementsReady first n (now (number .entry)) (now (unit .entry)) (now (border .entry)) (now (legacy .entry)) (now (energy .entry)) ⌝ }
+{
+    let mut last: u32 = 0;
+    for i in 0..n {
+        let x = number[i];
+        if x <= last {
+            return false;
+        }
+        if bad_lodgement(first, x, unit[i], border[i], legacy[i], energy[i]) {
+            return false;
+        }
+        last = x;
+    }
+    true
+}
+
+// Whether a capacity is published and above the largest energy.
+fn bad_capacity(published: bool, capacity: u32) -> bool
+    ensures { λ r. ⌜ r ≡ badCapacity published capacity ⌝ }
+{
+    if published {
+        return MAX_ENERGY < capacity;
+    }
+    false
+}
+
+// Whether the published capacities are in their range, and none is of border 0: "A capacity notice covers the 4 borders".
+pub fn capacities_ready<'a>(published: &'a [bool; 10], capacity: &'a [u32; 10]) -> bool
+    ensures { λ r. ⌜ r ≡ capacitiesReady (now (published .entry)) (now (capacity .entry)) ⌝ }
+{
+    if published[0] {
         return false;
     }
-    if arrays::any_above(energy, 128, MAX_ENERGY) {
+    if published[1] {
         return false;
     }
-    !arrays::any_above(capacity, 10, MAX_ENERGY)
+    for w in 2..10 {
+        if bad_capacity(published[w], capacity[w]) {
+            return false;
+        }
+    }
+    true
 }

@@ -34,6 +34,8 @@ energies-stepped {h} k s = record {
       (λ t. le-trans (s .within i (omega (arith, ltb-true i (h .count) t))) (le-trans (s .lower i) (k .small i)))
       (λ t. rw (s .matched-written .beyond i (omega (arith, ltb-false i (h .count) t))) (k .part i));
   within = s .within;
+  offered-behind = λ i l. s .offered-written .beyond i l ∙ k .offered-behind i l;
+  matched-behind = λ i l. s .matched-written .beyond i l ∙ k .matched-behind i l;
   offered-long = s .offered-written .long ∙ k .offered-long;
   matched-long = s .matched-written .long ∙ k .matched-long;
 }

@@ -17,6 +17,9 @@ pub record Energies (n : ℕ) (offered matched : List ℕ) : Type 0 where
   pub part : Ranged matched
   -- no more matched than offered
   pub within : (i : ℕ) → i < n → getD matched i 0 ≤ getD offered i 0
+  -- nothing behind the offers
+  pub offered-behind : (i : ℕ) → n ≤ i → getD offered i 0 ≡ 0
+  pub matched-behind : (i : ℕ) → n ≤ i → getD matched i 0 ≡ 0
   -- arrays of 128
   pub offered-long : length offered ≡ 128
   pub matched-long : length matched ≡ 128

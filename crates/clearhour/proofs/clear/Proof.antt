@@ -1,5 +1,5 @@
 use mathlib.Core.Path.{sym, _∙_}
-use Rattle.rules.proofs.BoolLaws.{not-both}
+use Rattle.hour.specs.Ready.{figuresOf}
 use Rattle.hour.proofs.ReadyLaws.{ready-holds}
 use borrow.Author.Needs.{needs}
 use Rattle.clearhour.proofs.clear.Statement.{statement}
@@ -9,10 +9,16 @@ clear-hour-requires : tie.Need-clear-hour-requires
 clear-hour-requires c κs = ready-holds (c .before .before .args .h) (sym (c .before .ready .ensures) ∙ c .if1 .taken)
 
 returns : tie.Need-returns
-returns c = (sym (c .before .if1 .taken) ∙ c .before .before .ready .ensures, (λ e. c .clear-hour .ensures, λ e. not-both (sym (c .before .before .ready .ensures) ∙ c .before .if1 .taken) e))
+unfolding figuresOf
+returns c =
+    let t = sym (c .before .before .ready .ensures) ∙ c .before .if1 .taken in
+    (sym t, rw t (c .clear-hour .ensures))
 
 returns-2 : tie.Need-returns-2
-returns-2 c = (sym (c .before .if1 .left) ∙ c .before .before .ready .ensures, (λ e. not-both e (sym (c .before .before .ready .ensures) ∙ c .before .if1 .left), λ e. c .no-figures .ensures))
+unfolding figuresOf
+returns-2 c =
+    let t = sym (c .before .before .ready .ensures) ∙ c .before .if1 .left in
+    (sym t, rw t (c .no-figures .ensures))
 
 pub clear-spec : {M : Type 1} → statement M
 clear-spec =

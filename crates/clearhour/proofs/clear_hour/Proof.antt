@@ -5,40 +5,75 @@ use lib.ListN.{length-map}
 use Rattle.matching.specs.View.{offersOf}
 use Rattle.borders.specs.View.{executionsOf}
 use Rattle.borders.proofs.FlowLaws.{execution-flows}
-use Rattle.hour.proofs.ReadyLaws.{offered-small, energy-small, capacity-small}
-use Rattle.clearhour.proofs.ClearLaws.{enough-said, cleared-said}
+use Rattle.hour.proofs.ReadyLaws.{offers-sound, few-executions, offers-cross, executions-cross, offered-small, energy-small}
+use Rattle.clearhour.proofs.ClearLaws.{with, front-small, front-behind, front-long, capacities-small, trimmed-sound, enough-said, figures-said}
+use borrow.Author.Needs.{needs}
 use Rattle.clearhour.proofs.clear_hour.Statement.{statement}
 use Rattle.clearhour.proofs.clear_hour.Tie as tie
 
+front-requires : tie.Need-front-requires
+front-requires c κs = few-executions (c .before .before .before .before .before .before .before .before .pre)
+
 flows-requires : tie.Need-flows-requires
-flows-requires c κs = (c .before .before .before .before .before .before .before .before .before .pre .few, c .before .before .before .before .before .before .before .before .before .pre .crossings, energy-small (c .before .before .before .before .before .before .before .before .before .pre) (sym (length-map (c .before .before .before .before .before .before .before .before .before .args .h .energy) (u32-field .into)) ∙ c .before .before .before .before .before .before .before .before .before .good .0 .1 .1 .1 .1 .1 .0 .1 .0 .1))
+flows-requires c κs = (few-executions (c .before .before .before .before .before .before .before .before .before .before .before .before .before .before .pre), executions-cross (c .before .before .before .before .before .before .before .before .before .before .before .before .before .before .pre), rw (c .before .before .before .before .before .front .ensures) (front-small _ _ (energy-small (c .before .before .before .before .before .before .before .before .before .before .before .before .before .before .pre))))
+
+front-requires-2 : tie.Need-front-requires-2
+front-requires-2 c κs = offers-sound (c .before .before .before .before .before .before .before .before .before .before .before .before .before .before .before .before .before .before .pre) .few
 
 clear-requires : tie.Need-clear-requires
-clear-requires c κs = (c .before .before .before .before .before .before .before .before .before .before .before .before .before .before .pre .sound, c .before .before .before .before .before .before .before .before .before .before .before .before .before .before .pre .borders, offered-small (c .before .before .before .before .before .before .before .before .before .before .before .before .before .before .pre) (sym (length-map (c .before .before .before .before .before .before .before .before .before .before .before .before .before .before .args .h .offered) (u32-field .into)) ∙ c .before .before .before .before .before .before .before .before .before .before .before .before .before .before .good .0 .1 .1 .1 .0 .1 .0 .1), capacity-small (c .before .before .before .before .before .before .before .before .before .before .before .before .before .before .pre) (sym (length-map (c .before .before .before .before .before .before .before .before .before .before .before .before .before .before .args .h .capacity) (u32-field .into)) ∙ c .before .before .before .before .before .before .before .before .before .before .before .before .before .before .good .0 .1 .1 .1 .1 .1 .1 .1 .0 .1 .0 .1), c .before .before .before .before .flows .ensures .small)
+clear-requires c κs = (
+  offers-sound (c .before .before .before .before .before .before .before .before .before .before .before .before .before .before .before .before .before .before .before .before .before .before .pre),
+  offers-cross (c .before .before .before .before .before .before .before .before .before .before .before .before .before .before .before .before .before .before .before .before .before .before .pre),
+  rw (c .before .before .before .front2 .ensures) (front-small _ _ (offered-small (c .before .before .before .before .before .before .before .before .before .before .before .before .before .before .before .before .before .before .before .before .before .before .pre))),
+  rw (c .before .before .before .before .before .before .before .before .before .before .before .before .before .before .before .before .published-of .ensures) (capacities-small (c .before .before .before .before .before .before .before .before .before .before .before .before .before .before .before .before .before .before .before .before .before .before .pre)),
+  c .before .before .before .before .before .before .before .flows .ensures .small,
+  rw (c .before .before .before .front2 .ensures) (front-behind _ _),
+)
 
 cut-requires : tie.Need-cut-requires
-cut-requires c κs = (c .before .before .before .before .before .before .before .before .before .before .before .before .before .before .before .before .before .before .before .before .before .before .before .before .pre .few, c .before .before .before .before .before .before .before .before .before .before .before .before .before .before .before .before .before .before .before .before .before .before .before .before .pre .crossings, energy-small (c .before .before .before .before .before .before .before .before .before .before .before .before .before .before .before .before .before .before .before .before .before .before .before .before .pre) (sym (length-map (c .before .before .before .before .before .before .before .before .before .before .before .before .before .before .before .before .before .before .before .before .before .before .before .before .args .h .energy) (u32-field .into)) ∙ c .before .before .before .before .before .before .before .before .before .before .before .before .before .before .before .before .before .before .before .before .before .before .before .before .good .0 .1 .1 .1 .1 .1 .0 .1 .0 .1), c .before .before .before .before .before .before .before .before .before .clear .ensures .1 .1, c .before .before .before .before .before .before .before .before .before .before .before .before .before .before .flows .ensures .small, sym (length-map (c .before .before .before .before .before .before .before .before .before .before .before .before .before .before .before .before .before .before .before .before .before .before .before .before .args .h .energy) (u32-field .into)) ∙ c .before .before .before .before .before .before .before .before .before .before .before .before .before .before .before .before .before .before .before .before .before .before .before .before .good .0 .1 .1 .1 .1 .1 .0 .1 .0 .1)
+cut-requires c κs = (
+  few-executions (c .before .before .before .before .before .before .before .before .before .before .before .before .before .before .before .before .before .before .before .before .before .before .before .before .before .before .before .before .before .before .before .before .pre),
+  executions-cross (c .before .before .before .before .before .before .before .before .before .before .before .before .before .before .before .before .before .before .before .before .before .before .before .before .before .before .before .before .before .before .before .before .pre),
+  rw (c .before .before .before .before .before .before .before .before .before .before .before .before .before .before .before .before .before .before .before .before .before .before .before .front .ensures) (front-small _ _ (energy-small (c .before .before .before .before .before .before .before .before .before .before .before .before .before .before .before .before .before .before .before .before .before .before .before .before .before .before .before .before .before .before .before .before .pre))),
+  c .before .before .before .before .before .before .before .before .before .clear .ensures .1 .1,
+  c .before .before .before .before .before .before .before .before .before .before .before .before .before .before .before .before .before .flows .ensures .small,
+  rw (c .before .before .before .before .before .before .before .before .before .before .before .before .before .before .before .before .before .before .before .before .before .before .before .front .ensures) (front-long _ _ (few-executions (c .before .before .before .before .before .before .before .before .before .before .before .before .before .before .before .before .before .before .before .before .before .before .before .before .before .before .before .before .before .before .before .before .pre))),
+)
 
 flows-requires-2 : tie.Need-flows-requires-2
-flows-requires-2 c κs = (c .before .before .before .before .before .before .before .before .before .before .before .before .before .before .before .before .before .before .before .before .before .before .before .before .before .before .before .before .before .before .pre .few, c .before .before .before .before .before .before .before .before .before .before .before .before .before .before .before .before .before .before .before .before .before .before .before .before .before .before .before .before .before .before .pre .crossings, λ i. le-trans (c .before .before .before .before .before .cut .ensures .1 .1 i) (energy-small (c .before .before .before .before .before .before .before .before .before .before .before .before .before .before .before .before .before .before .before .before .before .before .before .before .before .before .before .before .before .before .pre) (sym (length-map (c .before .before .before .before .before .before .before .before .before .before .before .before .before .before .before .before .before .before .before .before .before .before .before .before .before .before .before .before .before .before .args .h .energy) (u32-field .into)) ∙ c .before .before .before .before .before .before .before .before .before .before .before .before .before .before .before .before .before .before .before .before .before .before .before .before .before .before .before .before .before .before .good .0 .1 .1 .1 .1 .1 .0 .1 .0 .1) i))
+flows-requires-2 c κs = (
+  few-executions (c .before .before .before .before .before .before .before .before .before .before .before .before .before .before .before .before .before .before .before .before .before .before .before .before .before .before .before .before .before .before .before .before .before .before .before .before .before .before .pre),
+  executions-cross (c .before .before .before .before .before .before .before .before .before .before .before .before .before .before .before .before .before .before .before .before .before .before .before .before .before .before .before .before .before .before .before .before .before .before .before .before .before .before .pre),
+  λ i. le-trans (c .before .before .before .before .before .cut .ensures .1 .1 i) (rw (c .before .before .before .before .before .before .before .before .before .before .before .before .before .before .before .before .before .before .before .before .before .before .before .before .before .before .before .before .before .front .ensures) (front-small _ _ (energy-small (c .before .before .before .before .before .before .before .before .before .before .before .before .before .before .before .before .before .before .before .before .before .before .before .before .before .before .before .before .before .before .before .before .before .before .before .before .before .before .pre)) i)),
+)
 
 returns : tie.Need-returns
 returns c =
-    let h = c .before .before .before .before .before .before .before .before .before .before .before .before .before .before .before .before .before .before .before .before .before .before .before .before .before .before .before .before .before .before .before .before .before .before .args .h in
-    let xs = execution-flows (h .executions) (h .energy) (c .before .before .before .before .before .before .before .before .before .before .before .before .before .before .before .before .before .before .before .before .before .before .before .before .flows .ensures) in
-    let m = c .before .before .before .before .before .before .before .before .before .before .before .before .before .before .before .before .before .before .before .clear .ensures .0 (executionsOf (h .executions) (h .energy)) xs in (
-      cleared-said h (c .before .before .before .before .before .before .before .before .before .before .before .before .before .before .before .before .before .before .before .before .before .before .before .before .before .before .before .before .before .before .before .before .before .before .pre) m _ _ _
-          (c .before .before .before .before .before .before .before .before .before .cut .ensures .0 (h .executions) (offersOf (h .offers) _ _) refl refl refl (c .before .before .before .before .before .before .before .before .before .before .before .before .before .before .before .before .before .before .before .clear .ensures .1 .0) xs (enough-said h (c .before .before .before .before .before .before .before .before .before .before .before .before .before .before .before .before .before .before .before .before .before .before .before .before .before .before .before .before .before .before .before .before .before .before .pre) m)),
-      record {
-        market = c .before .before .before .before .before .before .before .before .before .before .before .before .before .before .before .before .before .before .before .clear .ensures .1 .0;
-        bilateral = execution-flows (h .executions) _ (c .before .before .before .flows2 .ensures);
-        market-small = c .before .before .before .before .before .before .before .before .before .before .before .before .before .before .before .before .before .before .before .clear .ensures .1 .1;
-        bilateral-small = c .before .before .before .flows2 .ensures .small;
-        matched = c .before .before .before .before .before .before .before .before .before .before .before .before .before .before .before .before .before .before .before .clear .ensures .1 .2 .part;
-        executed = λ i. le-trans (c .before .before .before .before .before .before .before .before .before .cut .ensures .1 .1 i) (energy-small (c .before .before .before .before .before .before .before .before .before .before .before .before .before .before .before .before .before .before .before .before .before .before .before .before .before .before .before .before .before .before .before .before .before .before .pre) (sym (length-map (c .before .before .before .before .before .before .before .before .before .before .before .before .before .before .before .before .before .before .before .before .before .before .before .before .before .before .before .before .before .before .before .before .before .before .args .h .energy) (u32-field .into)) ∙ c .before .before .before .before .before .before .before .before .before .before .before .before .before .before .before .before .before .before .before .before .before .before .before .before .before .before .before .before .before .before .before .before .before .before .good .0 .1 .1 .1 .1 .1 .0 .1 .0 .1) i);
-      },
-    )
+    let h = c .before .before .before .before .before .before .before .before .before .before .before .before .before .before .before .before .before .before .before .before .before .before .before .before .before .before .before .before .before .before .before .before .before .before .before .before .before .before .before .before .before .before .before .before .before .args .t1 in
+    let xs = execution-flows (h .executions) (c .before .before .before .before .before .before .before .before .before .before .before .before .before .before .before .before .before .before .before .before .before .before .before .before .before .before .before .before .before .before .before .before .before .before .before .before .front .result) (c .before .before .before .before .before .before .before .before .before .before .before .before .before .before .before .before .before .before .before .before .before .before .before .before .before .before .before .before .before .before .flows .ensures) in
+    let m = c .before .before .before .before .before .before .before .before .before .before .before .before .before .before .before .before .before .before .before .before .before .before .clear .ensures .0 (executionsOf (h .executions) (c .before .before .before .before .before .before .before .before .before .before .before .before .before .before .before .before .before .before .before .before .before .before .before .before .before .before .before .before .before .before .before .before .before .before .before .before .front .result)) xs in
+    figures-said (c .before .before .before .before .before .before .before .before .before .before .before .before .before .before .before .before .before .before .before .before .before .before .before .before .before .before .before .before .before .before .before .before .before .before .before .before .before .before .before .before .before .before .before .before .before .pre) (c .before .before .before .before .before .before .before .before .before .before .before .before .before .before .before .before .before .before .before .before .before .before .before .before .before .before .front2 .ensures) (c .before .before .before .before .before .before .before .before .before .before .before .before .before .before .before .before .before .before .before .before .before .before .before .before .before .before .before .before .before .before .before .before .before .before .before .before .front .ensures) (c .before .before .before .before .before .before .before .before .before .before .before .before .before .before .before .before .before .before .before .before .before .before .before .before .before .before .before .before .before .before .before .before .before .before .before .before .before .before .before .published-of .ensures) m _ _ _ _
+    (c .before .before .before .before .before .before .before .before .before .before .before .before .cut .ensures .0 (h .executions) (offersOf (h .offers) _ _) refl refl refl (c .before .before .before .before .before .before .before .before .before .before .before .before .before .before .before .before .before .before .before .before .before .before .clear .ensures .1 .0) xs
+    (enough-said (with h (c .before .before .before .before .before .before .before .before .before .before .before .before .before .before .before .before .before .before .before .before .before .before .before .before .before .before .front2 .result) (c .before .before .before .before .before .before .before .before .before .before .before .before .before .before .before .before .before .before .before .before .before .before .before .before .before .before .before .before .before .before .before .before .before .before .before .before .front .result) (c .before .before .before .before .before .before .before .before .before .before .before .before .before .before .before .before .before .before .before .before .before .before .before .before .before .before .before .before .before .before .before .before .before .before .before .before .before .before .before .published-of .result)) (trimmed-sound (c .before .before .before .before .before .before .before .before .before .before .before .before .before .before .before .before .before .before .before .before .before .before .before .before .before .before .before .before .before .before .before .before .before .before .before .before .before .before .before .before .before .before .before .before .before .pre) (c .before .before .before .before .before .before .before .before .before .before .before .before .before .before .before .before .before .before .before .before .before .before .before .before .before .before .front2 .ensures) (c .before .before .before .before .before .before .before .before .before .before .before .before .before .before .before .before .before .before .before .before .before .before .before .before .before .before .before .before .before .before .before .before .before .before .before .before .front .ensures) (c .before .before .before .before .before .before .before .before .before .before .before .before .before .before .before .before .before .before .before .before .before .before .before .before .before .before .before .before .before .before .before .before .before .before .before .before .before .before .before .published-of .ensures) m) m))
+    (c .published-of2 .ensures)
+    (c .before .before .before .before .before .before .before .before .before .before .before .before .before .before .before .before .before .before .before .before .before .before .clear .ensures .1 .2)
+    (c .before .before .before .before .before .before .before .before .before .before .before .before .cut .ensures .1 .0)
+    (c .before .before .before .before .before .before .before .before .before .before .before .before .cut .ensures .1 .1)
+    (sym (length-map (c .before .before .before .before .before .before .before .before .before .before .before .before .before .before .before .before .before .before .before .before .before .before .clear .result .flows) (u32-field .into)) ∙ c .before .before .before .before .before .before .before .before .before .before .before .before .before .before .before .before .before .before .before .before .before .before .clear .ok .1 .1 .1 .1 .1 .0 .1 .0 .1)
+    (c .before .before .before .before .before .before .before .before .before .before .before .before .before .before .before .before .before .before .before .before .before .before .clear .ensures .1 .0)
+    (c .before .before .before .before .before .before .flows2 .ok .1 .0 .1)
+    (execution-flows (h .executions) _ (c .before .before .before .before .before .before .flows2 .ensures))
 
 pub clear-hour-spec : {M : Type 1} → statement M
 clear-hour-spec =
-    tie.close (tie.spec flows-requires clear-requires cut-requires flows-requires-2 returns)
+    tie.close
+    (tie.spec
+    (λ c κs. search needs)
+    front-requires
+    flows-requires
+    front-requires-2
+    clear-requires
+    cut-requires
+    flows-requires-2
+    (λ c κs. search needs)
+    returns)

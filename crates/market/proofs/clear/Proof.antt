@@ -7,7 +7,7 @@ use Rattle.market.proofs.clear.Statement.{statement}
 use Rattle.market.proofs.clear.Tie as tie
 
 first-match-requires : tie.Need-first-match-requires
-first-match-requires c κs = let s = c .before .pre in (s .0, s .2, omega arith)
+first-match-requires c κs = let s = c .before .pre in (s .0, s .2, s .5, omega arith)
 
 flows-requires : tie.Need-flows-requires
 flows-requires c κs = let s = c .before .before .before .before .before .before .before .before .before .before .pre in (s .0 .few, s .1, c .before .before .before .before .before .before .before .before .first-match .ensures .energies .part)

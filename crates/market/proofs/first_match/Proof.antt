@@ -15,7 +15,7 @@ returns c =
     let a = sorted-along (c .before .before .before .before .before .before .before .before .before .before .before .before .before .before .before .before .pre .0) (c .before .before .before .before .before .before .before .before .before .before .before .before .sorted .ensures) in
     let b = sorted-along (c .before .before .before .before .before .before .before .before .before .before .before .before .before .before .before .before .pre .0) (c .before .before .before .before .before .before .before .before .sorted2 .ensures) in
     let m = c .match-offers .ensures (c .before .before .before .before .before .before .before .before .before .before .before .before .before .before .before .before .args .t1) a b in
-    record { rising = a; falling = b; matching = m; energies = energies-first m (c .before .before .before .before .before .before .before .before .before .before .before .before .before .before .before .before .pre .1) (c .before .before .before .before .before .before .before .before .before .before .before .before .before .before .before .before .pre .2) }
+    record { rising = a; falling = b; matching = m; energies = energies-first m (c .before .before .before .before .before .before .before .before .before .before .before .before .before .before .before .before .pre .1) (c .before .before .before .before .before .before .before .before .before .before .before .before .before .before .before .before .pre .2) (c .before .before .before .before .before .before .before .before .before .before .before .before .before .before .before .before .pre .3) }
 
 pub first-match-spec : {M : Type 1} → statement M
 first-match-spec =
