@@ -36,12 +36,6 @@ module _ {A : Type 0} (d : A) where
   first-map f p [] = refl
   first-map f p (x ∷ xs) = by-bool (p (f x)) (λ t. rw t) (λ t. rw t (first-map f p xs))
 
-  -- the first that passes a test is one of them, or the default
-  pub first-all : {P : A → Type 0} (p : A → Bool) {xs : List A} → P d → All P xs → P (first p d xs)
-  unfolding first
-  first-all p h none = h
-  first-all p h (more {x} k t) = by-bool (p x) (λ e. rw e k) (λ e. rw e (first-all p h t))
-
 -- Lists joined
 
 module _ {A : Type 0} where

@@ -16,7 +16,7 @@ kept-requires c κs =
     let t = g .ensures .0 in
     let f = c .before .before .before .before .clear in
     let s = c .before .before .before .before .before .before .before .before .pre .0 in
-    let small = figures-small (g .result .hour) (f .result .figures) (f .ensures .1 .0) (f .ensures .1 .1) in
+    let small = figures-small (g .result .hour) (f .result .figures) (f .ensures .1) in
     (s .enrolled, t .0, t .1, small .0, small .1)
 
 returns : tie.Need-returns
@@ -24,7 +24,7 @@ returns c =
     let a = c .before .before .before .before .before .before .before .before .before .args in
     let g = c .before .before .before .before .before .before .before .hour-at in
     let f = c .before .before .before .before .before .clear in
-    λ hs unit-places holders t. hour-told (a .s) _ hs (a .k) (g .result) (f .result .figures) (c .kept .result) unit-places holders (g .ensures .1 (a .s) hs refl refl t) (f .ensures .1 .0) (c .kept .ensures)
+    λ hs unit-places holders t. hour-told (a .s) _ hs (a .k) (g .result) (f .result .figures) (c .kept .result) unit-places holders (g .ensures .1 (a .s) hs refl refl t) (f .ensures .1) (c .kept .ensures)
 
 pub clear-hour-spec : {M : Type 1} → statement M
 clear-hour-spec = tie.close (tie.spec hour-at-requires clear-requires kept-requires returns)
