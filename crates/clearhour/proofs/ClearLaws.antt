@@ -27,7 +27,7 @@ use Rattle.borders.specs.declared.Executions.{Executions}
 use Rattle.borders.specs.View.{executionAt, executionsOf}
 use Rattle.borders.specs.Ways.{wayOf, directed, publishedIn}
 use Rattle.borders.specs.Flows.{MarketFlows, ExecutionFlows, Small}
-use Rattle.withdrawal.specs.Turns.{Energies}
+use Rattle.withdrawal.specs.Steps.{Energies}
 use Rattle.cuts.specs.Cuts.{Enough}
 use Rattle.borders.proofs.WayLaws.{way-back, published-once}
 use Rattle.borders.proofs.LimitLaws.{Filled}

@@ -26,8 +26,8 @@ use Rattle.rules.proofs.BookLaws.{frozen-judgements, frozen-figures}
 use Rattle.arrays.proofs.PlaceLaws.{zeros}
 use Rattle.hour.specs.declared.Hour.{Hour}
 use Rattle.hour.specs.declared.Figures.{Figures}
-use Rattle.hour.specs.Ready.{isReady}
-use Rattle.hour.specs.View.{hourIn, figuresIn, noFigures, AtBorders}
+use Rattle.hour.specs.Ready.{isReady, figuresOf}
+use Rattle.hour.specs.View.{hourIn, figuresIn, figuresAs}
 use Rattle.hour.proofs.ReadyLaws.{ready-told}
 use Rattle.session.specs.declared.Session.{Session}
 use Rattle.session.specs.declared.Unit.{Unit}
@@ -48,7 +48,9 @@ use Rattle.gathering.specs.Built.{UnitPlaces, Holders, Held, holdersIn, pickedA
 use Rattle.gathering.proofs.UnitLaws.{unit-placed}
 use Rattle.results.specs.Shown.{Placed, clearedAs}
 use Rattle.clearing.specs.Hours.{HourAs, HoursAs}
-use Rattle.results.proofs.FigureLaws.{length-from, from-last, sum-last}
+use Rattle.hour.proofs.LaidLaws.{length-from, from-last}
+use Rattle.clearhour.proofs.ClearLaws.{figures-read, matched-small, executed-small}
+use Rattle.results.proofs.FigureLaws.{sum-last}
 use Rattle.gathering.proofs.HourLaws.{hour-as}
 use Rattle.gathering.proofs.ReadyLaws.{hour-ready}
 
@@ -77,19 +79,26 @@ module _ (s : Session) (b : B.Book) (e : s ≡ I.image b) (sound : I.Sound b) (p
       let n : i < p .count = omega (arith, h .count) in
       rw (c .at i n, h .units .at i n) (unit-placed s b e sound place hs unit-places holders (getD (p .at) i 0) q (inside i n) m)
 
+-- the figures of a ready hour are the rules', laid out
+figures-ready : (h : Hour) → isReady h ≡ true → figuresOf h ≡ figuresAs (R.clearHour (hourIn h))
+unfolding figuresOf
+figures-ready h t = rw t
+
 pub hour-told : (s : Session) (place : List ℕ) (hs : List Unit) (k : ℕ) (g : Gathered) (f : Figures) (r : Cleared) → UnitPlaces s place → Holders s hs → Gather s hs place k g
-    → (isReady (g .hour) ≡ true → (figuresIn (g .hour) f ≡ R.clearHour (hourIn (g .hour))) × AtBorders (g .hour) f)
+    → f ≡ figuresOf (g .hour)
     → ((us : List Unit) → s .enrolled ≤ length us
     → Placed us (s .enrolled) (g .hour .offers .unit) (g .offering) (g .hour .offers .count)
     → Placed us (s .enrolled) (g .hour .executions .unit) (g .executing) (g .hour .executions .count)
-    → AtBorders (g .hour) f → r ≡ clearedAs (figuresIn (g .hour) f) (take (s .enrolled) us))
+    → f ≡ figuresAs (figuresIn (g .hour) f) → r ≡ clearedAs (figuresIn (g .hour) f) (take (s .enrolled) us))
     → HourAs s k (record { steps = f .steps; figures = r })
 unfolding figuresIn R.figuresAt
 hour-told s place hs k x f r unit-places holders t q p b sound closed e =
     let h : Hour = x .hour in
-    let g = q (ready-told h (hour-ready s b e sound closed hs holders k h (t .built))) in
-    let a : figuresIn h f ≡ R.figuresAt b (suc k) = g .0 ∙ figured in
-    (kept (g .1) ∙ (ap₂ clearedAs a (units-as s b e) ∙ sym (figures-as b (suc k))), steps a)
+    let ready = hour-ready s b e sound closed hs holders k h (t .built) in
+    let laid : f ≡ figuresAs (R.clearHour (hourIn h)) = q ∙ figures-ready h (ready-told h ready) in
+    let read : figuresIn h f ≡ R.clearHour (hourIn h) = ap (figuresIn h) laid ∙ figures-read ready in
+    let a : figuresIn h f ≡ R.figuresAt b (suc k) = read ∙ figured in
+    (kept (laid ∙ ap figuresAs (sym read)) ∙ (ap₂ clearedAs a (units-as s b e) ∙ sym (figures-as b (suc k))), steps a)
   where
     figured : R.clearHour (hourIn (x .hour)) ≡ R.figuresAt b (suc k)
     figured = ap R.clearHour (hour-as s b e closed hs holders k (x .hour) (t .built) (sound .directions))
@@ -102,7 +111,7 @@ hour-told s place hs k x f r unit-places holders t q p b sound closed e =
         let l : length (take (s .enrolled) (s .units)) ≡ s .enrolled = ap length (units-as s b e) ∙ (length-map (b .units) I.unitOf ∙ enrolled-as s b e) in
         omega (arith, l, length-take (s .enrolled) (s .units))
 
-    kept : AtBorders (x .hour) f → r ≡ clearedAs (figuresIn (x .hour) f) (take (s .enrolled) (s .units))
+    kept : f ≡ figuresAs (figuresIn (x .hour) f) → r ≡ clearedAs (figuresIn (x .hour) f) (take (s .enrolled) (s .units))
     kept =
         let y = t .built in
         p (s .units) long
@@ -110,12 +119,8 @@ hour-told s place hs k x f r unit-places holders t q p b sound closed e =
         (all-placed s b e sound place hs unit-places holders (y .places′) (y .chosen′ .inside) (x .hour .executions) (x .executing) (y .holders′) (t .executing))
 
 -- energies in range, whether the hour was ready or not
-pub figures-small : (h : Hour) (f : Figures) → (isReady h ≡ true → (figuresIn h f ≡ R.clearHour (hourIn h)) × AtBorders h f) → (isReady h ≡ false → f ≡ noFigures)
-    → ((i : ℕ) → getD (f .matched) i 0 ≤ U.maxEnergy) × ((i : ℕ) → getD (f .executed) i 0 ≤ U.maxEnergy)
-unfolding noFigures
-figures-small h f p q =
-    by-bool (isReady h) (λ t. (p t .1 .matched, p t .1 .executed))
-    (λ t. ((λ i. omega (arith, ap (λ (g : Figures). getD (g .matched) i 0) (q t), zeros 128 i)), (λ i. omega (arith, ap (λ (g : Figures). getD (g .executed) i 0) (q t), zeros 128 i))))
+pub figures-small : (h : Hour) (f : Figures) → f ≡ figuresOf h → ((i : ℕ) → getD (f .matched) i 0 ≤ U.maxEnergy) × ((i : ℕ) → getD (f .executed) i 0 ≤ U.maxEnergy)
+figures-small h f q = rw q (matched-small h, executed-small h)
 
 -- The loop over the hours
 

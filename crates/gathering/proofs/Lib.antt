@@ -3,5 +3,6 @@ pub mod PlaceLaws
 pub mod ListLaws
 pub mod DayLaws
 pub mod HourLaws
+pub mod OfferLaws
 pub mod ReadyLaws
 pub mod UnitLaws

@@ -1,16 +1,13 @@
 -- Laws of lists read by place.
 use Prim.Native.Nat.{ℕ, zero, suc, _+_, _≤_, _<_}
 use mathlib.Core.Path.{_≡_, refl, ap, _∙_}
-use mathlib.Core.Logic.{⊎-elim}
 use mathlib.Core.Bool.{Bool, cond}
 use mathlib.Core.List.{List, [], _∷_, _++_, map, append-assoc, append-nil}
 use native.Mathlib.Omega.{arith}
-use native.Mathlib.Nat.{eq-or-lt-of-le}
 use lib.ListN.{getD, length, take, drop, length-map, List·getD-append}
 use lib.Seq.{drop-cons, take-all}
-use Rattle.rules.specs.Lists.{All, none, more, Pairwise, ahead, keep, first, from}
+use Rattle.rules.specs.Lists.{All, none, more, keep, first, from}
 use Rattle.rules.proofs.BoolLaws.{by-bool}
-use Rattle.arrays.proofs.PlaceLaws.{all-at}
 use Rattle.session.specs.Laid.{pad}
 use Rattle.session.proofs.PlaceLaws.{getD-map}
 
@@ -39,19 +36,6 @@ module _ {A : Type 0} (d : A) where
   first-map f p [] = refl
   first-map f p (x ∷ xs) = by-bool (p (f x)) (λ t. rw t) (λ t. rw t (first-map f p xs))
 
-  -- the first that passes a test is one of them, or the default
-  pub first-all : {P : A → Type 0} (p : A → Bool) {xs : List A} → P d → All P xs → P (first p d xs)
-  unfolding first
-  first-all p h none = h
-  first-all p h (more {x} k t) = by-bool (p x) (λ e. rw e k) (λ e. rw e (first-all p h t))
-
--- each with the later ones, by place
-pub pairwise-at : {A : Type 0} {R : A → A → Type 0} (f : ℕ → A) (a n : ℕ) → Pairwise R (map f (from a n)) → (i j : ℕ) → a ≤ i → i < j → j < a + n → R (f i) (f j)
-unfolding from
-pairwise-at f a zero h i j l k m = absurd (omega arith)
-pairwise-at f a (suc n) (ahead h t) i j l k m =
-    ⊎-elim (λ q. rw (← q) (all-at f (suc a) n h j (omega arith) (omega arith))) (λ q. pairwise-at f (suc a) n t i j q k (omega arith)) (eq-or-lt-of-le l)
-
 -- Lists joined
 
 module _ {A : Type 0} where
@@ -70,9 +54,3 @@ module _ {A : Type 0} where
       → a ++ (b ++ (c ++ (d ++ (e ++ (f ++ (g ++ (h ++ []))))))) ≡ (a ++ b) ++ ((c ++ d) ++ ((e ++ f) ++ (g ++ h)))
   eight a b c d e f g h =
       rw (append-nil h, append-assoc a b ((c ++ d) ++ ((e ++ f) ++ (g ++ h))), append-assoc c d ((e ++ f) ++ (g ++ h)), append-assoc e f (g ++ h))
-
--- numbers within a bound, read anywhere
-pub all-within : (m : ℕ) {es : List ℕ} → All (λ e. e ≤ m) es → (i : ℕ) → getD es i 0 ≤ m
-all-within m none i = omega arith
-all-within m (more h t) zero = h
-all-within m (more h t) (suc i) = all-within m t i

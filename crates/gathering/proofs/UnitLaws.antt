@@ -24,7 +24,8 @@ use Rattle.session.proofs.PlaceLaws.{placed, place-first, place-map, getD-map}
 use Rattle.session.proofs.ImageLaws.{units-as, standing-as, enrolled-as}
 use Rattle.gathering.specs.Built.{UnitPlaces, Holders}
 use Rattle.holders.specs.Holders.{holderAt}
-use Rattle.gathering.proofs.ListLaws.{all-places, pairwise-at}
+use Rattle.hour.proofs.LaidLaws.{pairwise-at}
+use Rattle.gathering.proofs.ListLaws.{all-places}
 use Rattle.gathering.proofs.DayLaws.{blank, standing, lodgement-at, holder-at}
 
 -- what stands at the place of the first that passes a test passes it

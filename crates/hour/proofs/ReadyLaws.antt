@@ -40,14 +40,17 @@ module _ (h : Hour) where
   abbrev executionsPass : Bool
   executionsPass = lodgementsReady 1 (h .executions .count) (h .executions .number) (h .executions .unit) (h .executions .border) (h .executions .legacy) (h .energy)
 
-  pub many-fail : 128 < h .offers .count → false ≡ isReady h
+  pub many-fail : 64 < h .offers .count → false ≡ isReady h
   unfolding isReady
-  many-fail k = rw (lt-leb (h .offers .count + h .executions .count) 128 (omega arith))
+  many-fail k = rw (lt-leb (h .offers .count) 64 k)
 
-  module _ (k : h .offers .count ≤ 128) where
+  module _ (k : h .offers .count ≤ 64) where
+    few : leb (h .offers .count) 64 ≡ true
+    few = le-leb (h .offers .count) 64 k
+
     pub room-fail : 128 - h .offers .count < h .executions .count → false ≡ isReady h
     unfolding isReady
-    room-fail l = rw (lt-leb (h .offers .count + h .executions .count) 128 (omega arith))
+    room-fail l = rw (few, lt-leb (h .offers .count + h .executions .count) 128 (omega arith))
 
     module _ (l : h .executions .count ≤ 128 - h .offers .count) where
       room : leb (h .offers .count + h .executions .count) 128 ≡ true
@@ -55,19 +58,19 @@ module _ (h : Hour) where
 
       pub offers-fail : offersPass ≡ false → false ≡ isReady h
       unfolding isReady
-      offers-fail a = rw (room, a)
+      offers-fail a = rw (few, room, a)
 
       pub price-fail : offersPass ≡ true → dear ≡ true → false ≡ isReady h
       unfolding isReady
-      price-fail a b = rw (room, a, b)
+      price-fail a b = rw (few, room, a, b)
 
       pub executions-fail : offersPass ≡ true → dear ≡ false → executionsPass ≡ false → false ≡ isReady h
       unfolding isReady
-      executions-fail a b c = rw (room, a, b, c)
+      executions-fail a b c = rw (few, room, a, b, c)
 
       pub capacities-decide : {r : Bool} → offersPass ≡ true → dear ≡ false → executionsPass ≡ true → r ≡ capacitiesReady (h .published) (h .capacity) → r ≡ isReady h
       unfolding isReady
-      capacities-decide a b c e = rw (room, a, b, c) e
+      capacities-decide a b c e = rw (few, room, a, b, c) e
 
 -- What it stands for
 
@@ -140,13 +143,15 @@ ready-holds h e =
     let b = both _ _ (a .0) in
     let c = both _ _ (b .0) in
     let d = both _ _ (c .0) in
+    let n = both _ _ (d .0) in
     let w = both _ _ (a .1) in
     let v = both _ _ (w .0) in
     let s = row-holds (λ i. getD (o .number) i 0) (badAt 0 (o .number) (o .unit) (o .border) (o .legacy) (h .offered)) 0 (from 0 (o .count)) (d .1) in
     let t = row-holds (λ i. getD (x .number) i 0) (badAt 1 (x .number) (x .unit) (x .border) (x .legacy) (h .energy)) 0 (from 0 (x .count)) (b .1) in
     let priced = from-all (λ i. getD (o .price) i 0 ≤ maxPrice) 0 (o .count) (λ i l k. above-none maxPrice (o .price) (o .count) (not-true _ (c .1)) i (omega arith)) in
     record {
-      room = leb-true _ _ (d .0);
+      offering = leb-true _ _ (n .0);
+      room = leb-true _ _ (n .1);
       offers = all-mapped (offerAt o (h .offered) (replicate 128 0))
           (all-both (λ i g p. let q = lodgement-holds 0 _ _ _ (getD (o .purchase) i false) _ _ g in record { holder = q .0; price = p; energy = q .1 }) (s .1) priced);
       offers-rise = pairwise-map (offerAt o (h .offered) (replicate 128 0)) (λ i j k. k) (s .2);
@@ -166,6 +171,7 @@ ready-told h r =
     let os = all-unmapped (offerAt o (h .offered) (replicate 128 0)) (from 0 (o .count)) (r .offers) in
     let xs = all-unmapped (executionAt x (h .energy)) (from 0 (x .count)) (r .executions) in
     rw (
+      le-leb (o .count) 64 (r .offering),
       le-leb (o .count + x .count) 128 (r .room),
       of-row (λ i. getD (o .number) i 0) (badAt 0 (o .number) (o .unit) (o .border) (o .legacy) (h .offered)) 0 (all-map (λ i g. g .holder .number .0) os)
           (all-map (λ i g. lodgement-told 0 _ _ _ (getD (o .purchase) i false) _ _ (g .holder) (g .energy)) os)

@@ -45,10 +45,12 @@ pub record ExecutionReady (x : Execution) : Type 0 where
 -- no figure depends on it.
 -- Not asked, though every session's hour has it, since no figure of the hour depends on it either:
 -- that no number is both an offer's and an execution's (Match looks at numbers of offers only, Share at the order of one kind);
--- that lodgements of one unit agree in border, side and mark, and one of them at most is an offer (clearing looks at no unit's number);
--- that there are 64 units at most, so 64 offers; that energies keep their units' ceilings (closing sees to it).
+-- that lodgements of one unit agree in border, side and mark, that one of them at most is an offer, and that there are 64 units at most
+-- (clearing looks at no unit's number); that energies keep their units' ceilings (closing sees to it).
 -- Agents, contracts and default marks are not in an hour.
 pub record Ready (h : Hour) : Type 0 where
+  -- "At most 64 units", each with one accepted offer at most
+  pub offering : h .offers .count ≤ 64
   -- "There are up to 128 standing lodgements"
   pub room : h .offers .count + h .executions .count ≤ 128
   -- each kind by rising lodging number: in this order Share hands out, and equal prices are matched
@@ -65,7 +67,7 @@ unfoldable pub isReady : Hour → Bool
 isReady h =
     let o = h .offers in
     let x = h .executions in
-    leb (o .count + x .count) 128
+    leb (o .count) 64 && leb (o .count + x .count) 128
     && lodgementsReady 0 (o .count) (o .number) (o .unit) (o .border) (o .legacy) (h .offered)
     && not (any (ltb maxPrice) (vals (o .price) 0 (o .count)))
     && lodgementsReady 1 (x .count) (x .number) (x .unit) (x .border) (x .legacy) (h .energy)

@@ -38,7 +38,7 @@ pub fn ready(h: Hour) -> bool
     let x = h.executions;
     let n = o.count;
     let k = x.count;
-    if 128 < n {
+    if 64 < n {
         return false;
     }
     if 128 - n < k {

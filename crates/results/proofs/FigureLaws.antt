@@ -25,28 +25,18 @@ use Rattle.borders.specs.Ways.{wayOf, directed, publishedIn}
 use Rattle.borders.proofs.WayLaws.{way-back, runs-way}
 use Rattle.hour.specs.declared.Hour.{Hour}
 use Rattle.hour.specs.declared.Figures.{Figures}
-use Rattle.hour.specs.View.{figuresIn, AtBorders}
+use Rattle.hour.specs.View.{figuresIn, figuresAs}
+use Rattle.hour.proofs.LaidLaws.{length-from, from-at, from-last}
 use Rattle.session.specs.declared.Unit.{Unit}
 use Rattle.session.specs.declared.Cleared.{Cleared}
 use Rattle.session.specs.Laid.{pad}
-use Rattle.session.specs.Image.{noUnit, byWay, energyOf}
+use Rattle.session.specs.Image.{noUnit}
 use Rattle.gathering.specs.Columns.{Column}
-use Rattle.results.specs.Shown.{addsTo, unitEnergy, energyAtPlace, Placed, shownAt, clearedAs}
+use Rattle.results.specs.Shown.{addsTo, unitEnergy, energyAtPlace, Placed, clearedAs}
 use Rattle.gathering.proofs.ColumnLaws.{blanks, column-as}
-use Rattle.gathering.proofs.ListLaws.{front-places, all-places, laid-at}
+use Rattle.gathering.proofs.ListLaws.{front-places, laid-at}
 
 -- Columns as lists
-
-pub length-from : (a n : ℕ) → length (from a n) ≡ n
-unfolding from
-length-from a zero = refl
-length-from a (suc n) = ap suc (length-from (suc a) n)
-
-from-at : (a n i : ℕ) → i < n → getD (from a n) i 0 ≡ a + i
-unfolding from
-from-at a zero i h = absurd (omega arith)
-from-at a (suc n) zero h = omega arith
-from-at a (suc n) (suc i) h = from-at (suc a) n i (omega arith) ∙ omega arith
 
 pad-behind : {A : Type 0} (d : A) (l : List A) (m i : ℕ) → length l ≤ i → getD (l ++ replicate m d) i d ≡ d
 pad-behind d l m i h =
@@ -70,72 +60,7 @@ column-laid f d n size r c h =
     behind : (i : ℕ) → n ≤ i → getD (pad size d (map f (from 0 n))) i d ≡ d
     behind i k = pad-behind d (map f (from 0 n)) (size - length (map f (from 0 n))) i (omega (arith, many))
 
--- By way
-
-pub by-way : (f : ℕ → Bool → ℕ) (a : List ℕ) → length a ≡ 10 → ((w : ℕ) → w < 10 → getD a w 0 ≡ f (w / 2) (eqb (w % 2) 0)) → a ≡ byWay f
-unfolding byWay
-by-way f a l g =
-    sym (all-places 0 a) ∙ (ap (λ n. map (λ w. getD a w 0) (from 0 n)) l ∙ map-all _ (λ w. f (w / 2) (eqb (w % 2) 0)) (from-all _ 0 10 (λ w h k. g w (omega arith))))
-
--- flows by border and direction
-flows-by-way : (f : ℕ → Bool → ℕ) (a : List ℕ) → length a ≡ 10 → ((b : ℕ) (e : Bool) → b < 5 → getD a (wayOf b e) 0 ≡ f b e) → a ≡ byWay f
-flows-by-way f a l g = by-way f a l (λ w h. ap (λ v. getD a v 0) (sym (way-back w)) ∙ g (w / 2) (eqb (w % 2) 0) (omega arith))
-
--- The energy of a direction among the published ones
-
--- two ways are the same direction
-same-way : (a : List ℕ) (v w : ℕ) → (eqb (directed a v .border) (w / 2) && Bool·beq (directed a v .export) (eqb (w % 2) 0)) ≡ eqb v w
-unfolding directed runs
-same-way a v w =
-    let x : Holder = record { number = 0; unit = 0; border = v / 2; purchase = eqb (v % 2) 0; legacy = false } in
-    runs-way (w / 2) (eqb (w % 2) 0) x ∙ (ap (λ u. eqb u (wayOf (w / 2) (eqb (w % 2) 0))) (way-back v) ∙ ap (eqb v) (way-back w))
-
-module _ (a : List ℕ) (p : ℕ → Bool) (w : ℕ) where
-  abbrev among : List ℕ → ℕ
-  among vs = energyOf (map (directed a) (keep p vs)) (w / 2) (eqb (w % 2) 0)
-
-  among-next : (v : ℕ) (vs : List ℕ) → among (v ∷ vs) ≡ cond (p v) (cond (eqb v w) (getD a v 0) (among vs)) (among vs)
-  unfolding keep energyOf directed
-  among-next v vs = by-bool (p v) (λ t. rw t (ap (λ q. cond q (getD a v 0) (among vs)) (same-way a v w))) (λ t. rw t)
-
-  among-none : among [] ≡ 0
-  unfolding keep energyOf
-  among-none = refl
-
-  among-behind : (i n : ℕ) → w < i → among (from i n) ≡ 0
-  unfolding from
-  among-behind i zero h = among-none
-  among-behind i (suc n) h =
-      among-next i (from (suc i) n)
-      ∙ rw (ne-eqb i w (λ z. absurd (omega arith)), among-behind (suc i) n (omega arith)) (by-bool (p i) (λ t. rw t) (λ t. rw t))
-
-  among-own : (i n : ℕ) → i ≤ w → w < i + n → among (from i n) ≡ cond (p w) (getD a w 0) 0
-  unfolding from
-  among-own i zero h l = absurd (omega arith)
-  among-own i (suc n) h l =
-      among-next i (from (suc i) n)
-      ∙ by-bool (eqb i w)
-      (λ e. let q = eqb-true i w e in rw (e, among-behind (suc i) n (omega arith), q) (by-bool (p w) (λ t. rw t) (λ t. rw t)))
-      (λ e. let r = among-own (suc i) n (apart (eqb-false i w e)) (omega arith) in rw (e, r) (by-bool (p i) (λ t. rw t) (λ t. rw t)))
-    where
-      apart : (i ≡ w → ⊥) → suc i ≤ w
-      apart d = ⊎-elim (λ z. absurd (d z)) (λ z. z) (eq-or-lt-of-le h)
-
-pub shown-energy : (flags : List Bool) (a : List ℕ) (w : ℕ) → w < 10 → shownAt flags a w ≡ energyOf (publishedIn flags a) (w / 2) (eqb (w % 2) 0)
-unfolding shownAt publishedIn
-shown-energy flags a w h =
-    by-bool (ltb w 2) (λ t. rw t (sym (among-behind a (λ v. getD flags v false) w 2 8 (ltb-true w 2 t))))
-    (λ t. rw t (sym (among-own a (λ v. getD flags v false) w 2 8 (ltb-false w 2 t) (omega arith))))
-
-pub shown-done : (flags : List Bool) (a r : List ℕ) → Column (shownAt flags a) 0 10 10 r → r ≡ byWay (energyOf (publishedIn flags a))
-shown-done flags a r c = by-way (energyOf (publishedIn flags a)) r (c .long) (λ w h. c .at w h ∙ shown-energy flags a w h)
-
 -- Energies added at the places of the units
-
-pub from-last : (a n : ℕ) → from a (suc n) ≡ from a n ++ ((a + n) ∷ [])
-unfolding from
-from-last a zero = let o : a + 0 ≡ a = omega arith in rw o
-from-last a (suc n) = let o : a + suc n ≡ suc a + n = omega arith in rw o (ap (λ (l : List ℕ). a ∷ l) (from-last (suc a) n))
 
 pub sum-last : (f : ℕ → ℕ) (l : List ℕ) (x : ℕ) → sumOf f (l ++ (x ∷ [])) ≡ sumOf f l + f x
 unfolding sumOf sum
@@ -229,32 +154,16 @@ cleared-same : {p : ℕ} {m m′ b b′ x x′ d d′ e e′ : List ℕ} → m �
     → _≡_ {A = Cleared} (record { price = p; market = m; bilateral = b; maxima = x; matched = d; executed = e }) (record { price = p; market = m′; bilateral = b′; maxima = x′; matched = d′; executed = e′ })
 cleared-same a b c d e = rw (a, b, c, d, e)
 
-pub kept-said : (us : List Unit) (n : ℕ) (h : Hour) (f : Figures) (matched executed maxima : List ℕ)
+pub kept-said : (us : List Unit) (n : ℕ) (h : Hour) (f : Figures) (matched executed : List ℕ)
     → Column (energyAtPlace us (h .offers .unit) (f .matched) (h .offers .count)) 0 n 64 matched
     → Column (energyAtPlace us (h .executions .unit) (f .executed) (h .executions .count)) 0 n 64 executed
-    → maxima ≡ byWay (energyOf (publishedIn (h .published) (f .maxima)))
-    → n ≤ 64 → n ≤ length us → length (f .market) ≡ 10 → length (f .bilateral) ≡ 10 → AtBorders h f
-    → record { price = f .price; market = f .market; bilateral = f .bilateral; maxima = maxima; matched = matched; executed = executed } ≡ clearedAs (figuresIn h f) (take n us)
-unfolding clearedAs figuresIn
-kept-said us n h f matched executed maxima a b c l k m x w =
+    → n ≤ 64 → n ≤ length us → f ≡ figuresAs (figuresIn h f)
+    → record { price = f .price; market = f .market; bilateral = f .bilateral; maxima = f .maxima; matched = matched; executed = executed } ≡ clearedAs (figuresIn h f) (take n us)
+unfolding clearedAs figuresIn figuresAs
+kept-said us n h f matched executed a b l k w =
     cleared-same
-    (flows-by-way _ (f .market) m (w .market))
-    (flows-by-way _ (f .bilateral) x (w .bilateral))
-    c
+    (ap (λ (g : Figures). g .market) w)
+    (ap (λ (g : Figures). g .bilateral) w)
+    (ap (λ (g : Figures). g .maxima) w)
     (units-said us (h .offers .unit) (f .matched) (h .offers .count) n matched _ a l k (λ u. unit-offers (h .offers) (f .offered) (f .matched) (u .number)))
     (units-said us (h .executions .unit) (f .executed) (h .executions .count) n executed _ b l k (λ u. unit-executions (h .executions) (f .executed) (u .number)))
-
--- Ways out
-
-module _ (flags : List Bool) (a : List ℕ) (w : ℕ) where
-  pub shown-home : w < 2 → 0 ≡ shownAt flags a w
-  unfolding shownAt
-  shown-home h = rw (lt-ltb w 2 h)
-
-  pub shown-given : 2 ≤ w → getD flags w false ≡ true → getD a w 0 ≡ shownAt flags a w
-  unfolding shownAt
-  shown-given h k = rw (le-ltb w 2 h, k)
-
-  pub shown-absent : 2 ≤ w → getD flags w false ≡ false → 0 ≡ shownAt flags a w
-  unfolding shownAt
-  shown-absent h k = rw (le-ltb w 2 h, k)

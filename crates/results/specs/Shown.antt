@@ -1,9 +1,9 @@
 -- An hour's figures as the session keeps them.
 use Prim.Native.Nat.{ℕ, _<_}
 use mathlib.Core.Path.{_≡_}
-use mathlib.Core.Bool.{Bool, false, cond}
+use mathlib.Core.Bool.{cond}
 use mathlib.Core.List.{List, map}
-use lib.Dec.{ltb, eqb}
+use lib.Dec.{eqb}
 use lib.ListN.{getD}
 use Rattle.rules.specs.Lists.{keep, sumOf, from}
 use Rattle.rules.specs.Match.{Offer}
@@ -31,12 +31,6 @@ energyAtPlace us unit energy n p = unitEnergy unit energy n (getD us p noUnit .n
 -- holders are at the places of their units, among the first m units
 abbrev pub Placed : List Unit → ℕ → List ℕ → List ℕ → ℕ → Type 0
 Placed us m unit place n = (i p : ℕ) → i < n → p < m → eqb (getD place i 0) p ≡ eqb (getD unit i 0) (getD us p noUnit .number)
-
--- A maximum, by way
-
--- "absent without capacity": the session keeps 0 there, as for border 0
-unfoldable pub shownAt : List Bool → List ℕ → ℕ → ℕ
-shownAt flags maxima w = cond (ltb w 2) 0 (cond (getD flags w false) (getD maxima w 0) 0)
 
 -- The rules' figures of an hour, laid out for some units
 

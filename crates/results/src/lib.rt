@@ -1,15 +1,13 @@
 // The figures of an hour as the session keeps them.
 ghost use mathlib.Core.Path.{_≡_};
 ghost use mathlib.Core.List.{List};
-ghost use Prim.Native.Nat.{ℕ, _≤_, _<_};
+ghost use Prim.Native.Nat.{ℕ, _≤_};
 ghost use lib.ListN.{getD, take, length};
 ghost use Rattle.session.specs.declared.Unit.{Unit};
 ghost use Rattle.rules.specs.Units.{maxEnergy};
-ghost use Rattle.borders.specs.Ways.{publishedIn};
-ghost use Rattle.hour.specs.View.{figuresIn, AtBorders};
-ghost use Rattle.session.specs.Image.{byWay, energyOf};
+ghost use Rattle.hour.specs.View.{figuresIn, figuresAs};
 ghost use Rattle.gathering.specs.Columns.{Column};
-ghost use Rattle.results.specs.Shown.{unitEnergy, Placed, shownAt, clearedAs};
+ghost use Rattle.results.specs.Shown.{unitEnergy, Placed, clearedAs};
 use hour::Figures;
 use hour::Hour;
 use session::Cleared;
@@ -31,32 +29,6 @@ fn by_unit(enrolled: usize, n: usize, place: &[u32; 128], energy: &[u32; 128]) -
     a
 }
 
-// The maximum of the direction at a way: 0 where it is not published, and for border 0.
-fn shown(w: usize, flags: &[bool; 10], maxima: &[u32; 10]) -> u32
-    requires { ⌜ w < 10 ⌝ }
-    ensures { λ r. ⌜ r ≡ shownAt (now (flags .entry)) (now (maxima .entry)) w ⌝ }
-{
-    if w < 2 {
-        return 0;
-    }
-    if flags[w] {
-        return maxima[w];
-    }
-    0
-}
-
-// "per direction, its market [..] maxima (absent without capacity)"
-fn shown_maxima(flags: &[bool; 10], maxima: &[u32; 10]) -> [u32; 10]
-    ensures { λ r. ⌜ r ≡ byWay (energyOf (publishedIn (now (flags .entry)) (now (maxima .entry)))) ⌝ }
-{
-    let mut a = [0u32; 10];
-    for w in 0..10 {
-        let m = shown(w, flags, maxima);
-        a[w] = m;
-    }
-    a
-}
-
 // What the session keeps of an hour's figures, `offering` and `executing` being the places of the holders' units.
 pub fn kept<'a>(
     enrolled: usize,
@@ -70,15 +42,13 @@ pub fn kept<'a>(
     ensures { λ r. ⌜ ((us : List Unit) → enrolled ≤ length us
         → Placed us enrolled (h .offers .unit) (now (offering .entry)) (h .offers .count)
         → Placed us enrolled (h .executions .unit) (now (executing .entry)) (h .executions .count)
-        → AtBorders h f → r ≡ clearedAs (figuresIn h f) (take enrolled us)) ⌝ }
+        → f ≡ figuresAs (figuresIn h f) → r ≡ clearedAs (figuresIn h f) (take enrolled us)) ⌝ }
 {
-    let published = h.published;
-    let most = f.maxima;
     let sold = f.matched;
     let cut = f.executed;
     let matched = by_unit(enrolled, h.offers.count, offering, &sold);
     let executed = by_unit(enrolled, h.executions.count, executing, &cut);
-    let maxima = shown_maxima(&published, &most);
+    let maxima = f.maxima;
     let market = f.market;
     let bilateral = f.bilateral;
     Cleared {

@@ -15,7 +15,7 @@ kept-requires c κs =
     let t = g .ensures .1 in
     let f = c .before .before .before .before .clear in
     let s = c .before .before .before .before .before .before .before .pre .0 in
-    let small = figures-small (g .result .hour) (f .result .figures) (f .ensures .1 .0) (f .ensures .1 .1) in
+    let small = figures-small (g .result .hour) (f .result .figures) (f .ensures .1) in
     (s .enrolled, t .0, t .1, small .0, small .1)
 
 returns : tie.Need-returns
@@ -23,7 +23,7 @@ returns c t =
     let a = c .before .before .before .before .before .before .before .before .args in
     let g = c .before .before .before .before .before .before .before .hour-at in
     let f = c .before .before .before .before .before .clear in
-    hour-told (a .s) _ (t .units) (a .k) (g .result) (f .result .figures) (c .kept .result) (t .places) (t .found) (g .ensures .0 t) (f .ensures .1 .0) (c .kept .ensures)
+    hour-told (a .s) _ (t .units) (a .k) (g .result) (f .result .figures) (c .kept .result) (t .places) (t .found) (g .ensures .0 t) (f .ensures .1) (c .kept .ensures)
 
 pub clear-hour-spec : {M : Type 1} → statement M
 clear-hour-spec = tie.close (tie.spec hour-at-requires clear-requires kept-requires returns)

@@ -32,6 +32,7 @@ ready-spec =
     tie.close
     (tie.spec
     returns
+    (λ c. search needs)
     returns-2
     (λ c κs. search needs)
     returns-3
