@@ -1,7 +1,7 @@
 -- The parts of an hour's clearing together are the rules' `clearHour`.
 use Prim.Native.Nat.{ℕ, _+_, _-_, _/_, _%_, _≤_, _<_}
 use mathlib.Core.Path.{_≡_, refl, sym, ap, _∙_}
-use mathlib.Core.Bool.{Bool, true, false, cond}
+use mathlib.Core.Bool.{Bool, false, cond}
 use mathlib.Core.List.{List, [], _∷_, _++_, map, map-map}
 use native.Mathlib.Nat.{le-trans}
 use native.Mathlib.Numerals.{add-one}
@@ -36,7 +36,6 @@ use Rattle.session.specs.Image.{byWay, energyOf}
 use Rattle.session.proofs.LaidLaws.{map-last, set-pad}
 use Rattle.session.proofs.PlaceLaws.{getD-map}
 use Rattle.hour.specs.declared.Hour.{Hour}
-use Rattle.hour.specs.declared.Figures.{Figures}
 use Rattle.market.specs.declared.Market.{Market}
 use Rattle.hour.specs.Ready.{Ready, isReady, figuresOf}
 use Rattle.hour.specs.View.{hourIn, figuresIn, figuresAs, noFigures}

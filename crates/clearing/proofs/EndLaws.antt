@@ -1,7 +1,7 @@
 -- The hours of a session that stands for a closed book, one after the other, and the call's ways out.
 use Prim.Native.Nat.{ℕ, suc, _+_, _≤_, _<_}
 use mathlib.Core.Path.{_≡_, refl, sym, ap, ap₂, _∙_}
-use mathlib.Core.Bool.{true, false, cond, not}
+use mathlib.Core.Bool.{true, cond, not}
 use mathlib.Core.List.{List, [], _∷_, _++_, map, map-map}
 use mathlib.Core.Option.{none as nothing}
 use native.Mathlib.Omega.{arith}
@@ -19,11 +19,10 @@ use Rattle.rules.specs.Closing as C
 use Rattle.rules.specs.Clearing as R
 use Rattle.rules.specs.Queries.{matchedAt, executedAt}
 use Rattle.rules.specs.DayBook as D
-use Rattle.rules.proofs.BoolLaws.{by-bool, neither}
+use Rattle.rules.proofs.BoolLaws.{neither}
 use Rattle.rules.proofs.ListLaws.{all-head}
 use Rattle.rules.proofs.RefusalLaws.{accepted-rows}
 use Rattle.rules.proofs.BookLaws.{frozen-judgements, frozen-figures}
-use Rattle.arrays.proofs.PlaceLaws.{zeros}
 use Rattle.hour.specs.declared.Hour.{Hour}
 use Rattle.hour.specs.declared.Figures.{Figures}
 use Rattle.hour.specs.Ready.{isReady, figuresOf}

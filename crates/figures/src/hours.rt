@@ -17,34 +17,37 @@ pub fn is_part(kind: u8) -> bool {
     }
 }
 
-// An hour with nothing in it.
+// What no session has, as number, border, price or energy.
+const NONE: u32 = 4294967295;
+
+// An hour with nothing in it. What stands behind its counts, and where nothing is published, must not matter.
 pub fn no_hour() -> Hour {
     Hour {
         offers: Offers {
             count: 0,
-            number: [0; 128],
-            unit: [0; 128],
-            border: [0; 128],
-            purchase: [false; 128],
-            legacy: [false; 128],
-            price: [0; 128],
+            number: [NONE; 128],
+            unit: [NONE; 128],
+            border: [NONE; 128],
+            purchase: [true; 128],
+            legacy: [true; 128],
+            price: [NONE; 128],
         },
-        offered: [0; 128],
+        offered: [NONE; 128],
         executions: Executions {
             count: 0,
-            number: [0; 128],
-            unit: [0; 128],
-            border: [0; 128],
-            purchase: [false; 128],
-            legacy: [false; 128],
+            number: [NONE; 128],
+            unit: [NONE; 128],
+            border: [NONE; 128],
+            purchase: [true; 128],
+            legacy: [true; 128],
         },
-        energy: [0; 128],
+        energy: [NONE; 128],
         published: [false; 10],
-        capacity: [0; 10],
+        capacity: [NONE; 10],
     }
 }
 
-// An offer more. The count goes one past the places, which no hour that is ready has.
+// An offer more, of a unit with its number. The count goes one past the places, which no hour that is ready has.
 fn with_offer(mut h: Hour, n: Numbers) -> Hour {
     let mut o = h.offers;
     let at = o.count;
@@ -53,6 +56,7 @@ fn with_offer(mut h: Hour, n: Numbers) -> Hour {
     }
     if at < 128 {
         o.number[at] = n.values[0];
+        o.unit[at] = n.values[0];
         o.border[at] = n.values[1];
         o.purchase[at] = n.values[2] == 1;
         o.legacy[at] = n.values[3] == 1;
@@ -73,8 +77,10 @@ fn with_execution(mut h: Hour, n: Numbers) -> Hour {
     }
     if at < 128 {
         x.number[at] = n.values[0];
+        x.unit[at] = n.values[0];
         x.border[at] = n.values[1];
         x.purchase[at] = n.values[2] == 1;
+        x.legacy[at] = false;
         h.energy[at] = n.values[3];
     }
     x.count = at + 1;

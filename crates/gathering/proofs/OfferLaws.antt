@@ -1,12 +1,12 @@
 -- How many lodgements an hour of a sound book has: 128 at most, and 64 offers, one of each unit.
-use Prim.Native.Nat.{ℕ, suc, _+_, _≤_, _<_}
+use Prim.Native.Nat.{ℕ, suc, _+_, _≤_}
 use mathlib.Core.Path.{_≡_, refl, sym, ap, _∙_}
 use mathlib.Core.Bool.{Bool, true, false, not, _&&_, Bool·beq, true≢false, false≢true}
 use mathlib.Core.List.{List, [], _∷_}
 use native.Mathlib.Omega.{arith}
-use lib.Dec.{ltb, eqb}
+use lib.Dec.{eqb}
 use lib.ListN.{length}
-use borrow.Author.Tests.{eqb-true, eqb-false, eq-eqb, ne-eqb, not-false, not-true}
+use borrow.Author.Tests.{eqb-true, eq-eqb, ne-eqb, not-false, not-true}
 use Rattle.rules.specs.Lists.{All, none, more, Pairwise, empty, ahead, keep, any}
 use Rattle.rules.specs.Units as U
 use Rattle.rules.specs.Message.{badContract}

@@ -1,8 +1,8 @@
 -- An hour built from a session that stands for a sound book is one that can be cleared.
-use Prim.Native.Nat.{ℕ, zero, suc, _+_, _-_, _≤_, _<_}
+use Prim.Native.Nat.{ℕ, zero, suc, _-_, _≤_, _<_}
 use mathlib.Core.Path.{_≡_, refl, sym, ap, subst, _∙_}
 use mathlib.Core.Bool.{Bool, true, false, not, _&&_, _||_, false≢true}
-use mathlib.Core.List.{List, [], _∷_, map}
+use mathlib.Core.List.{List}
 use mathlib.Core.Option.{some, none as nothing}
 use native.Mathlib.Omega.{arith}
 use lib.Dec.{ltb, eqb}
@@ -26,7 +26,7 @@ use Rattle.borders.specs.View as X
 use Rattle.borders.specs.Ways.{directed, publishedIn}
 use Rattle.hour.specs.declared.Hour.{Hour}
 use Rattle.hour.specs.View.{hourIn}
-use Rattle.hour.specs.Ready.{Between, HolderReady, OfferReady, ExecutionReady, Ready}
+use Rattle.hour.specs.Ready.{Between, OfferReady, ExecutionReady, Ready}
 use Rattle.hour.proofs.LaidLaws.{all-within, length-from}
 use Rattle.session.specs.declared.Session.{Session}
 use Rattle.session.specs.declared.Unit.{Unit}

@@ -1,7 +1,7 @@
 -- The rules' figures laid into arrays, and read back.
 use Prim.Native.Nat.{ℕ, zero, suc, _+_, _-_, _/_, _%_, _≤_, _<_}
 use mathlib.Core.Path.{_≡_, refl, sym, ap, ap₂, _∙_}
-use mathlib.Core.Bool.{Bool, true, false, cond, _&&_, Bool·beq}
+use mathlib.Core.Bool.{Bool, false, cond, _&&_, Bool·beq}
 use mathlib.Core.List.{List, [], _∷_, _++_, map, map-map}
 use mathlib.Core.Logic.{⊎-elim}
 use native.Mathlib.Omega.{arith}
@@ -16,7 +16,7 @@ use Rattle.rules.specs.Borders.{Directed, Execution, runs}
 use Rattle.rules.specs.Demands.{CutDown}
 use Rattle.rules.specs.Clearing as C
 use Rattle.rules.proofs.BoolLaws.{by-bool}
-use Rattle.rules.proofs.ListLaws.{all-map, all-mapped, all-keep, keep-passes, getD-pad}
+use Rattle.rules.proofs.ListLaws.{all-mapped, all-keep, keep-passes, getD-pad}
 use Rattle.rules.proofs.ElementLaws.{all-both}
 use Rattle.rules.proofs.HourLaws.{Final}
 use Rattle.arrays.specs.Places.{vals}

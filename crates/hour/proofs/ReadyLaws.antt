@@ -1,18 +1,16 @@
 -- The test of an hour and what it stands for.
 use Prim.Native.Nat.{ℕ, zero, suc, _+_, _-_, _≤_, _<_}
 use mathlib.Core.Path.{_≡_, refl}
-use mathlib.Core.Bool.{Bool, true, false, not, _&&_, _||_}
+use mathlib.Core.Bool.{Bool, true, false, _&&_, _||_}
 use mathlib.Core.List.{List, [], _∷_, map}
-use mathlib.Core.Logic.{⊎-elim}
-use native.Mathlib.Nat.{eq-or-lt-of-le}
 use native.Mathlib.Omega.{arith}
 use lib.Dec.{leb, ltb, eqb}
 use lib.ListN.{getD, replicate}
 use borrow.Author.Tests.{leb-true, le-leb, lt-leb, ltb-false, le-ltb, eqb-false, ne-eqb, not-true}
-use Rattle.rules.specs.Lists.{All, none, more, any, from, keep}
+use Rattle.rules.specs.Lists.{All, any, from}
 use Rattle.rules.specs.Units.{maxEnergy, maxPrice}
 use Rattle.rules.specs.Borders.{Directed}
-use Rattle.rules.proofs.BoolLaws.{by-bool, both, of-both, neither, of-neither}
+use Rattle.rules.proofs.BoolLaws.{by-bool, both, neither}
 use Rattle.rules.proofs.ListLaws.{all-map, all-mapped, all-keep, all-unkept, keep-passes, any-false, of-any-false}
 use Rattle.rules.proofs.ElementLaws.{all-both, all-unmapped, Pairwise, empty, ahead, pairwise-map}
 use Rattle.arrays.specs.Places.{vals}

@@ -1,6 +1,5 @@
 -- An hour in arrays, read as the rules' hour; the rules' figures laid into arrays, and read back.
-use Prim.Native.Nat.{ℕ}
-use mathlib.Core.List.{List, map}
+use mathlib.Core.List.{map}
 use lib.ListN.{replicate}
 use Rattle.rules.specs.Borders.{flow}
 use Rattle.rules.specs.Clearing as C

@@ -1,19 +1,18 @@
 -- What the tests of an hour's parts say: a law for each way out of a loop, and what a test that passes stands for.
 use Prim.Native.Nat.{ℕ, _+_, _-_, _≤_, _<_}
-use mathlib.Core.Path.{_≡_, refl, sym, _∙_}
-use mathlib.Core.Bool.{Bool, true, false, not, _&&_, _||_}
+use mathlib.Core.Path.{_≡_, refl}
+use mathlib.Core.Bool.{Bool, true, false, not}
 use mathlib.Core.List.{List, [], _∷_}
-use native.Mathlib.Omega.{arith}
 use native.Mathlib.Nat.{lt-trans}
-use lib.Dec.{ltb, eqb}
+use lib.Dec.{ltb}
 use lib.ListN.{getD}
 use borrow.Author.Tests.{lt-ltb, le-ltb, ltb-true, ltb-false, not-true}
 use Rattle.rules.specs.Lists.{All, none, more, any, from}
-use Rattle.rules.proofs.BoolLaws.{both, of-both, neither, of-neither}
+use Rattle.rules.proofs.BoolLaws.{both, neither}
 use Rattle.rules.proofs.ListLaws.{all-map}
 use Rattle.rules.proofs.ElementLaws.{Pairwise, empty, ahead}
 use Rattle.arrays.proofs.PlaceLaws.{none-off, from-next, from-end}
-use Rattle.readiness.specs.Ranges.{outside, inRow, lodgementsReady, badAt, badCapacity, badAtWay, capacitiesReady}
+use Rattle.readiness.specs.Ranges.{outside, inRow, badAtWay, capacitiesReady}
 
 -- A range
 

@@ -38,14 +38,7 @@ fn bad_holder(first: u32, number: u32, unit: u32, border: u32, legacy: bool) -> 
 }
 
 // Whether no session has such a lodgement in an hour: "Named energies are 1 to 99,999".
-fn bad_lodgement(
-    first: u32,
-    number: u32,
-    unit: u32,
-    border: u32,
-    legacy: bool,
-    energy: u32,
-) -> bool
+fn bad_lodgement(first: u32, number: u32, unit: u32, border: u32, legacy: bool, energy: u32) -> bool
     ensures { λ r. ⌜ r ≡ badLodgement first number unit border legacy energy ⌝ }
 {
     if bad_holder(first, number, unit, border, legacy) {

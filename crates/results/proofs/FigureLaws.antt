@@ -1,28 +1,24 @@
 -- An hour's figures from arrays are those that the session keeps.
-use Prim.Native.Nat.{ℕ, zero, suc, _+_, _-_, _/_, _%_, _≤_, _<_}
+use Prim.Native.Nat.{ℕ, _+_, _-_, _≤_, _<_}
 use mathlib.Core.Path.{_≡_, refl, sym, ap, _∙_}
-use mathlib.Core.Bool.{Bool, true, false, cond, _&&_, Bool·beq}
+use mathlib.Core.Bool.{Bool, cond}
 use mathlib.Core.List.{List, [], _∷_, _++_, map, map-map}
-use mathlib.Core.Logic.{⊎-elim}
 use native.Mathlib.Omega.{arith}
 use native.Mathlib.Numerals.{add-one}
-use native.Mathlib.Nat.{eq-or-lt-of-le}
 use lib.Dec.{eqb, ltb}
 use lib.ListN.{getD, length, take, set, replicate, length-set, length-map, length-append, length-replicate}
 use lib.Seq.{ext-getD, getD-append-add, getD-set-same, getD-set-other}
-use borrow.Author.Tests.{eqb-true, eqb-false, ltb-true, ltb-false, lt-ltb, le-ltb, eq-eqb, ne-eqb}
+use borrow.Author.Tests.{eqb-true, eqb-false, ltb-true, ltb-false, eq-eqb, ne-eqb}
 use Rattle.rules.specs.Lists.{keep, sum, sumOf, from}
 use Rattle.rules.specs.Units.{maxEnergy}
-use Rattle.rules.specs.Match.{Holder, Offer}
-use Rattle.rules.specs.Borders.{Execution, runs}
+use Rattle.rules.specs.Match.{Offer}
+use Rattle.rules.specs.Borders.{Execution}
 use Rattle.rules.proofs.BoolLaws.{by-bool}
 use Rattle.arrays.proofs.PlaceLaws.{from-all, map-all}
 use Rattle.matching.specs.declared.Offers.{Offers}
 use Rattle.matching.specs.View.{offerAt, offersOf}
 use Rattle.borders.specs.declared.Executions.{Executions}
 use Rattle.borders.specs.View.{executionAt, executionsOf}
-use Rattle.borders.specs.Ways.{wayOf, directed, publishedIn}
-use Rattle.borders.proofs.WayLaws.{way-back, runs-way}
 use Rattle.hour.specs.declared.Hour.{Hour}
 use Rattle.hour.specs.declared.Figures.{Figures}
 use Rattle.hour.specs.View.{figuresIn, figuresAs}

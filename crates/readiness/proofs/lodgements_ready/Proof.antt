@@ -40,7 +40,7 @@ loop-again c =
       omega arith,
       row-next (λ j. getD (a .number .now) j 0) (badAt (a .first) (a .number .now) (a .unit .now) (a .border .now) (a .legacy .now) (a .energy .now)) (c .before .before .before .before .before .before .before .before .before .loop .last) (c .before .before .before .before .before .before .before .before .before .loop .i) (a .n) (omega arith) (c .before .before .before .before .before .before .if1 .left)
           (sym (c .before .bad-lodgement .ensures) ∙ c .if2 .left)
-      ∙ c .before .before .before .before .before .before .before .before .before .loop .inv .1,
+          ∙ c .before .before .before .before .before .before .before .before .before .loop .inv .1,
     )
 
 returns-3 : tie.Need-returns-3 Inv-loop μ-loop
