@@ -9,7 +9,7 @@ use lib.ListN.{length}
 use borrow.Author.Tests.{eqb-true, eq-eqb, ne-eqb, not-false, not-true}
 use Rattle.rules.specs.Lists.{All, none, more, Pairwise, empty, ahead, keep, any}
 use Rattle.rules.specs.Units as U
-use Rattle.rules.specs.Message.{badContract}
+use Rattle.rules.specs.Message.{Key, badKey, badContract}
 use Rattle.rules.specs.Lodging as L
 use Rattle.rules.specs.Book as B
 use Rattle.rules.specs.Closing as C
@@ -74,11 +74,11 @@ marks true false f g h = absurd (true≢false h)
 marks false true f g h = absurd (true≢false g)
 marks false false f g h = absurd (true≢false f)
 
-same-offers : (k l : L.Key) → k .execution ≡ false → l .execution ≡ false → k .contract ≡ 0 → l .contract ≡ 0 → k .unit ≡ l .unit → L.sameButDefault k l ≡ true
+same-offers : (k l : Key) → k .execution ≡ false → l .execution ≡ false → k .contract ≡ 0 → l .contract ≡ 0 → k .unit ≡ l .unit → L.sameButDefault k l ≡ true
 unfolding L.sameButDefault
 same-offers k l a b c d e = of-both (of-both (of-beq _ _ (a ∙ sym b)) (eq-eqb _ _ e)) (eq-eqb _ _ (c ∙ sym d))
 
-module _ (k l : L.Key) (same : L.sameButDefault k l ≡ true) (back : L.sameButDefault l k ≡ true) where
+module _ (k l : Key) (same : L.sameButDefault k l ≡ true) (back : L.sameButDefault l k ≡ true) where
   one-hides : L.sameKey k l ≡ false → L.hides k l ≡ false → L.hides l k ≡ false → ⊥
   unfolding L.sameKey L.hides
   one-hides a b c = marks (k .default) (l .default) (rw same at a) (rw same at b) (rw back at c)
@@ -93,7 +93,7 @@ module _ (b : B.Book) (sound : S.Sound b) where
   isAccepted l = C.isAccepted (C.verdictAmong (C.judgements b) (l .number))
 
   offer-contract : All (λ l. l .key .execution ≡ false → l .key .contract ≡ 0) (b .standing)
-  unfolding L.badKey badContract
+  unfolding badKey badContract
   offer-contract =
       all-map (λ l m e. eqb-true _ _ (not-false _ (ap (λ x. badContract x (l .key .contract)) (sym e) ∙ neither (U.badNumber (l .key .unit)) (badContract (l .key .execution) (l .key .contract)) (m .key) .1))) (sound .standing .messages)
 
