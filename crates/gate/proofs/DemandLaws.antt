@@ -50,7 +50,7 @@ pub record Promises {M : Type 1} (𝓤 : URA M) (T : Ended) (c : Clauses 𝓤 T)
   pub ghost : (κs : Lfts (T .signature .lifetimes)) (a : Args (T .signature) κs) → c κs a .ghost
   pub asks : (κs : Lfts (T .signature .lifetimes)) (a : Args (T .signature) κs) → ent 𝓤 (emp 𝓤) (c κs a .requires (ghost κs a))
   pub gives : (κs : Lfts (T .signature .lifetimes)) (a : Args (T .signature) κs) (g : c κs a .ghost) (r : Res (T .signature) κs) (e : AtExit T κs)
-    → ent 𝓤 (c κs a .ensures g r e) (fact 𝓤 (P κs a r e))
+      → ent 𝓤 (c κs a .ensures g r e) (fact 𝓤 (P κs a r e))
 
 pub record GateDemanded {M : Type 1} (𝓤 : URA M) (H : Heap 𝓤) (A : Atoms 𝓤) (at-mem : Memory → SProp 𝓤) (run : Routine → Fun 𝓤) : Type 1 where
   -- opening and the calls, as `Demanded` has them
