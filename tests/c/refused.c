@@ -162,8 +162,9 @@ static void changes_too_late(void) {
     REFUSED(gate_close(s), GATE_REFUSED_GATE, 0);
 }
 
+/* A counter that lives over TRY's jump back is volatile. */
 static void figures_too_early(void) {
-    for (uint32_t hour = 0; hour < 27; hour += 13) {
+    for (volatile uint32_t hour = 0; hour < 27; hour += 13) {
         REFUSED(gate_matched(s, 1, hour), GATE_REFUSED_GATE, 0);
         REFUSED(gate_executed(s, 1, hour), GATE_REFUSED_GATE, 0);
         REFUSED(gate_market(s, 1, hour), GATE_REFUSED_GATE, 0);
@@ -268,7 +269,7 @@ static void cleared(void) {
     REFUSED(gate_verdict(s, 0), GATE_REFUSED_ABSENT, 0);
     TRY(gate_verdict(s, s->lodgements[0].number), GATE_ACCEPTED, 0, 0);
     static const uint32_t hours[] = {0, 25, 4294967295u};
-    for (size_t i = 0; i < 3; i++) {
+    for (volatile size_t i = 0; i < 3; i++) {
         REFUSED(gate_matched(s, 1, hours[i]), GATE_REFUSED_HOUR, 0);
         REFUSED(gate_executed(s, 1, hours[i]), GATE_REFUSED_HOUR, 0);
         REFUSED(gate_market(s, 1, hours[i]), GATE_REFUSED_HOUR, 0);
@@ -278,7 +279,7 @@ static void cleared(void) {
         REFUSED(gate_price(s, hours[i]), GATE_REFUSED_HOUR, 0);
     }
     static const uint32_t borders[] = {0, 5, 4294967295u};
-    for (size_t i = 0; i < 3; i++) {
+    for (volatile size_t i = 0; i < 3; i++) {
         REFUSED(gate_market(s, borders[i], 1), GATE_REFUSED_RANGE, 0);
         REFUSED(gate_bilateral(s, borders[i], 1), GATE_REFUSED_RANGE, 0);
         REFUSED(gate_market_maximum(s, borders[i], true, 1), GATE_REFUSED_RANGE, 0);
