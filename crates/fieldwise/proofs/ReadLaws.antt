@@ -1,6 +1,6 @@
 -- What was taken of a message and what the tests of it found, as the rules' outcome of reading.
 use Prim.Native.Nat.{ℕ, _≤_, _-_, _^_}
-use mathlib.Core.Path.{_≡_, refl, ap}
+use mathlib.Core.Path.{_≡_, refl}
 use mathlib.Core.Bool.{true, false}
 use mathlib.Core.List.{List}
 use native.Mathlib.Omega.{arith}
@@ -48,4 +48,7 @@ module _ (bytes : List ℕ) where
 
     pub read-given : badMap (m .map) ≡ false → badFields (formOf bytes .top) (fieldsIn m) ≡ false → record { refusal = 0; fields = m } ≡ readingAs (read bytes)
     unfolding readingAs read readRows outcome firstRow unless row wrongRange
-    read-given b d = rw (a, ← same, b, d)
+    read-given b d =
+        let b′ : badMap (messageOf bytes .map) ≡ false = rw e at b in
+        let d′ : wrongRange bytes ≡ false = rw same at d in
+        rw (e, a, b′, d′)
