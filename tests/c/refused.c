@@ -335,7 +335,7 @@ static void pages_are_guarded(void) {
     static volatile uint8_t *const *at = (volatile uint8_t *const *)&buffer;
     checks++;
     protect(PROT_READ);
-    bool faulted = true;
+    volatile bool faulted = true; /* kept over the jump */
     if (sigsetjmp(back, 1) == 0) {
         armed = 1;
         **at = 0;
