@@ -93,6 +93,10 @@ fn hand_over(session: &ffi::Session, flags: Flags, rng: &mut Rng, kinds: &mut [u
     for call in &calls {
         count(fenced.call(call, flags, rng.next() as u8));
     }
+    // Once closed, what each lodgement is told, hidden and refused ones too.
+    for lodgement in &fenced.session.lodgements {
+        count(asked(&fenced.session, Query::Verdict(lodgement.number)));
+    }
 }
 
 /// Numbers of a size that lets calls go on, in the places that say how many of something there are; the rest is still random.
