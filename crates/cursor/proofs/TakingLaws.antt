@@ -2,17 +2,17 @@
 use Prim.Native.Nat.{ℕ, suc, _+_, _*_, _-_, _^_, _≤_, _<_, min}
 use mathlib.Core.Path.{_≡_, refl, ap, sym, _∙_}
 use mathlib.Core.Bool.{Bool, true, false}
-use mathlib.Core.List.{List, [], _∷_}
+use mathlib.Core.List.{List, _∷_}
 use native.Mathlib.Omega.{arith}
 use native.Mathlib.Nat.{add-zero, zero-mul, suc-mul}
 use lib.Dec.{eqb}
 use lib.ListN.{length, drop}
 use lib.Seq.{drop-drop}
 use Rattle.rules.specs.Lists.{sum, more as cons}
-use Rattle.rules.specs.Message.{Form, field, priceWidth, slotWidth, hourBits, setBits, readSlots, isExecution, mapOf, fieldsOf}
+use Rattle.rules.specs.Message.{field, priceWidth, slotWidth, hourBits, setBits, readSlots, isExecution, mapOf, fieldsOf}
 use Rattle.rules.proofs.ListLaws.{Under}
 use Rattle.rules.proofs.BitLaws.{length-bits, bits-under, field-drop}
-use Rattle.cursor.specs.Taking.{Takes, SlotTaken, unset, set, SlotsTaken, none, more, MessageTaken, taken, FieldsTaken}
+use Rattle.cursor.specs.Taking.{Takes, unset, set, SlotsTaken, none, more, taken, FieldsTaken}
 
 -- at most 32 bits, to a position that a machine word holds
 takes : (bs : List ℕ) (at w : ℕ) {v next : ℕ} → Takes bs at w v next → w ≤ 32 → at + w < 2 ^ 64 → (v ≡ field at w bs) × (next ≡ at + w)

@@ -1,6 +1,6 @@
 -- What was taken of a message and what the tests of it found, as the rules' outcome of reading.
 use Prim.Native.Nat.{ℕ, _≤_, _-_, _^_}
-use mathlib.Core.Path.{_≡_, refl, ap}
+use mathlib.Core.Path.{_≡_, refl}
 use mathlib.Core.Bool.{true, false}
 use mathlib.Core.List.{List}
 use native.Mathlib.Omega.{arith}

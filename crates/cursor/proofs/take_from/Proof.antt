@@ -35,7 +35,6 @@ use denote.Builtin.{u8, u32, usize}
 use denote.Ref.{RefT, NamedLft, MutRef, now}
 use denote.Slice.{sliceVal, ShrSlice, slice-vals, shr-slice-tells, shr-slice-lawful, shr-slice-copy}
 use denote.Steps.{only, owned, peeks, heard, nothing}
-use denote.Struct.Declared.{Declared}
 use denote.Struct.Steps.{spelt}
 use denote.Struct.Laws as LL
 use denote.Struct.Rest.{own-put}

@@ -1,8 +1,5 @@
 -- `read` meets its contract: each way out is an outcome of the table, in its order.
-use mathlib.Core.Path.{_≡_, sym, _∙_}
-use mathlib.Core.Bool.{false}
-use Rattle.rules.specs.Message.{wrongForm, badMap, badFields, formOf}
-use Rattle.message.specs.View.{fieldsIn}
+use mathlib.Core.Path.{sym, _∙_}
 use Rattle.fieldwise.proofs.ReadLaws.{read-3, read-4, read-5, read-given}
 use Rattle.fieldwise.proofs.read.Statement.{statement}
 use Rattle.fieldwise.proofs.read.Tie as tie
