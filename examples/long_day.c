@@ -151,10 +151,10 @@ int main(void) {
     for (uint32_t hour = 3; hour <= 4; hour++) {
         printf("hour %u\n", (unsigned)hour);
         say("  matched for France, unit 7", gate_matched(s, 7, hour));
-        say("  market balance of France", gate_market(s, GATE_FRANCE, hour));
+        say("  market balance of France", gate_market_balance(s, GATE_FRANCE, hour));
         say("  sold by unit 1", gate_matched(s, 1, hour));
         say("  executed by unit 8", gate_executed(s, 8, hour));
-        say("  balance of Portugal's executions", gate_bilateral(s, GATE_PORTUGAL, hour));
+        say("  balance of Portugal's executions", gate_bilateral_balance(s, GATE_PORTUGAL, hour));
         say("  market maximum to France", gate_market_maximum(s, GATE_FRANCE, true, hour));
         say("  market maximum from France", gate_market_maximum(s, GATE_FRANCE, false, hour));
         say("  bilateral maximum to France", gate_bilateral_maximum(s, GATE_FRANCE, true, hour));

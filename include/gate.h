@@ -7,7 +7,7 @@
  *         rt staticlib gate                        proves the gate, makes target/staticlib/libgate.a (x86-64, System V calling convention)
  *         cc -Iinclude program.c target/staticlib/libgate.a -o program
  *
- * A day:  gate_open, then gate_register, gate_capacity, gate_available, gate_lodge and gate_annul in any order and number (a unit
+ * A day:  gate_open, then gate_register, gate_capacity, gate_unavailability, gate_lodge and gate_annul in any order and number (a unit
  *         is registered before it is named), then gate_close, then gate_clear; gate_verdict from closing on, the other queries
  *         from clearing on. A call that comes too early or too late is refused and changes nothing.
  *
@@ -136,11 +136,11 @@ typedef struct GateUnit {
 } GateUnit;
 
 /* An unavailability notice: `count` available energies of a unit, hour 1 first. A count that is not the day's is refused (4). */
-typedef struct GateAvailability {
+typedef struct GateUnavailability {
     size_t count;
     uint32_t unit;
     uint32_t energies[GATE_HOURS];
-} GateAvailability;
+} GateUnavailability;
 
 /* A direction of a capacity notice: absent (then count and energies are not looked at), which means no maximum, or `count` energies,
  * hour 1 first, of which 0 is a maximum too. Before the first notice every direction is absent. */
@@ -247,14 +247,14 @@ typedef struct GateVerdict {
 
 /* An hour's figures, after clearing. Energies at the borders stand at border * 2 for export, border * 2 + 1 for import; those of
  * units in the units' places. */
-typedef struct GateCleared {
+typedef struct GateHourFigures {
     uint32_t price;
     uint32_t market[GATE_WAYS];
     uint32_t bilateral[GATE_WAYS];
     uint32_t maxima[GATE_WAYS]; /* market maxima, 0 also where the direction has none (gate_market_maximum tells) */
     uint32_t matched[GATE_UNITS];
     uint32_t executed[GATE_UNITS];
-} GateCleared;
+} GateHourFigures;
 
 typedef struct GateSession {
     GateDate date;
@@ -271,7 +271,7 @@ typedef struct GateSession {
     bool cleared;
     uint16_t reserved;
     GateVerdict verdicts[GATE_LODGEMENTS];     /* in the lodgements' places, once closed */
-    GateCleared figures[GATE_HOURS];           /* hour 1 first, once cleared */
+    GateHourFigures figures[GATE_HOURS];           /* hour 1 first, once cleared */
     uint32_t reserved2;
 } GateSession;
 
@@ -289,7 +289,7 @@ GATE_ASSERT(sizeof(GateResponse) == 32 && offsetof(GateResponse, value) == 16 &&
 GATE_ASSERT(sizeof(GateDate) == 12);
 GATE_ASSERT(sizeof(GateClock) == 8 && offsetof(GateClock, second) == 4);
 GATE_ASSERT(sizeof(GateUnit) == 20 && offsetof(GateUnit, maximum) == 12 && offsetof(GateUnit, purchase) == 16 && offsetof(GateUnit, legacy) == 17);
-GATE_ASSERT(sizeof(GateAvailability) == 112 && offsetof(GateAvailability, unit) == 8 && offsetof(GateAvailability, energies) == 12);
+GATE_ASSERT(sizeof(GateUnavailability) == 112 && offsetof(GateUnavailability, unit) == 8 && offsetof(GateUnavailability, energies) == 12);
 GATE_ASSERT(sizeof(GatePublished) == 112 && offsetof(GatePublished, published) == 8 && offsetof(GatePublished, energies) == 12);
 GATE_ASSERT(sizeof(GateCapacities) == 896);
 GATE_ASSERT(sizeof(GateKey) == 12 && offsetof(GateKey, unit) == 4);
@@ -300,7 +300,7 @@ GATE_ASSERT(sizeof(GateClockName) == 12 && offsetof(GateClockName, second) == 8)
 GATE_ASSERT(sizeof(GateNotice) == 104 && offsetof(GateNotice, energies) == 4);
 GATE_ASSERT(sizeof(GateLodgement) == 16 && sizeof(GateEnergies) == 200);
 GATE_ASSERT(sizeof(GateVerdict) == 12 && offsetof(GateVerdict, limit) == 4);
-GATE_ASSERT(sizeof(GateCleared) == 636 && offsetof(GateCleared, executed) == 380);
+GATE_ASSERT(sizeof(GateHourFigures) == 636 && offsetof(GateHourFigures, executed) == 380);
 GATE_ASSERT(offsetof(GateSession, hours) == 12 && offsetof(GateSession, enrolled) == 16 && offsetof(GateSession, units) == 24);
 GATE_ASSERT(offsetof(GateSession, notices) == 1304 && offsetof(GateSession, capacities) == 7960);
 GATE_ASSERT(offsetof(GateSession, standing) == 8792 && offsetof(GateSession, lodgements) == 8800);
@@ -341,7 +341,7 @@ GateWritten gate_write(GateFields fields, uint8_t *buffer, size_t length);
 GateResponse gate_register(GateSession *session, GateUnit unit);
 
 /* Takes an unavailability notice, which replaces the unit's earlier one: accepted. Refused 2, 4, 5, 6. */
-GateResponse gate_available(GateSession *session, GateAvailability notice);
+GateResponse gate_unavailability(GateSession *session, GateUnavailability notice);
 
 /* Takes a capacity notice, which replaces the one before it: accepted. Refused 2, 4, 5. */
 GateResponse gate_capacity(GateSession *session, GateCapacities notice);
@@ -371,10 +371,10 @@ GateResponse gate_matched(const GateSession *session, uint32_t unit, uint32_t ho
 GateResponse gate_executed(const GateSession *session, uint32_t unit, uint32_t hour);
 
 /* The final market balance of a border 1 to 4 in an hour, a figure. Refused 2, 4, 5. */
-GateResponse gate_market(const GateSession *session, uint32_t border, uint32_t hour);
+GateResponse gate_market_balance(const GateSession *session, uint32_t border, uint32_t hour);
 
 /* The final balance of its executions, a figure. Refused 2, 4, 5. */
-GateResponse gate_bilateral(const GateSession *session, uint32_t border, uint32_t hour);
+GateResponse gate_bilateral_balance(const GateSession *session, uint32_t border, uint32_t hour);
 
 /* The market maximum of a border's direction in an hour: a figure, or absent. Refused 2, 4, 5. */
 GateResponse gate_market_maximum(const GateSession *session, uint32_t border, bool is_export, uint32_t hour);

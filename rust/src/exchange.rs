@@ -57,7 +57,7 @@ pub trait Exchange: Sized {
         let done = |()| Accepted::Done;
         match call {
             Call::Register(unit) => self.register(unit).map(done),
-            Call::Available(unit, energies) => self.available(unit, energies).map(done),
+            Call::Available(unit, energies) => self.unavailability(unit, energies).map(done),
             Call::Capacity(capacities) => self.capacity(capacities).map(done),
             Call::Lodge(message) => self.lodge(message).map(Accepted::Number),
             Call::Annul(key) => self.annul(key).map(done),
@@ -70,7 +70,7 @@ pub trait Exchange: Sized {
     fn register(&mut self, unit: Unit) -> Result<(), Refusal>;
 
     /// An unavailability notice: the energies that a unit has available.
-    fn available(&mut self, unit: u32, energies: &Energies) -> Result<(), Refusal>;
+    fn unavailability(&mut self, unit: u32, energies: &Energies) -> Result<(), Refusal>;
 
     /// A capacity notice; it replaces the one before it, whole.
     fn capacity(&mut self, capacities: &Capacities) -> Result<(), Refusal>;
@@ -97,10 +97,10 @@ pub trait Exchange: Sized {
     fn executed(&self, unit: u32, hour: u32) -> Result<u32, Refusal>;
 
     /// A border's final market balance in an hour, exports less imports, after clearing.
-    fn market(&self, border: u32, hour: u32) -> Result<i64, Refusal>;
+    fn market_balance(&self, border: u32, hour: u32) -> Result<i64, Refusal>;
 
     /// A border's final balance of executions in an hour, exports less imports, after clearing.
-    fn bilateral(&self, border: u32, hour: u32) -> Result<i64, Refusal>;
+    fn bilateral_balance(&self, border: u32, hour: u32) -> Result<i64, Refusal>;
 
     /// The market maximum of a border's direction in an hour, none without capacity, after clearing.
     fn market_maximum(&self, border: u32, direction: Direction, hour: u32) -> Result<Option<i64>, Refusal>;

@@ -278,7 +278,7 @@ pub struct Verdict {
 /// A cleared hour.
 #[repr(C)]
 #[derive(Clone, Copy, PartialEq, Eq)]
-pub struct Cleared {
+pub struct HourFigures {
     /// The price.
     pub price: u32,
     /// Market flows by direction.
@@ -326,7 +326,7 @@ pub struct Session {
     /// The lodgements' verdicts.
     pub verdicts: [Verdict; 128],
     /// The hours' figures.
-    pub figures: [Cleared; 25],
+    pub figures: [HourFigures; 25],
     /// Reserved.
     pub reserved2: u32,
 }
@@ -387,7 +387,7 @@ plain! {
     Lodgement { key, number }
     Energies { energies, prices }
     Verdict { accepted, reserved, reserved2, limit, hour }
-    Cleared { price, market, bilateral, maxima, matched, executed }
+    HourFigures { price, market, bilateral, maxima, matched, executed }
     Session {
         date, hours, enrolled, units, notices, capacities, standing, lodgements, energies, last, closed, cleared, reserved,
         verdicts, figures, reserved2
@@ -405,7 +405,7 @@ mod declared {
         pub fn gate_read(message: *const u8, length: usize) -> Reading;
         pub fn gate_write(fields: Fields, buffer: *mut u8, length: usize) -> Written;
         pub fn gate_register(session: *mut Session, unit: Unit) -> Response;
-        pub fn gate_available(session: *mut Session, notice: Availability) -> Response;
+        pub fn gate_unavailability(session: *mut Session, notice: Availability) -> Response;
         pub fn gate_capacity(session: *mut Session, notice: Capacities) -> Response;
         pub fn gate_lodge(session: *mut Session, message: *const u8, length: usize) -> Response;
         pub fn gate_annul(session: *mut Session, key: Key) -> Response;
@@ -414,8 +414,8 @@ mod declared {
         pub fn gate_verdict(session: *const Session, number: u32) -> Response;
         pub fn gate_matched(session: *const Session, unit: u32, hour: u32) -> Response;
         pub fn gate_executed(session: *const Session, unit: u32, hour: u32) -> Response;
-        pub fn gate_market(session: *const Session, border: u32, hour: u32) -> Response;
-        pub fn gate_bilateral(session: *const Session, border: u32, hour: u32) -> Response;
+        pub fn gate_market_balance(session: *const Session, border: u32, hour: u32) -> Response;
+        pub fn gate_bilateral_balance(session: *const Session, border: u32, hour: u32) -> Response;
         pub fn gate_market_maximum(session: *const Session, border: u32, export: bool, hour: u32) -> Response;
         pub fn gate_bilateral_maximum(session: *const Session, border: u32, export: bool, hour: u32) -> Response;
         pub fn gate_price(session: *const Session, hour: u32) -> Response;
@@ -469,9 +469,9 @@ pub fn register(session: &mut Session, unit: Unit) -> Response {
 }
 
 /// An unavailability notice.
-pub fn available(session: &mut Session, notice: Availability) -> Response {
+pub fn unavailability(session: &mut Session, notice: Availability) -> Response {
     // SAFETY: the session is a reference's, lent to this call alone.
-    unsafe { declared::gate_available(session, notice) }
+    unsafe { declared::gate_unavailability(session, notice) }
 }
 
 /// A capacity notice.
@@ -523,15 +523,15 @@ pub fn executed(session: &Session, unit: u32, hour: u32) -> Response {
 }
 
 /// A border's market balance.
-pub fn market(session: &Session, border: u32, hour: u32) -> Response {
+pub fn market_balance(session: &Session, border: u32, hour: u32) -> Response {
     // SAFETY: the session is a reference's, lent for the call, and the gate only reads it.
-    unsafe { declared::gate_market(session, border, hour) }
+    unsafe { declared::gate_market_balance(session, border, hour) }
 }
 
 /// A border's bilateral balance.
-pub fn bilateral(session: &Session, border: u32, hour: u32) -> Response {
+pub fn bilateral_balance(session: &Session, border: u32, hour: u32) -> Response {
     // SAFETY: the session is a reference's, lent for the call, and the gate only reads it.
-    unsafe { declared::gate_bilateral(session, border, hour) }
+    unsafe { declared::gate_bilateral_balance(session, border, hour) }
 }
 
 /// The market maximum of a border's direction.

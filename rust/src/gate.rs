@@ -241,9 +241,9 @@ impl Gate {
     }
 
     /// An unavailability notice; it replaces the unit's earlier one. Refused as 2, 4, 5 or 6.
-    pub fn available(&mut self, unit: u32, energies: &Energies) -> Result<(), Refusal> {
+    pub fn unavailability(&mut self, unit: u32, energies: &Energies) -> Result<(), Refusal> {
         let notice = ffi::Availability { count: energies.count(), unit, energies: *energies.values() };
-        done(&ffi::available(&mut self.session, notice))
+        done(&ffi::unavailability(&mut self.session, notice))
     }
 
     /// A capacity notice; it replaces the one before it, whole. Refused as 2, 4 or 5.
@@ -308,13 +308,13 @@ impl Gate {
     }
 
     /// A border's final market balance in an hour, exports less imports, after clearing. Refused as 2, 4 or 5.
-    pub fn market(&self, border: u32, hour: u32) -> Result<i64, Refusal> {
-        figure(&ffi::market(&self.session, border, hour))
+    pub fn market_balance(&self, border: u32, hour: u32) -> Result<i64, Refusal> {
+        figure(&ffi::market_balance(&self.session, border, hour))
     }
 
     /// A border's final balance of executions in an hour, exports less imports, after clearing. Refused as 2, 4 or 5.
-    pub fn bilateral(&self, border: u32, hour: u32) -> Result<i64, Refusal> {
-        figure(&ffi::bilateral(&self.session, border, hour))
+    pub fn bilateral_balance(&self, border: u32, hour: u32) -> Result<i64, Refusal> {
+        figure(&ffi::bilateral_balance(&self.session, border, hour))
     }
 
     /// The market maximum of a border's direction in an hour, after clearing, none without capacity. It is counted in that
@@ -365,8 +365,8 @@ impl Exchange for Gate {
     fn register(&mut self, unit: Unit) -> Result<(), Refusal> {
         self.register(unit)
     }
-    fn available(&mut self, unit: u32, energies: &Energies) -> Result<(), Refusal> {
-        self.available(unit, energies)
+    fn unavailability(&mut self, unit: u32, energies: &Energies) -> Result<(), Refusal> {
+        self.unavailability(unit, energies)
     }
     fn capacity(&mut self, capacities: &Capacities) -> Result<(), Refusal> {
         self.capacity(capacities)
@@ -392,11 +392,11 @@ impl Exchange for Gate {
     fn executed(&self, unit: u32, hour: u32) -> Result<u32, Refusal> {
         self.executed(unit, hour)
     }
-    fn market(&self, border: u32, hour: u32) -> Result<i64, Refusal> {
-        self.market(border, hour)
+    fn market_balance(&self, border: u32, hour: u32) -> Result<i64, Refusal> {
+        self.market_balance(border, hour)
     }
-    fn bilateral(&self, border: u32, hour: u32) -> Result<i64, Refusal> {
-        self.bilateral(border, hour)
+    fn bilateral_balance(&self, border: u32, hour: u32) -> Result<i64, Refusal> {
+        self.bilateral_balance(border, hour)
     }
     fn market_maximum(&self, border: u32, direction: Direction, hour: u32) -> Result<Option<i64>, Refusal> {
         self.market_maximum(border, direction, hour)

@@ -189,8 +189,8 @@ fn answer<E: Exchange>(session: &mut E, words: &[&str]) -> Option<String> {
         ["verdict", given] => said(session.verdict(number(given)?)),
         ["matched", unit, hour] => said(session.matched(number(unit)?, number(hour)?)),
         ["executed", unit, hour] => said(session.executed(number(unit)?, number(hour)?)),
-        ["market", border, hour] => said(session.market(number(border)?, number(hour)?)),
-        ["bilateral", border, hour] => said(session.bilateral(number(border)?, number(hour)?)),
+        ["market", border, hour] => said(session.market_balance(number(border)?, number(hour)?)),
+        ["bilateral", border, hour] => said(session.bilateral_balance(number(border)?, number(hour)?)),
         ["price", hour] => said(session.price(number(hour)?)),
         ["market-maximum", border, way, hour] => {
             maximum(session.market_maximum(number(border)?, direction(way)?, number(hour)?))

@@ -106,7 +106,7 @@ fn any_fields(rng: &mut Rng) -> Fields {
     fields
 }
 
-/// Written into a buffer of `room` bytes by both: the same answer, the same bytes, none beyond them.
+/// Written into a buffer of `close_order` bytes by both: the same answer, the same bytes, none beyond them.
 fn write_alike(fields: &Fields, room: usize, stuffing: u8) -> Result<Vec<u8>, Refusal> {
     let (mut left, mut right) = (vec![stuffing; room], vec![stuffing; room]);
     let answer = Gate::write(fields, &mut left);

@@ -23,7 +23,7 @@ fn mirrors() -> Vec<Layout> {
         layout!("GateDate" Date { year, month, day }),
         layout!("GateClock" Clock { name, second, reserved, reserved2 }),
         layout!("GateUnit" Unit { number, agent, border, maximum, purchase, legacy, reserved }),
-        layout!("GateAvailability" Availability { count, unit, energies }),
+        layout!("GateUnavailability" Availability { count, unit, energies }),
         layout!("GatePublished" Published { count, published, reserved, reserved2, energies }),
         layout!("GateCapacities" Capacities { directions }),
         layout!("GateKey" Key { execution, default as "is_default", reserved, unit, contract }),
@@ -37,7 +37,7 @@ fn mirrors() -> Vec<Layout> {
         layout!("GateLodgement" Lodgement { key, number }),
         layout!("GateEnergies" Energies { energies, prices }),
         layout!("GateVerdict" Verdict { accepted, reserved, reserved2, limit, hour }),
-        layout!("GateCleared" Cleared { price, market, bilateral, maxima, matched, executed }),
+        layout!("GateHourFigures" HourFigures { price, market, bilateral, maxima, matched, executed }),
         layout!("GateSession" Session {
             date, hours, enrolled, units, notices, capacities, standing, lodgements, energies, last, closed, cleared,
             reserved, verdicts, figures, reserved2
@@ -143,7 +143,7 @@ fn a_day_runs_on_a_small_stack() {
         let mut gate = Gate::open(Date::new(2006, 10, 29)).unwrap();
         gate.register(Unit { number: 1, agent: 1, border: 1, purchase: true, maximum: 9, legacy: false }).unwrap();
         gate.capacity(&Capacities::none().with(1, Direction::Export, Energies::flat(5, 25))).unwrap();
-        gate.available(1, &Energies::flat(9, 25)).unwrap();
+        gate.unavailability(1, &Energies::flat(9, 25)).unwrap();
         let key = Key { execution: true, default: false, unit: 1, contract: 3 };
         let mut buffer = [0; LONGEST_MESSAGE];
         let length = Gate::write(&Fields::of(key).with(25, 9, 0), &mut buffer).unwrap();

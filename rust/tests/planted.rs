@@ -43,8 +43,8 @@ impl<const FAULT: u8> Exchange for Planted<FAULT> {
     fn register(&mut self, unit: Unit) -> Result<(), Refusal> {
         self.session.register(unit)
     }
-    fn available(&mut self, unit: u32, energies: &Energies) -> Result<(), Refusal> {
-        self.session.available(unit, energies)
+    fn unavailability(&mut self, unit: u32, energies: &Energies) -> Result<(), Refusal> {
+        self.session.unavailability(unit, energies)
     }
     fn capacity(&mut self, capacities: &Capacities) -> Result<(), Refusal> {
         self.session.capacity(capacities)
@@ -71,11 +71,11 @@ impl<const FAULT: u8> Exchange for Planted<FAULT> {
     fn executed(&self, unit: u32, hour: u32) -> Result<u32, Refusal> {
         self.session.executed(unit, hour)
     }
-    fn market(&self, border: u32, hour: u32) -> Result<i64, Refusal> {
-        self.session.market(border, hour)
+    fn market_balance(&self, border: u32, hour: u32) -> Result<i64, Refusal> {
+        self.session.market_balance(border, hour)
     }
-    fn bilateral(&self, border: u32, hour: u32) -> Result<i64, Refusal> {
-        self.session.bilateral(border, hour)
+    fn bilateral_balance(&self, border: u32, hour: u32) -> Result<i64, Refusal> {
+        self.session.bilateral_balance(border, hour)
     }
     fn market_maximum(&self, border: u32, direction: Direction, hour: u32) -> Result<Option<i64>, Refusal> {
         self.session.market_maximum(border, direction, hour)

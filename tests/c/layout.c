@@ -128,15 +128,15 @@ static GatePublished published(uint32_t energy) {
 /* The figures in the session are those that the queries answer. */
 static void figures_agree(void) {
     for (uint32_t h = 1; h <= s->hours; h++) {
-        const GateCleared *f = &s->figures[h - 1];
+        const GateHourFigures *f = &s->figures[h - 1];
         CHECK(figure(gate_price(s, h), f->price));
         for (size_t i = 0; i < s->enrolled; i++) {
             CHECK(figure(gate_matched(s, s->units[i].number, h), f->matched[i]));
             CHECK(figure(gate_executed(s, s->units[i].number, h), f->executed[i]));
         }
         for (uint32_t b = 1; b <= 4; b++) {
-            CHECK(figure(gate_market(s, b, h), (int64_t)f->market[b * 2] - (int64_t)f->market[b * 2 + 1]));
-            CHECK(figure(gate_bilateral(s, b, h), (int64_t)f->bilateral[b * 2] - (int64_t)f->bilateral[b * 2 + 1]));
+            CHECK(figure(gate_market_balance(s, b, h), (int64_t)f->market[b * 2] - (int64_t)f->market[b * 2 + 1]));
+            CHECK(figure(gate_bilateral_balance(s, b, h), (int64_t)f->bilateral[b * 2] - (int64_t)f->bilateral[b * 2 + 1]));
             for (int export = 0; export <= 1; export++) {
                 const GateNotice *c = &s->capacities[gate_direction(b, export)];
                 GateResponse market = gate_market_maximum(s, b, export, h);
@@ -203,14 +203,14 @@ static void full_day(void) {
     }
     CHECK(refused(gate_register(s, unit_of(1, 1, 0, false, 1, false)), GATE_REFUSED_FULL, 0));
     for (uint32_t i = 0; i < GATE_UNITS; i++) {
-        GateAvailability n = {25, 1000 + i, {0}};
+        GateUnavailability n = {25, 1000 + i, {0}};
         for (uint32_t h = 0; h < 25; h++) n.energies[h] = 80000 + 100 * i + h;
-        CHECK(accepted(gate_available(s, n)));
+        CHECK(accepted(gate_unavailability(s, n)));
         CHECK(s->notices[i].given && same32(s->notices[i].energies, n.energies, 25));
         n.count = 24;
-        CHECK(refused(gate_available(s, n), GATE_REFUSED_HOUR, 0));
+        CHECK(refused(gate_unavailability(s, n), GATE_REFUSED_HOUR, 0));
         n.count = SIZE_MAX;
-        CHECK(refused(gate_available(s, n), GATE_REFUSED_HOUR, 0));
+        CHECK(refused(gate_unavailability(s, n), GATE_REFUSED_HOUR, 0));
     }
     GateCapacities c;
     memset(&c, 0, sizeof c);
@@ -305,13 +305,13 @@ static void cuts(void) {
         CHECK(figure(gate_matched(s, 3, h), 71));
         CHECK(figure(gate_executed(s, 4, h), 29));
         CHECK(figure(gate_bilateral_maximum(s, GATE_MOROCCO, true, h), -30));
-        CHECK(figure(gate_bilateral(s, GATE_MOROCCO, h), -30));
+        CHECK(figure(gate_bilateral_balance(s, GATE_MOROCCO, h), -30));
     }
     CHECK(refused(gate_price(s, 24), GATE_REFUSED_HOUR, 0));
     CHECK(refused(gate_matched(s, 1, 0), GATE_REFUSED_HOUR, 0));
     CHECK(refused(gate_matched(s, 99, 1), GATE_REFUSED_UNIT, 0));
     CHECK(refused(gate_executed(s, 70000, 1), GATE_REFUSED_RANGE, 0));
-    CHECK(refused(gate_market(s, 0, 1), GATE_REFUSED_RANGE, 0));
+    CHECK(refused(gate_market_balance(s, 0, 1), GATE_REFUSED_RANGE, 0));
     CHECK(refused(gate_bilateral_maximum(s, 5, true, 1), GATE_REFUSED_RANGE, 0));
     figures_agree();
     CHECK(canaries());

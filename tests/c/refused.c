@@ -86,8 +86,8 @@ static GateUnit unit(uint32_t number, uint32_t agent, uint32_t border, bool purc
     u.maximum = 1000;
     return u;
 }
-static GateAvailability availability(uint32_t number, size_t count, uint32_t energy) {
-    GateAvailability a = {0};
+static GateUnavailability availability(uint32_t number, size_t count, uint32_t energy) {
+    GateUnavailability a = {0};
     a.unit = number;
     a.count = count;
     for (size_t i = 0; i < GATE_HOURS; i++) a.energies[i] = energy;
@@ -151,8 +151,8 @@ static void messages_that_are_none(uint32_t row) {
 static void changes_too_late(void) {
     REFUSED(gate_register(s, unit(900, 900, 0, false)), GATE_REFUSED_GATE, 0);
     REFUSED(gate_register(s, unit(0, 0, 9, false)), GATE_REFUSED_GATE, 0);
-    REFUSED(gate_available(s, availability(1, 24, 5)), GATE_REFUSED_GATE, 0);
-    REFUSED(gate_available(s, availability(0, 3, 100000)), GATE_REFUSED_GATE, 0);
+    REFUSED(gate_unavailability(s, availability(1, 24, 5)), GATE_REFUSED_GATE, 0);
+    REFUSED(gate_unavailability(s, availability(0, 3, 100000)), GATE_REFUSED_GATE, 0);
     REFUSED(gate_capacity(s, capacities(24, 5)), GATE_REFUSED_GATE, 0);
     REFUSED(gate_capacity(s, capacities(26, 100000)), GATE_REFUSED_GATE, 0);
     REFUSED_LODGING(key(false, 1, 0), 1, 10, GATE_REFUSED_GATE, 0);
@@ -167,8 +167,8 @@ static void figures_too_early(void) {
     for (volatile uint32_t hour = 0; hour < 27; hour += 13) {
         REFUSED(gate_matched(s, 1, hour), GATE_REFUSED_GATE, 0);
         REFUSED(gate_executed(s, 1, hour), GATE_REFUSED_GATE, 0);
-        REFUSED(gate_market(s, 1, hour), GATE_REFUSED_GATE, 0);
-        REFUSED(gate_bilateral(s, 1, hour), GATE_REFUSED_GATE, 0);
+        REFUSED(gate_market_balance(s, 1, hour), GATE_REFUSED_GATE, 0);
+        REFUSED(gate_bilateral_balance(s, 1, hour), GATE_REFUSED_GATE, 0);
         REFUSED(gate_market_maximum(s, 1, true, hour), GATE_REFUSED_GATE, 0);
         REFUSED(gate_bilateral_maximum(s, 1, false, hour), GATE_REFUSED_GATE, 0);
         REFUSED(gate_price(s, hour), GATE_REFUSED_GATE, 0);
@@ -183,9 +183,9 @@ static void open_refusals(bool registered) {
     GateUnit legacy = unit(900, 1, 0, false);
     legacy.legacy = true;
     REFUSED(gate_register(s, legacy), GATE_REFUSED_RANGE, 0);
-    REFUSED(gate_available(s, availability(1, 23, 5)), GATE_REFUSED_HOUR, 0);
-    REFUSED(gate_available(s, availability(1, 24, 100000)), GATE_REFUSED_RANGE, 0);
-    REFUSED(gate_available(s, availability(901, 24, 5)), GATE_REFUSED_UNIT, 0);
+    REFUSED(gate_unavailability(s, availability(1, 23, 5)), GATE_REFUSED_HOUR, 0);
+    REFUSED(gate_unavailability(s, availability(1, 24, 100000)), GATE_REFUSED_RANGE, 0);
+    REFUSED(gate_unavailability(s, availability(901, 24, 5)), GATE_REFUSED_UNIT, 0);
     REFUSED(gate_capacity(s, capacities(25, 5)), GATE_REFUSED_HOUR, 0);
     REFUSED(gate_capacity(s, capacities(24, 100000)), GATE_REFUSED_RANGE, 0);
     messages_that_are_none(GATE_REFUSED_FORM);
@@ -224,7 +224,7 @@ static void fill(void) {
     ACCEPTED(gate_register(s, unit(1, 1, 0, false)));
     ACCEPTED(gate_register(s, unit(2, 2, GATE_FRANCE, true)));
     ACCEPTED(gate_capacity(s, capacities(24, 100)));
-    ACCEPTED(gate_available(s, availability(1, 24, 700)));
+    ACCEPTED(gate_unavailability(s, availability(1, 24, 700)));
     NUMBERED(lodge(key(false, 1, 0), 1, 500));
     NUMBERED(lodge(key(false, 2, 0), 1, 50));
     NUMBERED(lodge(key(true, 2, 1), 1, 90));
@@ -272,16 +272,16 @@ static void cleared(void) {
     for (volatile size_t i = 0; i < 3; i++) {
         REFUSED(gate_matched(s, 1, hours[i]), GATE_REFUSED_HOUR, 0);
         REFUSED(gate_executed(s, 1, hours[i]), GATE_REFUSED_HOUR, 0);
-        REFUSED(gate_market(s, 1, hours[i]), GATE_REFUSED_HOUR, 0);
-        REFUSED(gate_bilateral(s, 1, hours[i]), GATE_REFUSED_HOUR, 0);
+        REFUSED(gate_market_balance(s, 1, hours[i]), GATE_REFUSED_HOUR, 0);
+        REFUSED(gate_bilateral_balance(s, 1, hours[i]), GATE_REFUSED_HOUR, 0);
         REFUSED(gate_market_maximum(s, 1, true, hours[i]), GATE_REFUSED_HOUR, 0);
         REFUSED(gate_bilateral_maximum(s, 1, false, hours[i]), GATE_REFUSED_HOUR, 0);
         REFUSED(gate_price(s, hours[i]), GATE_REFUSED_HOUR, 0);
     }
     static const uint32_t borders[] = {0, 5, 4294967295u};
     for (volatile size_t i = 0; i < 3; i++) {
-        REFUSED(gate_market(s, borders[i], 1), GATE_REFUSED_RANGE, 0);
-        REFUSED(gate_bilateral(s, borders[i], 1), GATE_REFUSED_RANGE, 0);
+        REFUSED(gate_market_balance(s, borders[i], 1), GATE_REFUSED_RANGE, 0);
+        REFUSED(gate_bilateral_balance(s, borders[i], 1), GATE_REFUSED_RANGE, 0);
         REFUSED(gate_market_maximum(s, borders[i], true, 1), GATE_REFUSED_RANGE, 0);
         REFUSED(gate_bilateral_maximum(s, borders[i], false, 1), GATE_REFUSED_RANGE, 0);
     }
@@ -291,8 +291,8 @@ static void cleared(void) {
     REFUSED(gate_executed(s, 901, 1), GATE_REFUSED_UNIT, 0);
     FIGURE(gate_matched(s, 1, 1));
     FIGURE(gate_executed(s, 2, 1));
-    FIGURE(gate_market(s, 1, 1));
-    FIGURE(gate_bilateral(s, 1, 1));
+    FIGURE(gate_market_balance(s, 1, 1));
+    FIGURE(gate_bilateral_balance(s, 1, 1));
     FIGURE(gate_market_maximum(s, 1, true, 1));
     FIGURE(gate_bilateral_maximum(s, 1, true, 1));
     FIGURE(gate_price(s, 1));

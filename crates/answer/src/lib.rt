@@ -68,7 +68,7 @@ fn by_row(kind: u32, row: u32, hour: u32) -> Response
 {
     Response {
         kind: kind,
-        row: row,
+        row,
         hour: hour,
         reserved: 0,
         value: 0,
@@ -185,7 +185,7 @@ pub fn of_named(n: Named) -> ClockName
 {
     match n {
         Named::Refused(row) => ClockName {
-            row: row,
+            row,
             name: 0,
             second: false,
             reserved: 0,

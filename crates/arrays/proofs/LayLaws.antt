@@ -1,14 +1,14 @@
--- A loop that writes each place anew: its invariant, and one turn and the end of it.
+-- A loop that writes each index anew: its invariant, and one turn and the end of it.
 use Prim.Native.Nat.{ℕ, zero, suc, _+_, _-_, _≤_, _<_}
 use mathlib.Core.Path.{_≡_, refl, ap, sym, _∙_}
 use mathlib.Core.List.{List}
 use native.Mathlib.Omega.{arith}
 use lib.ListN.{getD, set}
 use lib.Seq.{getD-set-other, set-getD}
-use Rattle.arrays.specs.Places.{layOn}
-use Rattle.arrays.proofs.PlaceLaws.{none-off, lay-next, lay-end}
+use Rattle.arrays.specs.Indices.{layOn}
+use Rattle.arrays.proofs.IndexLaws.{none-off, lay-next, lay-end}
 
--- the places below i are written, and writing the others gives what writing all gives
+-- the indices below i are written, and writing the others gives what writing all gives
 pub record Laying (f : ℕ → ℕ → ℕ) (n : ℕ) (first l : List ℕ) (i : ℕ) : Type 0 where
   pub passed : i ≤ n
   pub rest : layOn f (n - i) i l ≡ layOn f n 0 first
@@ -21,7 +21,7 @@ module _ {f : ℕ → ℕ → ℕ} {n : ℕ} {first : List ℕ} where
   laying-next {l} {i} {x} h e k =
       record { passed = omega arith; rest = rw e (sym (lay-next f i n l h) ∙ k .rest) }
 
-  -- a place that is as it would be written
+  -- an index that is as it would be written
   pub laying-same : {l : List ℕ} {i : ℕ} → i < n → f i (getD l i 0) ≡ getD l i 0 → Laying f n first l i → Laying f n first l (i + 1)
   laying-same {l} {i} h e k =
       record { passed = omega arith; rest = ap (layOn f (n - (i + 1)) (i + 1)) (sym (set-getD l i 0)) ∙ rw (← e) (sym (lay-next f i n l h) ∙ k .rest) }
@@ -29,7 +29,7 @@ module _ {f : ℕ → ℕ → ℕ} {n : ℕ} {first : List ℕ} where
   pub laying-end : {l : List ℕ} {i : ℕ} → n ≤ i → Laying f n first l i → l ≡ layOn f n 0 first
   laying-end {l} {i} h k = sym (lay-end f i n l h) ∙ k .rest
 
--- places behind are as they were
+-- indices behind are as they were
 pub lay-beyond : (f : ℕ → ℕ → ℕ) (d i j : ℕ) (l : List ℕ) → i + d ≤ j → getD (layOn f d i l) j 0 ≡ getD l j 0
 unfolding layOn
 lay-beyond f zero i j l h = refl

@@ -1,4 +1,4 @@
-pub mod PlaceLaws
+pub mod IndexLaws
 pub mod NumberLaws
 pub mod SliceLaws
 pub mod SortLaws

@@ -1,4 +1,4 @@
--- Laws of a list of places: how it is made, and how a loop along it stands for one along all places.
+-- Laws of a list of indices: how it is made, and how a loop along it stands for one along all indices.
 use Prim.Native.Nat.{ℕ, zero, suc, _+_, _-_, _≤_, _<_}
 use mathlib.Core.Path.{_≡_, refl, sym, subst}
 use mathlib.Core.List.{List, [], _∷_, _++_}
@@ -8,7 +8,7 @@ use native.Mathlib.Numerals.{add-one}
 use native.Mathlib.Omega.{arith}
 use lib.ListN.{getD, set, take, length, length-append, List·getD-append}
 use lib.Seq.{getD-append-seam, take-suc-set}
-use Rattle.arrays.specs.Places.{layOn}
+use Rattle.arrays.specs.Indices.{layOn}
 use Rattle.arrays.specs.Listing.{Gap, behind, Listed}
 use Rattle.arrays.proofs.LayLaws.{Laying, laying-next, laying-same, laying-end}
 
@@ -38,7 +38,7 @@ listed-none = record {
 }
 
 module _ {a at : List ℕ} {i : ℕ} (l : Listed a i at) where
-  -- a place with 0
+  -- an index with 0
   pub listed-passed : getD a i 0 ≡ 0 → Listed a (i + 1) at
   listed-passed z = record {
     few = omega (arith, l .few);
@@ -51,7 +51,7 @@ module _ {a at : List ℕ} {i : ℕ} (l : Listed a i at) where
     };
   }
 
-  -- a place noted
+  -- an index noted
   listed-noted : 0 < getD a i 0 → Listed a (i + 1) (at ++ (i ∷ []))
   listed-noted z =
       let here = getD-append-seam at i [] 0 in
@@ -70,7 +70,7 @@ module _ {a at : List ℕ} {i : ℕ} (l : Listed a i at) where
 pub listed-set : (a at : List ℕ) (i c : ℕ) → c < length at → 0 < getD a i 0 → Listed a i (take c at) → Listed a (i + 1) (take (c + 1) (set at c i))
 listed-set a at i c h z l = rw (add-one c, take-suc-set at c i h) (listed-noted l z)
 
--- How a loop along it stands for one along all places: what holds on passing each place with 0 holds on passing a gap
+-- How a loop along it stands for one along all indices: what holds on passing each index with 0 holds on passing a gap
 
 module _ (P : ℕ → Type 0) where
   up : (d i : ℕ) → ((m : ℕ) → i ≤ m → m < i + d → P m → P (m + 1)) → P i → P (i + d)
@@ -94,7 +94,7 @@ module _ (P : ℕ → Type 0) where
         let e : j ≡ i + (j - i) = omega (arith, g .forward) in
         down (j - i) i (λ m h k. let o : m < j = omega arith in f m h o (g .empty m h o)) (subst P e x)
 
--- A loop that writes the listed places anew, where the others stay as they are
+-- A loop that writes the listed indices anew, where the others stay as they are
 
 module _ {f : ℕ → ℕ → ℕ} {a at : List ℕ} {n : ℕ} {first l : List ℕ} {k : ℕ} (t : Listed a n at)
     (stays : (m : ℕ) → behind at k ≤ m → getD a m 0 ≡ 0 → f m (getD l m 0) ≡ getD l m 0) where

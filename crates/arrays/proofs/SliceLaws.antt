@@ -7,8 +7,8 @@ use native.Mathlib.Omega.{arith}
 use lib.ListN.{length, getD, take, drop, set, length-append, length-drop, drop-of-length-le}
 use lib.Seq.{drop-cons, drop-set-lt, take-all, take-at, take-suc, take-suc-set, getD-append-add, getD-drop}
 use Rattle.rules.specs.Lists.{sum, from}
-use Rattle.arrays.specs.Places.{vals}
-use Rattle.arrays.proofs.PlaceLaws.{none-off}
+use Rattle.arrays.specs.Indices.{vals}
+use Rattle.arrays.proofs.IndexLaws.{none-off}
 
 -- the sum over what is left
 pub left-sum : (f : ℕ → ℕ) (a : List ℕ) (i : ℕ) → i < length a → sum (map f (drop i a)) ≡ f (getD a i 0) + sum (map f (drop (i + 1) a))
@@ -19,43 +19,43 @@ pub left-sum-end : (f : ℕ → ℕ) (a : List ℕ) (i : ℕ) → length a ≤ i
 unfolding sum
 left-sum-end f a i h = rw (drop-of-length-le a h)
 
--- a slice written place by place from another
+-- a slice written index by index from another
 pub passed-next : (f : ℕ → ℕ) (a l : List ℕ) (i : ℕ) → length l ≡ length a → i < length a → take i l ≡ map f (take i a)
     → take (i + 1) (set l i (f (getD a i 0))) ≡ map f (take (i + 1) a)
 passed-next f a l i e h t = rw (add-one, take-suc-set l i (f (getD a i 0)) (omega arith), take-suc a i 0 h, map-append, t)
 
--- the first places of an array are its values there
-places-shift : (x : ℕ) (a : List ℕ) (i n : ℕ) → map (λ j. getD (x ∷ a) j 0) (from (suc i) n) ≡ map (λ j. getD a j 0) (from i n)
+-- the first indices of an array are its values there
+indices-shift : (x : ℕ) (a : List ℕ) (i n : ℕ) → map (λ j. getD (x ∷ a) j 0) (from (suc i) n) ≡ map (λ j. getD a j 0) (from i n)
 unfolding from
-places-shift x a i zero = refl
-places-shift x a i (suc n) = ap (λ (l : List ℕ). getD a i 0 ∷ l) (places-shift x a (suc i) n)
+indices-shift x a i zero = refl
+indices-shift x a i (suc n) = ap (λ (l : List ℕ). getD a i 0 ∷ l) (indices-shift x a (suc i) n)
 
-places-front : (n : ℕ) (a : List ℕ) → n ≤ length a → map (λ j. getD a j 0) (from 0 n) ≡ take n a
+indices-front : (n : ℕ) (a : List ℕ) → n ≤ length a → map (λ j. getD a j 0) (from 0 n) ≡ take n a
 unfolding from
-places-front zero a h = refl
-places-front (suc n) [] h = absurd (omega arith)
-places-front (suc n) (x ∷ a) h = ap (λ (l : List ℕ). x ∷ l) (places-shift x a 0 n ∙ places-front n a (omega arith))
+indices-front zero a h = refl
+indices-front (suc n) [] h = absurd (omega arith)
+indices-front (suc n) (x ∷ a) h = ap (λ (l : List ℕ). x ∷ l) (indices-shift x a 0 n ∙ indices-front n a (omega arith))
 
 pub vals-front : (n : ℕ) (a : List ℕ) → n ≤ length a → vals a 0 n ≡ take n a
 unfolding vals
-vals-front n a h = rw (none-off n) (places-front n a h)
+vals-front n a h = rw (none-off n) (indices-front n a h)
 
--- a value by its place
-places-at : (f : ℕ → ℕ) (i n j : ℕ) → j < n → getD (map f (from i n)) j 0 ≡ f (i + j)
+-- a value by its index
+indices-at : (f : ℕ → ℕ) (i n j : ℕ) → j < n → getD (map f (from i n)) j 0 ≡ f (i + j)
 unfolding from
-places-at f i zero j h = absurd (omega arith)
-places-at f i (suc n) zero h = let o : i + 0 ≡ i = omega arith in rw o
-places-at f i (suc n) (suc j) h = let o : i + suc j ≡ suc i + j = omega arith in rw o (places-at f (suc i) n j (omega arith))
+indices-at f i zero j h = absurd (omega arith)
+indices-at f i (suc n) zero h = let o : i + 0 ≡ i = omega arith in rw o
+indices-at f i (suc n) (suc j) h = let o : i + suc j ≡ suc i + j = omega arith in rw o (indices-at f (suc i) n j (omega arith))
 
 pub vals-at : (a : List ℕ) (n j : ℕ) → j < n → getD (vals a 0 n) j 0 ≡ getD a j 0
 unfolding vals
-vals-at a n j h = let o : 0 + j ≡ j = omega arith in rw (none-off n) (rw o at (places-at (λ i. getD a i 0) 0 n j h))
+vals-at a n j h = let o : 0 + j ≡ j = omega arith in rw (none-off n) (rw o at (indices-at (λ i. getD a i 0) 0 n j h))
 
 -- a part to the end, as `&s[j..]` is read and as it comes back
 pub part-rest : (j : ℕ) (l : List ℕ) → take (length l - j) (drop j l) ≡ drop j l
 part-rest j l = take-all (length l - j) (drop j l) (omega (arith, length-drop j l))
 
--- what lies behind a place, after that place was written
+-- what lies behind an index, after that index was written
 pub behind : (l : List ℕ) (i v : ℕ) → take (length (set l i v) - (i + 1)) (drop (i + 1) (set l i v)) ≡ drop (suc i) l
 behind l i v = rw (part-rest (i + 1) (set l i v), add-one) (drop-set-lt (suc i) l i v (omega arith))
 

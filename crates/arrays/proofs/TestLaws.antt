@@ -1,4 +1,4 @@
--- Laws of tests along an array: one turn of a loop and its end, and what a test says of each place.
+-- Laws of tests along an array: one turn of a loop and its end, and what a test says of each index.
 use Prim.Native.Nat.{ℕ, zero, suc, _+_, _-_, _≤_, _<_}
 use mathlib.Core.Path.{_≡_, refl, sym, _∙_}
 use mathlib.Core.Bool.{Bool, true, false}
@@ -12,8 +12,8 @@ use borrow.Author.Tests.{ltb-true, ltb-false, lt-ltb, le-ltb}
 use Rattle.rules.specs.Lists.{any, from}
 use Rattle.rules.proofs.BoolLaws.{by-bool, both, of-both}
 use Rattle.rules.proofs.ListLaws.{all-mapped, any-false, of-any-false}
-use Rattle.arrays.specs.Places.{vals, risesFrom, rises}
-use Rattle.arrays.proofs.PlaceLaws.{none-off, from-all, all-at, vals-next, vals-end}
+use Rattle.arrays.specs.Indices.{vals, risesFrom, rises}
+use Rattle.arrays.proofs.IndexLaws.{none-off, from-all, all-at, vals-next, vals-end}
 
 -- Whether one passes a test
 
@@ -73,7 +73,7 @@ pub rises-again : (a : List ℕ) (i n : ℕ) → i < n → getD a (i - 1) 0 < ge
     → risesFrom (getD a (i + 1 - 1) 0) (vals a (i + 1) n) ≡ risesFrom (getD a (i - 1) 0) (vals a i n)
 rises-again a i n h k = let e : i + 1 - 1 ≡ i = omega arith in rw e (rises-next a (getD a (i - 1) 0) i n h k)
 
--- behind x each of d numbers from place i on is above it, and each above those before
+-- behind x each of d numbers from index i on is above it, and each above those before
 rising-at : (a : List ℕ) (x i d : ℕ) → risesFrom x (map (λ j. getD a j 0) (from i d)) ≡ true → (k : ℕ) → i ≤ k → k < i + d
     → (x < getD a k 0) × ((j : ℕ) → i ≤ j → j < k → getD a j 0 < getD a k 0)
 unfolding risesFrom from

@@ -1,3 +1,3 @@
-pub mod Places
+pub mod Indices
 pub mod Sorting
 pub mod Listing

@@ -1,4 +1,4 @@
-// Numbers, and arrays by place: what many crates use, with no word of the market.
+// Numbers, and arrays by index: what many crates use, with no word of the market.
 ghost use mathlib.Core.Path.{_≡_};
 ghost use Prim.Native.Nat.{ℕ, _+_, _-_, _*_, _/_, _≤_, _<_, min, max};
 ghost use mathlib.Core.List.{List, _∷_};
@@ -6,14 +6,15 @@ ghost use lib.Dec.{ltb};
 ghost use lib.ListN.{getD, take, length};
 ghost use Rattle.rules.specs.Lists.{sum, any};
 ghost use Rattle.rules.specs.Units.{maxEnergy};
-ghost use Rattle.arrays.specs.Places.{vals, rises};
+ghost use Rattle.arrays.specs.Indices.{vals, rises};
 ghost use Rattle.arrays.specs.Sorting.{sort};
 ghost use Rattle.arrays.specs.Listing.{Listed};
+use rules::LODGEMENTS;
 
-// Places of an array, `count` of them in front of `at`.
-pub struct Places {
+// Indices of an array, `count` of them in front of `at`.
+pub struct Indices {
     pub count: usize,
-    pub at: [usize; 128],
+    pub at: [usize; LODGEMENTS],
 }
 
 pub fn lower(a: u32, b: u32) -> u32
@@ -60,7 +61,7 @@ pub fn portion(x: u32, y: u32, w: u32, z: u32) -> u32
 }
 
 // The sum of the first n numbers of an array, each of them at most the largest energy.
-pub fn total(a: &[u32; 128], n: usize) -> u32
+pub fn total(a: &[u32; LODGEMENTS], n: usize) -> u32
     requires { ⌜ (n ≤ 128) × ((i : ℕ) → getD (now a) i 0 ≤ maxEnergy) ⌝ }
     ensures { λ r. ⌜ (r ≡ sum (vals (now (a .entry)) 0 n)) × (r ≤ maxEnergy * n) ⌝ }
 {
@@ -72,7 +73,7 @@ pub fn total(a: &[u32; 128], n: usize) -> u32
 }
 
 // x among the first k numbers of an array, which are sorted.
-pub fn insert(a: &mut [u32; 128], k: usize, x: u32)
+pub fn insert(a: &mut [u32; LODGEMENTS], k: usize, x: u32)
     requires { ⌜ (k < 128) × (length (now a) ≡ 128) ⌝ }
     ensures { λ _. ⌜ (length (now (a .exit)) ≡ 128) × ((xs : List ℕ) → take k (now (a .entry)) ≡ sort xs → take (k + 1) (now (a .exit)) ≡ sort (x ∷ xs)) ⌝ }
 {
@@ -99,7 +100,7 @@ pub fn any_above(a: &[u32], n: usize, most: u32) -> bool
 }
 
 // Whether the first n numbers rise.
-pub fn rising(a: &[u32; 128], n: usize) -> bool
+pub fn rising(a: &[u32; LODGEMENTS], n: usize) -> bool
     requires { ⌜ n ≤ 128 ⌝ }
     ensures { λ r. ⌜ r ≡ rises (vals (now (a .entry)) 0 n) ⌝ }
 {
@@ -111,12 +112,12 @@ pub fn rising(a: &[u32; 128], n: usize) -> bool
     true
 }
 
-// The places below n at which an array is not 0, by rising place.
-pub fn nonzero(a: &[u32; 128], n: usize) -> Places
+// The indices below n at which an array is not 0, by rising index.
+pub fn nonzero(a: &[u32; LODGEMENTS], n: usize) -> Indices
     requires { ⌜ n ≤ 128 ⌝ }
     ensures { λ r. ⌜ (r .count ≤ n) × (length (r .at) ≡ 128) × Listed (now (a .entry)) n (take (r .count) (r .at)) ⌝ }
 {
-    let mut at = [0usize; 128];
+    let mut at = [0usize; LODGEMENTS];
     let mut count: usize = 0;
     for i in 0..n {
         if a[i] == 0 {
@@ -125,7 +126,7 @@ pub fn nonzero(a: &[u32; 128], n: usize) -> Places
         at[count] = i;
         count += 1;
     }
-    Places {
+    Indices {
         count: count,
         at: at,
     }

@@ -5,6 +5,13 @@ ghost use Prim.Native.Nat.{_≤_};
 ghost use Rattle.rules.specs.Hours.{isDate, hoursOf, clockName, clockOf, hourOf, hoursAt, clockAt, hourAt};
 ghost use Rattle.calendar.specs.View.{dateIn, clockIn, clockAs, countedAs, namedAs};
 
+pub mod dates;
+
+use rules::LONG_DAY;
+use rules::SHORT_DAY;
+use rules::row::DATE;
+use rules::row::HOUR;
+
 #[repr(C)]
 pub struct Date {
     pub year: u32,
@@ -33,24 +40,18 @@ pub enum Named {
     Given(Clock),
 }
 
-// The refusal table's row 1: not a date in the range.
-const DATE: u32 = 1;
-
-// Row 4: an hour or a clock name that the day lacks.
-const HOUR: u32 = 4;
-
 // "Dates run from 2002-01-01 to 2099-12-31, Gregorian."
 pub fn is_date(d: Date) -> bool
     ensures { λ r. ⌜ r ≡ isDate (dateIn d) ⌝ }
 {
-    dates::is_date(d.year, d.month, d.day)
+    crate::dates::is_date(d.year, d.month, d.day)
 }
 
 // "the last Sunday of March has H = 23 hours, the last Sunday of October 25, other days 24": of any date, in the range or not.
 pub fn hours_of(d: Date) -> u32
     ensures { λ r. ⌜ r ≡ hoursOf (dateIn d) ⌝ }
 {
-    dates::hours_of(d.year, d.month, d.day)
+    crate::dates::hours_of(d.year, d.month, d.day)
 }
 
 // The number of hours of a date.
@@ -68,13 +69,13 @@ fn clock_name(hours: u32, hour: u32) -> u32
     requires { ⌜ 1 ≤ hour ⌝ }
     ensures { λ r. ⌜ r ≡ clockName hours hour ⌝ }
 {
-    if hours == 23 {
+    if hours == SHORT_DAY {
         if hour <= 2 {
             return hour - 1;
         }
         return hour;
     }
-    if hours == 25 {
+    if hours == LONG_DAY {
         if hour <= 3 {
             return hour - 1;
         }
@@ -89,7 +90,7 @@ fn clock_of(hours: u32, hour: u32) -> Clock
     ensures { λ r. ⌜ r ≡ clockAs (clockOf hours hour) ⌝ }
 {
     let name = clock_name(hours, hour);
-    if hours == 25 {
+    if hours == LONG_DAY {
         return Clock {
             name,
             second: hour == 4,
@@ -127,7 +128,7 @@ fn second_hour(hours: u32, c: Clock) -> u32
     requires { ⌜ c .second ≡ true ⌝ }
     ensures { λ r. ⌜ r ≡ hourOf hours (clockIn c) ⌝ }
 {
-    if hours == 25 {
+    if hours == LONG_DAY {
         if c.name == 2 {
             return 4;
         }
@@ -153,7 +154,7 @@ fn hour_of(hours: u32, c: Clock) -> u32
     if c.name < 2 {
         return c.name + 1;
     }
-    if hours == 23 {
+    if hours == SHORT_DAY {
         return 0;
     }
     3

@@ -1,12 +1,12 @@
 // An hour given line by line, cleared, and its figures shown.
-use borders::Executions;
+use crate::questions::Numbers;
+use crate::questions::STDOUT;
+use crate::questions::put;
+use crate::questions::put_number;
 use hour::Figures;
 use hour::Hour;
-use matching::Offers;
-use questions::Numbers;
-use questions::STDOUT;
-use questions::put;
-use questions::put_number;
+use hour_borders::Executions;
+use hour_match::Offers;
 ghost use Prim.Native.Nat.{_≤_, _<_};
 
 // Whether a line gives a part of an hour, or ends it.
@@ -47,7 +47,7 @@ pub fn no_hour() -> Hour {
     }
 }
 
-// An offer more, of a unit with its number. The count goes one past the places, which no hour that is ready has.
+// An offer more, of a unit with its number. The count goes one past the indices, which no hour that is ready has.
 fn with_offer(mut h: Hour, n: Numbers) -> Hour {
     let mut o = h.offers;
     let at = o.count;
@@ -88,12 +88,12 @@ fn with_execution(mut h: Hour, n: Numbers) -> Hour {
     h
 }
 
-// A capacity, at the place of its border and direction.
+// A capacity, at the index of its border and direction.
 fn with_capacity(mut h: Hour, n: Numbers) -> Hour {
     if 4 < n.values[0] {
         return h;
     }
-    let w = borders::way(n.values[0], n.values[1] == 1);
+    let w = hour_borders::way(n.values[0], n.values[1] == 1);
     h.published[w] = true;
     h.capacity[w] = n.values[2];
     h
@@ -199,7 +199,7 @@ fn put_figures(h: Hour, f: Figures)
 }
 
 fn answer_hour(h: Hour) {
-    let c = clearhour::clear(h);
+    let c = hour_clear::clear(h);
     if c.ready {
         put_figures(h, c.figures);
         return;

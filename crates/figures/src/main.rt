@@ -15,9 +15,11 @@
 //     h                              the hour so given, cleared; the next begins
 //
 // Any other line is written as it stands. tests/figures makes the input and, from the independent model, what is expected.
+pub mod questions;
+
+use crate::questions::answer_plain;
+use crate::questions::numbers_of;
 use hour::Hour;
-use questions::answer_plain;
-use questions::numbers_of;
 ghost use Prim.Native.Nat.{_≤_, _<_};
 ghost use lib.ListN.{length};
 
@@ -39,7 +41,7 @@ fn answer(line: &[u8], h: Hour) -> Hour {
     h
 }
 
-// The place of the next line end from `at` on, or the end.
+// The index of the next line end from `at` on, or the end.
 fn line_end(s: &[u8], at: usize) -> usize
     requires { ⌜ at ≤ length (now s) ⌝ }
     ensures { λ r. ⌜ (at ≤ r) × (r ≤ length (now (s .entry))) ⌝ }

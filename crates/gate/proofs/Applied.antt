@@ -35,7 +35,7 @@ use denote.Triple.Spec.{Meets, tripleOf}
 use denote.Triple.Walked.{says, Stays, gave-ref, walkOf, AllGo, goes-gave-ref, Walks, ends-at, walked, walk-meets}
 use denote.Exit.{yes}
 use Rattle.session.specs.declared.Session.{Session}
-use Rattle.session.specs.declared.Turn.{Turn}
+use Rattle.session.specs.declared.Effect.{Effect}
 use Rattle.answer.specs.declared.Response.{Response}
 use Rattle.session.proofs.Session as T
 use Rattle.session.proofs.Session.Laws as T′
@@ -51,7 +51,7 @@ pub record Change : Type 2 where
   pub answer : type .denot → Response
 
 -- the session left, and the response
-abbrev pub stepped : (g : Change) → Session → g .type .denot → Turn
+abbrev pub stepped : (g : Change) → Session → g .type .denot → Effect
 stepped g s r = record { session = g .left s r; answer = g .answer r }
 
 -- the signatures of such a function and of what it calls
@@ -84,10 +84,10 @@ function g step settle = record {
 }
 
 -- its clauses, and those of what it calls, by what is promised
-abbrev pub entry-clauses : (Session → Turn → Type 0) → {M : Type 1} (𝓤 : URA M) → Clauses 𝓤 entry-ended
+abbrev pub entry-clauses : (Session → Effect → Type 0) → {M : Type 1} (𝓤 : URA M) → Clauses 𝓤 entry-ended
 entry-clauses Good 𝓤 κs a = record { ghost = Unit {0}; requires = λ g. emp 𝓤; ensures = λ g r e. fact 𝓤 (Good (now (a .0)) (record { session = now (e .0); answer = r })) }
 
-abbrev pub step-clauses : (g : Change) → (Session → Turn → Type 0) → {M : Type 1} (𝓤 : URA M) → Clauses 𝓤 (step-ended g)
+abbrev pub step-clauses : (g : Change) → (Session → Effect → Type 0) → {M : Type 1} (𝓤 : URA M) → Clauses 𝓤 (step-ended g)
 step-clauses g Good 𝓤 κs a = record { ghost = Unit {0}; requires = λ _. emp 𝓤; ensures = λ _ r e. fact 𝓤 (Good (a .0) (stepped g (a .0) r)) }
 
 abbrev pub settle-clauses : (g : Change) → {M : Type 1} (𝓤 : URA M) → Clauses 𝓤 (settle-ended g)
@@ -101,7 +101,7 @@ abbrev stayed : Stays (entry-ended .signature .params) (entry-ended .kept)
 stayed = (gave-ref (0 ∷ []) tt (plain (λ _. T.the-row)), tt)
 
 -- the contracts that the proof cites
-abbrev pub Step : (g : Change) → (Session → Turn → Type 0) → {M : Type 1} (𝓤 : URA M) (H : Heap 𝓤) (A : Atoms 𝓤) → Contract 𝓤
+abbrev pub Step : (g : Change) → (Session → Effect → Type 0) → {M : Type 1} (𝓤 : URA M) (H : Heap 𝓤) (A : Atoms 𝓤) → Contract 𝓤
 Step g Good 𝓤 H A = tripleOf 𝓤 H A (step-ended g .signature) (closing 𝓤 H A (step-ended g) (step-clauses g Good 𝓤))
 
 abbrev pub Settle : Change → {M : Type 1} (𝓤 : URA M) (H : Heap 𝓤) (A : Atoms 𝓤) → Contract 𝓤
@@ -132,7 +132,7 @@ module _ (g : Change) {M : Type 1} (𝓤 : URA M) (H : Heap 𝓤) (A : Atoms �
       (subst (λ (s : Session). ent 𝓤 (sep 𝓤 L E) (A .res γ (T.the-row .coded .code s))) (e .0) (via 𝓤 L (fst∗ 𝓤 L E) (fst∗ 𝓤 (A .res γ (T.the-row .coded .code (ws .0))) (sep 𝓤 (emp 𝓤) (emp 𝓤)))))
       (guardI 𝓤 (w ≡ g .answer r) (A .res γ (T.the-row .coded .code (g .left h r))) (e .1))))
 
-module _ (g : Change) (step settle : Name) (Good : Session → Turn → Type 0) {M : Type 1} (𝓤 : URA M) (H : Heap 𝓤) (A : Atoms 𝓤) (W : Given 𝓤 H A) (κ : Lft) (q : Share) (b o : ℕ) (γ : GName) (h : Session) where
+module _ (g : Change) (step settle : Name) (Good : Session → Effect → Type 0) {M : Type 1} (𝓤 : URA M) (H : Heap 𝓤) (A : Atoms 𝓤) (W : Given 𝓤 H A) (κ : Lft) (q : Share) (b o : ℕ) (γ : GName) (h : Session) where
   abbrev x : RefT Session × Unit {0}
   x = (record { ptr = (b, o); name = γ; now = h }, tt)
 
@@ -203,7 +203,7 @@ module _ (g : Change) (step settle : Name) (Good : Session → Turn → Type 0) 
         move ! (11 ∷ 12 ∷ []) $ free1 ! $ move ! (9 ∷ 10 ∷ []) $ free1 ! $ move ! (7 ∷ 8 ∷ []) $ free1 ! $ move ! (5 ∷ 6 ∷ []) $ free1 ! $ move ! (3 ∷ 4 ∷ []) $ free1 ! $ free0 ! $
         keep ! (1 ∷ 2 ∷ 0 ∷ []) $ by ! (exits r w v₂ e same))))))))))))))))
 
-module _ (g : Change) (step settle : Name) (Good : Session → Turn → Type 0) {M : Type 1} (𝓤 : URA M) (H : Heap 𝓤) (A : Atoms 𝓤) (W : Given 𝓤 H A) where
+module _ (g : Change) (step settle : Name) (Good : Session → Effect → Type 0) {M : Type 1} (𝓤 : URA M) (H : Heap 𝓤) (A : Atoms 𝓤) (W : Given 𝓤 H A) where
   walks : (C : Calls 𝓤 H) (Λ : Loops 𝓤 H) → FmC 𝓤 H (W .laws) C → Triple 𝓤 (C step) (Step g Good 𝓤 H A) → Triple 𝓤 (C settle) (Settle g 𝓤 H A) → Walks 𝓤 H A entry-ended stayed (WpFn 𝓤 H C Λ (function g step settle)) (entry-clauses Good 𝓤)
   walks C Λ fm known stores = walked 𝓤 H A entry-ended stayed (entry-clauses Good 𝓤) (WpFn 𝓤 H C Λ (function g step settle)) (λ κs. (ptr-vals, tt)) (λ κs. (mut-tells (named 0) (κs .0) T.the-row, tt))
       (λ κs qs bounds a _ are. via 𝓤 _ (fst∗ 𝓤 _ (emp 𝓤)) (walk g step settle Good 𝓤 H A W (κs .0) (qs .0) (a .0 .ptr .0) (a .0 .ptr .1) (a .0 .name) (a .0 .now) C Λ fm known stores))
@@ -211,6 +211,6 @@ module _ (g : Change) (step settle : Name) (Good : Session → Turn → Type 0) 
   goes : AllGo 𝓤 H A W 1 (entry-ended .signature .params) (entry-ended .kept) stayed
   goes = (goes-gave-ref 𝓤 H A W 1 0 tt (plain (λ _. T.the-row)), tt)
 
-pub meets : (g : Change) (step settle : Name) (Good : Session → Turn → Type 0) {M : Type 1} (𝓤 : URA M) (H : Heap 𝓤) (A : Atoms 𝓤) → Given 𝓤 H A → (𝓣 : Tables 𝓤 H) → Triple 𝓤 (𝓣 .C step) (Step g Good 𝓤 H A) → Triple 𝓤 (𝓣 .C settle) (Settle g 𝓤 H A)
+pub meets : (g : Change) (step settle : Name) (Good : Session → Effect → Type 0) {M : Type 1} (𝓤 : URA M) (H : Heap 𝓤) (A : Atoms 𝓤) → Given 𝓤 H A → (𝓣 : Tables 𝓤 H) → Triple 𝓤 (𝓣 .C step) (Step g Good 𝓤 H A) → Triple 𝓤 (𝓣 .C settle) (Settle g 𝓤 H A)
     → Meets 𝓤 H A (entry-ended .signature) (WpFn 𝓤 H (𝓣 .C) (𝓣 .Λ) (function g step settle)) (closing 𝓤 H A entry-ended (entry-clauses Good 𝓤))
 meets g step settle Good 𝓤 H A W 𝓣 known stores = walk-meets 𝓤 H A entry-ended stayed W (goes g step settle Good 𝓤 H A W) (entry-clauses Good 𝓤) (WpFn 𝓤 H (𝓣 .C) (𝓣 .Λ) (function g step settle)) (WpFn-mono 𝓤 H (W .laws) 𝓣 (function g step settle)) (walks g step settle Good 𝓤 H A W (𝓣 .C) (𝓣 .Λ) (fmOf 𝓤 H (W .laws) 𝓣) known stores)

@@ -35,7 +35,7 @@ use denote.Triple.Spec.{Meets, tripleOf}
 use denote.Triple.Walked.{says, Stays, gave-ref, stay-none, walkOf, AllGo, goes-gave-ref, goes-none, Walks, ends-at, walked, walk-meets}
 use denote.Exit.{yes}
 use Rattle.session.specs.declared.Session.{Session}
-use Rattle.session.specs.declared.Turn.{Turn}
+use Rattle.session.specs.declared.Effect.{Effect}
 use Rattle.answer.specs.declared.Response.{Response}
 use Rattle.session.proofs.Session as T
 use Rattle.session.proofs.Session.Laws as T′
@@ -43,26 +43,26 @@ use Rattle.answer.proofs.Response as N
 use Rattle.answer.proofs.Response.Laws as N′
 use Rattle.gate.proofs.Passing.{Passed, row, Laws}
 
--- what storing a change asks, and the step then promises beside: nothing, or that its places are places
+-- what storing a change asks, and the step then promises beside: nothing, or that its indices are indices
 pub data Asks (X : Type 0) : Type 1 where
   free : Asks X
-  placed : (X → Type 0) → Asks X
+  indexed : (X → Type 0) → Asks X
 
 abbrev pub promised : {X : Type 0} → Asks X → Type 0 → X → Type 0
 promised free P r = P
-promised (placed Q) P r = P × Q r
+promised (indexed Q) P r = P × Q r
 
 abbrev pub asked : {X : Type 0} → Asks X → X → {M : Type 1} (𝓤 : URA M) → SProp 𝓤
 asked free r 𝓤 = emp 𝓤
-asked (placed Q) r 𝓤 = fact 𝓤 (Q r)
+asked (indexed Q) r 𝓤 = fact 𝓤 (Q r)
 
 promise : {X : Type 0} (a : Asks X) (P : Type 0) (r : X) → promised a P r → P
 promise free P r e = e
-promise (placed Q) P r e = e .0
+promise (indexed Q) P r e = e .0
 
 pub owed : {X : Type 0} (a : Asks X) (P : Type 0) (r : X) → promised a P r → {M : Type 1} (𝓤 : URA M) → ent 𝓤 (emp 𝓤) (asked a r 𝓤)
 owed free P r e 𝓤 = id⊢ 𝓤 (emp 𝓤)
-owed (placed Q) P r e 𝓤 = factI 𝓤 (Q r) (emp 𝓤) (e .1)
+owed (indexed Q) P r e 𝓤 = factI 𝓤 (Q r) (emp 𝓤) (e .1)
 
 -- a goal P ∗ Q: Q is had for nothing, and P is left
 gives : {M : Type 1} {𝓤 : URA M} {H : Heap 𝓤} {A : Atoms 𝓤} {K : Type 0} {W : Given 𝓤 H A} {Γ : List (Item 𝓤)} → K → {P Q : SProp 𝓤} → ent 𝓤 (emp 𝓤) Q → Step′ K W Γ (prop P) Γ (prop (sep 𝓤 P Q))
@@ -77,7 +77,7 @@ pub record Change : Type 2 where
   pub answer : type .denot → Response
 
 -- the session left, and the response
-abbrev pub stepped : (g : Change) → Session → g .type .denot → Turn
+abbrev pub stepped : (g : Change) → Session → g .type .denot → Effect
 stepped g s r = record { session = g .left s r; answer = g .answer r }
 
 -- the signatures of such a function and of what it calls
@@ -104,10 +104,10 @@ function p g step settle = record {
 }
 
 -- its clauses, and those of what it calls, by what is promised
-abbrev pub entry-clauses : (p : Passed) → (Session → p .denot → Turn → Type 0) → {M : Type 1} (𝓤 : URA M) → Clauses 𝓤 (entry-ended p)
+abbrev pub entry-clauses : (p : Passed) → (Session → p .denot → Effect → Type 0) → {M : Type 1} (𝓤 : URA M) → Clauses 𝓤 (entry-ended p)
 entry-clauses p Good 𝓤 κs a = record { ghost = Unit {0}; requires = λ g. emp 𝓤; ensures = λ g r e. fact 𝓤 (Good (now (a .0)) (a .1 .0) (record { session = now (e .0); answer = r })) }
 
-abbrev pub step-clauses : (p : Passed) (g : Change) → (Session → p .denot → Turn → Type 0) → {M : Type 1} (𝓤 : URA M) → Clauses 𝓤 (step-ended p g)
+abbrev pub step-clauses : (p : Passed) (g : Change) → (Session → p .denot → Effect → Type 0) → {M : Type 1} (𝓤 : URA M) → Clauses 𝓤 (step-ended p g)
 step-clauses p g Good 𝓤 κs a = record { ghost = Unit {0}; requires = λ _. emp 𝓤; ensures = λ _ r e. fact 𝓤 (promised (g .asks) (Good (a .0) (a .1 .0) (stepped g (a .0) r)) r) }
 
 abbrev pub settle-clauses : (g : Change) → {M : Type 1} (𝓤 : URA M) → Clauses 𝓤 (entry-ended (g .type))
@@ -121,7 +121,7 @@ abbrev stayed : (p : Passed) → Stays (entry-ended p .signature .params) (entry
 stayed p = (gave-ref (0 ∷ []) tt (plain (λ _. T.the-row)), (stay-none (λ _. row p) yes, tt))
 
 -- the contracts that the proof cites
-abbrev pub Step : (p : Passed) (g : Change) → (Session → p .denot → Turn → Type 0) → {M : Type 1} (𝓤 : URA M) (H : Heap 𝓤) (A : Atoms 𝓤) → Contract 𝓤
+abbrev pub Step : (p : Passed) (g : Change) → (Session → p .denot → Effect → Type 0) → {M : Type 1} (𝓤 : URA M) (H : Heap 𝓤) (A : Atoms 𝓤) → Contract 𝓤
 Step p g Good 𝓤 H A = tripleOf 𝓤 H A (step-ended p g .signature) (closing 𝓤 H A (step-ended p g) (step-clauses p g Good 𝓤))
 
 abbrev pub Settle : Change → {M : Type 1} (𝓤 : URA M) (H : Heap 𝓤) (A : Atoms 𝓤) → Contract 𝓤
@@ -151,7 +151,7 @@ module _ (g : Change) {M : Type 1} (𝓤 : URA M) (H : Heap 𝓤) (A : Atoms �
       (subst (λ (s : Session). ent 𝓤 (sep 𝓤 L E) (A .res γ (T.the-row .coded .code s))) (e .0) (via 𝓤 L (fst∗ 𝓤 L E) (fst∗ 𝓤 (A .res γ (T.the-row .coded .code (ws .0))) (sep 𝓤 (emp 𝓤) (emp 𝓤)))))
       (guardI 𝓤 (w ≡ g .answer r) (A .res γ (T.the-row .coded .code (g .left h r))) (e .1))))
 
-module _ (p : Passed) (l : Laws p) (g : Change) (step settle : Name) (Good : Session → p .denot → Turn → Type 0) {M : Type 1} (𝓤 : URA M) (H : Heap 𝓤) (A : Atoms 𝓤) (W : Given 𝓤 H A) (κ : Lft) (q : Share) (b o : ℕ) (γ : GName) (h : Session) (u : p .denot) where
+module _ (p : Passed) (l : Laws p) (g : Change) (step settle : Name) (Good : Session → p .denot → Effect → Type 0) {M : Type 1} (𝓤 : URA M) (H : Heap 𝓤) (A : Atoms 𝓤) (W : Given 𝓤 H A) (κ : Lft) (q : Share) (b o : ℕ) (γ : GName) (h : Session) (u : p .denot) where
   abbrev x : RefT Session × (p .denot × Unit {0})
   x = (record { ptr = (b, o); name = γ; now = h }, (u, tt))
 
@@ -225,7 +225,7 @@ module _ (p : Passed) (l : Laws p) (g : Change) (step settle : Name) (Good : Ses
         move ! (13 ∷ 14 ∷ []) $ free1 ! $ move ! (11 ∷ 12 ∷ []) $ free1 ! $ move ! (9 ∷ 10 ∷ []) $ free1 ! $ move ! (7 ∷ 8 ∷ []) $ free1 ! $ move ! (5 ∷ 6 ∷ []) $ free1 ! $ move ! (3 ∷ 4 ∷ []) $ free1 ! $ free0 ! $
         keep ! (1 ∷ 2 ∷ 0 ∷ []) $ by ! (exits r w v₂ (promise (g .asks) (Good h u (stepped g h r)) r e) same gu)))))))))))))))))
 
-module _ (p : Passed) (l : Laws p) (g : Change) (step settle : Name) (Good : Session → p .denot → Turn → Type 0) {M : Type 1} (𝓤 : URA M) (H : Heap 𝓤) (A : Atoms 𝓤) (W : Given 𝓤 H A) where
+module _ (p : Passed) (l : Laws p) (g : Change) (step settle : Name) (Good : Session → p .denot → Effect → Type 0) {M : Type 1} (𝓤 : URA M) (H : Heap 𝓤) (A : Atoms 𝓤) (W : Given 𝓤 H A) where
   walks : (C : Calls 𝓤 H) (Λ : Loops 𝓤 H) → FmC 𝓤 H (W .laws) C → Triple 𝓤 (C step) (Step p g Good 𝓤 H A) → Triple 𝓤 (C settle) (Settle g 𝓤 H A) → Walks 𝓤 H A (entry-ended p) (stayed p) (WpFn 𝓤 H C Λ (function p g step settle)) (entry-clauses p Good 𝓤)
   walks C Λ fm known stores = walked 𝓤 H A (entry-ended p) (stayed p) (entry-clauses p Good 𝓤) (WpFn 𝓤 H C Λ (function p g step settle)) (λ κs. (ptr-vals, ((λ y. l .val y ∷ []), tt))) (λ κs. (mut-tells (named 0) (κs .0) T.the-row, (l .tells, tt)))
       (λ κs qs bounds a _ are. via 𝓤 _ (fst∗ 𝓤 _ (emp 𝓤)) (walk p l g step settle Good 𝓤 H A W (κs .0) (qs .0) (a .0 .ptr .0) (a .0 .ptr .1) (a .0 .name) (a .0 .now) (a .1 .0) C Λ fm known stores (are .1 .0)))
@@ -233,6 +233,6 @@ module _ (p : Passed) (l : Laws p) (g : Change) (step settle : Name) (Good : Ses
   goes : AllGo 𝓤 H A W 1 ((entry-ended p .signature) .params) (entry-ended p .kept) (stayed p)
   goes = (goes-gave-ref 𝓤 H A W 1 0 tt (plain (λ _. T.the-row)), (goes-none 𝓤 H A W 1 (λ _. row p) yes (λ κs x f. refl), tt))
 
-pub meets : (p : Passed) (l : Laws p) (g : Change) (step settle : Name) (Good : Session → p .denot → Turn → Type 0) {M : Type 1} (𝓤 : URA M) (H : Heap 𝓤) (A : Atoms 𝓤) → Given 𝓤 H A → (𝓣 : Tables 𝓤 H) → Triple 𝓤 (𝓣 .C step) (Step p g Good 𝓤 H A) → Triple 𝓤 (𝓣 .C settle) (Settle g 𝓤 H A)
+pub meets : (p : Passed) (l : Laws p) (g : Change) (step settle : Name) (Good : Session → p .denot → Effect → Type 0) {M : Type 1} (𝓤 : URA M) (H : Heap 𝓤) (A : Atoms 𝓤) → Given 𝓤 H A → (𝓣 : Tables 𝓤 H) → Triple 𝓤 (𝓣 .C step) (Step p g Good 𝓤 H A) → Triple 𝓤 (𝓣 .C settle) (Settle g 𝓤 H A)
     → Meets 𝓤 H A (entry-ended p .signature) (WpFn 𝓤 H (𝓣 .C) (𝓣 .Λ) (function p g step settle)) (closing 𝓤 H A (entry-ended p) (entry-clauses p Good 𝓤))
 meets p l g step settle Good 𝓤 H A W 𝓣 known stores = walk-meets 𝓤 H A (entry-ended p) (stayed p) W (goes p l g step settle Good 𝓤 H A W) (entry-clauses p Good 𝓤) (WpFn 𝓤 H (𝓣 .C) (𝓣 .Λ) (function p g step settle)) (WpFn-mono 𝓤 H (W .laws) 𝓣 (function p g step settle)) (walks p l g step settle Good 𝓤 H A W (𝓣 .C) (𝓣 .Λ) (fmOf 𝓤 H (W .laws) 𝓣) known stores)

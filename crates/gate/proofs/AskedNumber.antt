@@ -1,6 +1,6 @@
 -- The query of a lodging number's verdict over a lent session:
 -- a walk of its MIR, by hand. First the number is looked for, by a function that
--- is passed the reference; then the places are computed; then the session and what stands at the places
+-- is passed the reference; then the indices are computed; then the session and what stands at the indices
 -- are copied out of the borrow and passed on by value.
 -- Of what is called only its contract is used.
 -- Assumes nothing.
@@ -45,20 +45,20 @@ use Rattle.session.specs.Bare.{bareVerdict}
 use Rattle.session.specs.declared.Session.{Session}
 use Rattle.answer.specs.declared.Response.{Response}
 use Rattle.session.specs.declared.Verdict.{Verdict}
-use Rattle.verdicts.specs.Parts.{LodgedFound, verdictAt}
+use Rattle.query_verdict.specs.Parts.{LodgedFound, verdictAt}
 use Rattle.session.proofs.Session as T
 use Rattle.session.proofs.Session.Laws as T′
 use Rattle.session.proofs.Verdict as J
 use Rattle.session.proofs.Verdict.Laws as J′
 use Rattle.answer.proofs.Response as N
 use Rattle.answer.proofs.Response.Laws as N′
-use Rattle.lent.proofs.Cell.{sv}
-use Rattle.lent.proofs.SessionCell.{Good as Holds, verdicts, good-at, at-array, read-at}
-use Rattle.gate.proofs.Places.{Search, search-clauses, lent, to-search, goes-search, search-says, VerdictPlaced, verdict-clauses, Judged, to-judged, goes-judged, judged-says}
-use Rattle.lent.proofs.unit_at as search-shape
-use Rattle.verdicts.proofs.verdict_place as verdict-shape
+use Rattle.gate_store.proofs.Cell.{sv}
+use Rattle.gate_store.proofs.SessionCell.{Good as Holds, verdicts, good-at, at-array, read-at}
+use Rattle.gate.proofs.Indices.{Search, search-clauses, lent, to-search, goes-search, search-says, VerdictIndexed, verdict-clauses, Judged, to-judged, goes-judged, judged-says}
+use Rattle.gate_store.proofs.unit_at as search-shape
+use Rattle.query_verdict.proofs.verdict_index as verdict-shape
 use Rattle.gate.proofs.gate_verdict as shape
-use Rattle.verdicts.proofs.verdict_from as step-shape
+use Rattle.query_verdict.proofs.verdict_from as step-shape
 
 abbrev refTy : Ty
 refTy = tyRef (named 0) imm (pointee (T.the-row .written))
@@ -104,7 +104,7 @@ module _ (search judged step : Name) (Good : (Session → ℕ → Response → T
       nothing ! $ move ! (1 ∷ 0 ∷ []) $ join ! $ frame ! $ feqI ! (List Val) (vptr b o ∷ []) (vptr b o ∷ []) refl $ fjoin3 ! $ nothing ! $ owned ! u32 (Is u32) (uint-makes 𝓤 H A W w32) n _ gn $ fjoin ! $ move ! (1 ∷ 0 ∷ []) $ fjoin ! $ frame ! $
       owned ! N.the-row (Is N.the-row) (LL.makes N.the-type N′.the-plain 𝓤 H A) r _ is $ done !
 
-  -- what the query is asked with, once the places are known
+  -- what the query is asked with, once the indices are known
   module _ (j : ℕ) (i : ℕ) where
     abbrev asked : Session × (ℕ × (Verdict × (ℕ × Unit {0})))
     asked = (h, (j, ((getD (h .verdicts) i bareVerdict), (n, tt))))
@@ -118,7 +118,7 @@ module _ (search judged step : Name) (Good : (Session → ℕ → Response → T
     goes-step : Is u32 n (vint w32 n ∷ []) → Holds h → Is J.the-row (getD (h .verdicts) i bareVerdict) (LL.val J.the-type J′.the-laws (getD (h .verdicts) i bareVerdict) ∷ []) → Is usize j (vint w64 j ∷ []) → LodgedFound h n j × ((getD (h .verdicts) i bareVerdict) ≡ verdictAt h j) → ent 𝓤 (emp 𝓤) (Step Good 𝓤 H A .pre to-step)
     goes-step gn was is-x gj fit = qed W [] ∵ says ! fit $ nothing ! $ owned ! u32 (Is u32) (uint-makes 𝓤 H A W w32) n _ gn $ fjoin ! $ owned ! J.the-row (Is J.the-row) (LL.makes J.the-type J′.the-plain 𝓤 H A) (getD (h .verdicts) i bareVerdict) _ is-x $ fjoin ! $ owned ! usize (Is usize) (uint-makes 𝓤 H A W w64) j _ gj $ fjoin ! $ owned ! T.the-row (Is T.the-row) (LL.makes T.the-type T′.the-plain 𝓤 H A) h _ was $ fjoin ! $ nothing ! $ frame ! $ done !
 
-  module _ (C : Calls 𝓤 H) (Λ : Loops 𝓤 H) (fm : FmC 𝓤 H (W .laws) C) (found : Triple 𝓤 (C search) (Search LodgedFound 𝓤 H A)) (placed : Triple 𝓤 (C judged) (Judged 𝓤 H A)) (known : Triple 𝓤 (C step) (Step Good 𝓤 H A)) where
+  module _ (C : Calls 𝓤 H) (Λ : Loops 𝓤 H) (fm : FmC 𝓤 H (W .laws) C) (found : Triple 𝓤 (C search) (Search LodgedFound 𝓤 H A)) (indexed : Triple 𝓤 (C judged) (Judged 𝓤 H A)) (known : Triple 𝓤 (C step) (Step Good 𝓤 H A)) where
     walk : Is u32 n (vint w32 n ∷ []) → ent 𝓤 (onEntry 𝓤 H A shape.signature (κ, tt) (q, tt) x at) (WpFn 𝓤 H C Λ (function search judged step) (vptr b o ∷ vint w32 n ∷ []) Post)
     walk gn =
         qed W ((‵ (flft κ q) ⊛ ‵ ftrue) ∷ ‵ (owns (ShrRef (named 0) κ T.the-row ∷ u32 ∷ []) x at) ∷ []) ∵ split ! $ move ! (2 ∷ []) $ fsplit ! $ fsplit3 ! $ drop ! $ move ! (1 ∷ 3 ∷ 0 ∷ []) $
@@ -136,9 +136,9 @@ module _ (search judged step : Name) (Good : (Session → ℕ → Response → T
         peeks ! usize (Is usize) (shows 𝓤 H A usize) j (v ∷ []) (λ is-j. drop ! $ land ! (from ! (stop !)) (init ! 15 refl (uint-lawful 𝓤 H A W w64 .typed j _ is-j .0)) $ rewrite ! 15 (λ (w : Val). ‵ (fat fullShare (tyInt w64) l₃ 0 w)) (ap only (uint-tells w64 j _ is-j)) refl $ move ! (2 ∷ 0 ∷ 1 ∷ []) $
         -- [the borrow; the token; res; _9; …; .. room for _0; …]
         use0 W (raw (Judged 𝓤 H A .pre (to-judged 𝓤 H A W j))) (goes-judged 𝓤 H A W j (subst (λ (ws : List Val). Is usize j ws) (uint-tells w64 j _ is-j) is-j)) $
-        calls-at ! fm (Judged 𝓤 H A) placed (to-judged 𝓤 H A W j) (and-then ! (load ! (from ! (stop !)) (look ! 16 refl)) (no-more !)) (λ v.
+        calls-at ! fm (Judged 𝓤 H A) indexed (to-judged 𝓤 H A W j) (and-then ! (load ! (from ! (stop !)) (look ! 16 refl)) (no-more !)) (λ v.
         use1 W (later (some (λ (i : ℕ). (‵ ftrue ⊛ ‵ (usize .own i (v ∷ []))) ⊛ raw (ensured 𝓤 H A verdict-shape.ended (verdict-clauses 𝓤) tt (j, tt) tt i)))) (id⊢ 𝓤 _) $ await ! tt $ pick ! (λ i.
-        split ! $ move ! (1 ∷ []) $ use1 W (raw (fact 𝓤 (VerdictPlaced j i))) (judged-says 𝓤 H A W j i) $ heard ! (VerdictPlaced j i) (λ ei. split ! $ drop ! $
+        split ! $ move ! (1 ∷ []) $ use1 W (raw (fact 𝓤 (VerdictIndexed j i))) (judged-says 𝓤 H A W j i) $ heard ! (VerdictIndexed j i) (λ ei. split ! $ drop ! $
         peeks ! usize (Is usize) (shows 𝓤 H A usize) i (v ∷ []) (λ is-i. drop ! $ land ! (from ! (stop !)) (init ! 13 refl (uint-lawful 𝓤 H A W w64 .typed i _ is-i .0)) $ rewrite ! 13 (λ (w : Val). ‵ (fat fullShare (tyInt w64) l₄ 0 w)) (ap only (uint-tells w64 i _ is-i)) refl $
         looks ! tt T.the-row (Is T.the-row) (shows 𝓤 H A T.the-row) (LL.vals T.the-type T′.the-laws) (LL.tells T.the-type T′.the-laws) (LL.copy T.the-type T′.the-copy 𝓤 H A W) h b o (λ q′ vs. spelt ! T.the-row (Is T.the-row) (shows 𝓤 H A T.the-row) (LL.vals T.the-type T′.the-laws) (LL.tells T.the-type T′.the-laws) q′ h vs b o $
         move ! (1 ∷ []) $ peeks ! T.the-row (Is T.the-row) (shows 𝓤 H A T.the-row) h (LL.vals T.the-type T′.the-laws h) (λ was. move ! (1 ∷ 0 ∷ []) $
@@ -164,12 +164,12 @@ module _ (search judged step : Name) (Good : (Session → ℕ → Response → T
 
 module _ (search judged step : Name) (Good : (Session → ℕ → Response → Type 0)) {M : Type 1} (𝓤 : URA M) (H : Heap 𝓤) (A : Atoms 𝓤) (W : Given 𝓤 H A) where
   walks : (C : Calls 𝓤 H) (Λ : Loops 𝓤 H) → FmC 𝓤 H (W .laws) C → Triple 𝓤 (C search) (Search LodgedFound 𝓤 H A) → Triple 𝓤 (C judged) (Judged 𝓤 H A) → Triple 𝓤 (C step) (Step Good 𝓤 H A) → Walks 𝓤 H A shape.ended stayed (WpFn 𝓤 H C Λ (function search judged step)) (entry-clauses Good 𝓤)
-  walks C Λ fm found placed known = walked 𝓤 H A shape.ended stayed (entry-clauses Good 𝓤) (WpFn 𝓤 H C Λ (function search judged step)) (λ κs. (ptr-vals, (uint-vals w32, tt))) (λ κs. (shr-tells (named 0) (κs .0) T.the-row, (uint-tells w32, tt)))
-      (λ κs qs bounds a g are. via 𝓤 _ (fst∗ 𝓤 _ (emp 𝓤)) (walk search judged step Good 𝓤 H A W (κs .0) (qs .0) (a .0 .ptr .0) (a .0 .ptr .1) (a .0 .name) (a .0 .now) (a .1 .0) C Λ fm found placed known (are .1 .0)))
+  walks C Λ fm found indexed known = walked 𝓤 H A shape.ended stayed (entry-clauses Good 𝓤) (WpFn 𝓤 H C Λ (function search judged step)) (λ κs. (ptr-vals, (uint-vals w32, tt))) (λ κs. (shr-tells (named 0) (κs .0) T.the-row, (uint-tells w32, tt)))
+      (λ κs qs bounds a g are. via 𝓤 _ (fst∗ 𝓤 _ (emp 𝓤)) (walk search judged step Good 𝓤 H A W (κs .0) (qs .0) (a .0 .ptr .0) (a .0 .ptr .1) (a .0 .name) (a .0 .now) (a .1 .0) C Λ fm found indexed known (are .1 .0)))
 
   goes : AllGo 𝓤 H A W 1 (shape.signature .params) (shape.ended .kept) stayed
   goes = (goes-none-ref 𝓤 H A W 1 (0 ∷ []) tt (plain (λ _. T.the-row)) yes, (goes-none 𝓤 H A W 1 (λ _. u32) yes (λ κs x f. refl), tt))
 
 pub meets : (search judged step : Name) (Good : (Session → ℕ → Response → Type 0)) {M : Type 1} (𝓤 : URA M) (H : Heap 𝓤) (A : Atoms 𝓤) → Given 𝓤 H A → (𝓣 : Tables 𝓤 H) → Triple 𝓤 (𝓣 .C search) (Search LodgedFound 𝓤 H A) → Triple 𝓤 (𝓣 .C judged) (Judged 𝓤 H A) → Triple 𝓤 (𝓣 .C step) (Step Good 𝓤 H A)
     → Meets 𝓤 H A shape.signature (WpFn 𝓤 H (𝓣 .C) (𝓣 .Λ) (function search judged step)) (closing 𝓤 H A shape.ended (entry-clauses Good 𝓤))
-meets search judged step Good 𝓤 H A W 𝓣 found placed known = walk-meets 𝓤 H A shape.ended stayed W (goes search judged step Good 𝓤 H A W) (entry-clauses Good 𝓤) (WpFn 𝓤 H (𝓣 .C) (𝓣 .Λ) (function search judged step)) (WpFn-mono 𝓤 H (W .laws) 𝓣 (function search judged step)) (walks search judged step Good 𝓤 H A W (𝓣 .C) (𝓣 .Λ) (fmOf 𝓤 H (W .laws) 𝓣) found placed known)
+meets search judged step Good 𝓤 H A W 𝓣 found indexed known = walk-meets 𝓤 H A shape.ended stayed W (goes search judged step Good 𝓤 H A W) (entry-clauses Good 𝓤) (WpFn 𝓤 H (𝓣 .C) (𝓣 .Λ) (function search judged step)) (WpFn-mono 𝓤 H (W .laws) 𝓣 (function search judged step)) (walks search judged step Good 𝓤 H A W (𝓣 .C) (𝓣 .Λ) (fmOf 𝓤 H (W .laws) 𝓣) found indexed known)

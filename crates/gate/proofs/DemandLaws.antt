@@ -20,17 +20,17 @@ use Rattle.rules.specs.Queries as Q
 use Rattle.calendar.specs.View.{dateIn}
 use Rattle.session.specs.Image.{unitIn, keyIn}
 use Rattle.session.specs.Steps.{Opens}
-use Rattle.notices.specs.Notices.{availableIn}
-use Rattle.capacities.specs.Capacities.{capacityIn}
-use Rattle.queries.specs.Replies.{Answered}
-use Rattle.daybook.specs.Runs as R
-use Rattle.daybook.specs.Runs.{Called}
-use Rattle.daybook.specs.Demand3.{Demanded}
-use Rattle.daybook.proofs.DemandLaws.{session-demand-3}
+use Rattle.notify_unavailability.specs.Notices.{availableIn}
+use Rattle.notify_capacity.specs.Capacities.{capacityIn}
+use Rattle.query.specs.Replies.{Answered}
+use Rattle.book.specs.Runs as R
+use Rattle.book.specs.Runs.{Called}
+use Rattle.book.specs.Demand3.{Demanded}
+use Rattle.book.proofs.DemandLaws.{session-demand-3}
 use Rattle.gate.proofs.gate_open as opening
 use Rattle.gate.proofs.gate_register as register
 use Rattle.gate.proofs.gate_capacity as capacity
-use Rattle.gate.proofs.gate_available as available
+use Rattle.gate.proofs.gate_unavailability as available
 use Rattle.gate.proofs.gate_lodge as lodge
 use Rattle.gate.proofs.gate_annul as annul
 use Rattle.gate.proofs.gate_close as close
@@ -38,8 +38,8 @@ use Rattle.gate.proofs.gate_clear as clear
 use Rattle.gate.proofs.gate_verdict as verdict
 use Rattle.gate.proofs.gate_matched as matched
 use Rattle.gate.proofs.gate_executed as executed
-use Rattle.gate.proofs.gate_market as market
-use Rattle.gate.proofs.gate_bilateral as bilateral
+use Rattle.gate.proofs.gate_market_balance as market
+use Rattle.gate.proofs.gate_bilateral_balance as bilateral
 use Rattle.gate.proofs.gate_market_maximum as market-maximum
 use Rattle.gate.proofs.gate_bilateral_maximum as bilateral-maximum
 use Rattle.gate.proofs.gate_price as price

@@ -1,4 +1,4 @@
-pub mod Places
+pub mod Indices
 pub mod AskedHour
 pub mod AskedBorder
 pub mod AskedDirection

@@ -12,23 +12,23 @@ ghost use Rattle.message.specs.View.{fieldsIn, readingAs, writtenAs};
 ghost use Rattle.answer.specs.Told.{ofCounted, ofNamed};
 ghost use Rattle.session.specs.Image.{unitIn, keyIn};
 ghost use Rattle.session.specs.Steps.{Opens, Met};
-ghost use Rattle.notices.specs.Notices.{availableIn};
-ghost use Rattle.capacities.specs.Capacities.{capacityIn};
-ghost use Rattle.queries.specs.Replies.{Answered};
+ghost use Rattle.notify_unavailability.specs.Notices.{availableIn};
+ghost use Rattle.notify_capacity.specs.Capacities.{capacityIn};
+ghost use Rattle.query.specs.Replies.{Answered};
 use answer::ClockName;
 use answer::Response;
 use calendar::Clock;
 use calendar::Date;
-use capacities::Capacities;
-use lent::settle_capacities;
-use lent::settle_clearing;
-use lent::settle_closing;
-use lent::settle_registry;
-use lent::settle_standing;
+use gate_store::settle_capacities;
+use gate_store::settle_clearing;
+use gate_store::settle_closing;
+use gate_store::settle_registry;
+use gate_store::settle_standing;
 use message::Fields;
 use message::Reading;
 use message::Written;
-use notices::Availability;
+use notify_capacity::Capacities;
+use notify_unavailability::Availability;
 use session::Key;
 use session::Opened;
 use session::Session;
@@ -78,7 +78,7 @@ pub extern "C" fn gate_hour(date: Date, clock: Clock) -> Response
 pub extern "C" fn gate_read(message: &[u8]) -> Reading
     ensures { λ r. ⌜ r ≡ readingAs (reading (now (message .entry))) ⌝ }
 {
-    reader::read(message)
+    message_reader::read(message)
 }
 
 // The message of some fields into the caller's buffer: 4, 5, 14.
@@ -87,7 +87,7 @@ pub extern "C" fn gate_write(fields: Fields, buffer: &mut [u8]) -> Written
     ensures { λ r. ⌜ (r ≡ writtenAs (writing (length (now (buffer .entry))) (fieldsIn fields)))
         × (now (buffer .exit) ≡ bufferAfter (writing (length (now (buffer .entry))) (fieldsIn fields)) (now (buffer .entry))) ⌝ }
 {
-    writer::write(fields, buffer)
+    message_writer::write(fields, buffer)
 }
 
 // Calls
@@ -97,16 +97,16 @@ pub extern "C" fn gate_write(fields: Fields, buffer: &mut [u8]) -> Written
 pub extern "C" fn gate_register(s: &mut Session, unit: Unit) -> Response
     ensures { λ r. ⌜ Met (now (s .entry)) (register (unitIn unit)) (record { session = now (s .exit); answer = r }) ⌝ }
 {
-    let t = registry::register_change(*s, unit);
+    let t = register::register_change(*s, unit);
     settle_registry(s, t)
 }
 
 // Takes an unavailability notice of a unit: 2, 4, 5, 6.
 #[no_mangle]
-pub extern "C" fn gate_available(s: &mut Session, notice: Availability) -> Response
+pub extern "C" fn gate_unavailability(s: &mut Session, notice: Availability) -> Response
     ensures { λ r. ⌜ Met (now (s .entry)) (availableIn notice) (record { session = now (s .exit); answer = r }) ⌝ }
 {
-    let t = notices::available_change(*s, notice);
+    let t = notify_unavailability::available_change(*s, notice);
     settle_registry(s, t)
 }
 
@@ -115,7 +115,7 @@ pub extern "C" fn gate_available(s: &mut Session, notice: Availability) -> Respo
 pub extern "C" fn gate_capacity(s: &mut Session, notice: Capacities) -> Response
     ensures { λ r. ⌜ Met (now (s .entry)) (capacityIn notice) (record { session = now (s .exit); answer = r }) ⌝ }
 {
-    let t = capacities::capacity_change(*s, notice);
+    let t = notify_capacity::capacity_change(*s, notice);
     settle_capacities(s, t)
 }
 
@@ -125,13 +125,13 @@ pub extern "C" fn gate_capacity(s: &mut Session, notice: Capacities) -> Response
 pub extern "C" fn gate_lodge(s: &mut Session, message: &[u8]) -> Response
     ensures { λ r. ⌜ Met (now (s .entry)) (lodge (now (message .entry))) (record { session = now (s .exit); answer = r }) ⌝ }
 {
-    let p = pending::pend(*s, message);
+    let p = lodge_pending::pend(*s, message);
     let notice = p.notice;
     let first = p.first;
     let second = p.second;
     let third = p.third;
     let fourth = p.fourth;
-    let t = lodging::lodge::lodge_change(
+    let t = lodge::lodge::lodge_change(
         *s,
         p,
         s.notices[notice],
@@ -148,7 +148,7 @@ pub extern "C" fn gate_lodge(s: &mut Session, message: &[u8]) -> Response
 pub extern "C" fn gate_annul(s: &mut Session, key: Key) -> Response
     ensures { λ r. ⌜ Met (now (s .entry)) (annul (keyIn key)) (record { session = now (s .exit); answer = r }) ⌝ }
 {
-    let t = annulling::annul_change(*s, key);
+    let t = annul::annul_change(*s, key);
     settle_standing(s, t)
 }
 
@@ -157,7 +157,7 @@ pub extern "C" fn gate_annul(s: &mut Session, key: Key) -> Response
 pub extern "C" fn gate_close(s: &mut Session) -> Response
     ensures { λ r. ⌜ Met (now (s .entry)) close (record { session = now (s .exit); answer = r }) ⌝ }
 {
-    let t = closing::close_change(*s);
+    let t = close::close_change(*s);
     settle_closing(s, t)
 }
 
@@ -166,7 +166,7 @@ pub extern "C" fn gate_close(s: &mut Session) -> Response
 pub extern "C" fn gate_clear(s: &mut Session) -> Response
     ensures { λ r. ⌜ Met (now (s .entry)) clear (record { session = now (s .exit); answer = r }) ⌝ }
 {
-    let t = clearing::clear_change(*s);
+    let t = clear::clear_change(*s);
     settle_clearing(s, t)
 }
 
@@ -177,9 +177,9 @@ pub extern "C" fn gate_clear(s: &mut Session) -> Response
 pub extern "C" fn gate_verdict(s: &Session, number: u32) -> Response
     ensures { λ r. ⌜ Answered (now (s .entry)) (Q.verdict number) r ⌝ }
 {
-    let at = lent::lodged_at(s, number);
-    let of = verdicts::verdict_place(at);
-    verdicts::verdict_from(*s, at, s.verdicts[of], number)
+    let at = gate_store::lodged_at(s, number);
+    let of = query_verdict::verdict_index(at);
+    query_verdict::verdict_from(*s, at, s.verdicts[of], number)
 }
 
 // A unit's matched energy in an hour: 2, 4, 5, 6.
@@ -187,9 +187,9 @@ pub extern "C" fn gate_verdict(s: &Session, number: u32) -> Response
 pub extern "C" fn gate_matched(s: &Session, unit: u32, hour: u32) -> Response
     ensures { λ r. ⌜ Answered (now (s .entry)) (Q.matched unit hour) r ⌝ }
 {
-    let of = lent::unit_at(s, unit);
-    let at = queries::place_of(hour);
-    energies::matched_from(*s, s.figures[at], of, unit, hour)
+    let of = gate_store::unit_at(s, unit);
+    let at = query::index_of(hour);
+    query_unit::matched_from(*s, s.figures[at], of, unit, hour)
 }
 
 // A unit's executed energy in an hour: 2, 4, 5, 6.
@@ -197,27 +197,27 @@ pub extern "C" fn gate_matched(s: &Session, unit: u32, hour: u32) -> Response
 pub extern "C" fn gate_executed(s: &Session, unit: u32, hour: u32) -> Response
     ensures { λ r. ⌜ Answered (now (s .entry)) (Q.executed unit hour) r ⌝ }
 {
-    let of = lent::unit_at(s, unit);
-    let at = queries::place_of(hour);
-    energies::executed_from(*s, s.figures[at], of, unit, hour)
+    let of = gate_store::unit_at(s, unit);
+    let at = query::index_of(hour);
+    query_unit::executed_from(*s, s.figures[at], of, unit, hour)
 }
 
 // The final market balance of a border: 2, 4, 5.
 #[no_mangle]
-pub extern "C" fn gate_market(s: &Session, border: u32, hour: u32) -> Response
+pub extern "C" fn gate_market_balance(s: &Session, border: u32, hour: u32) -> Response
     ensures { λ r. ⌜ Answered (now (s .entry)) (Q.market border hour) r ⌝ }
 {
-    let at = queries::place_of(hour);
-    balances::market_from(*s, s.figures[at], border, hour)
+    let at = query::index_of(hour);
+    query_balance::market_from(*s, s.figures[at], border, hour)
 }
 
 // The final balance of its executions: 2, 4, 5.
 #[no_mangle]
-pub extern "C" fn gate_bilateral(s: &Session, border: u32, hour: u32) -> Response
+pub extern "C" fn gate_bilateral_balance(s: &Session, border: u32, hour: u32) -> Response
     ensures { λ r. ⌜ Answered (now (s .entry)) (Q.bilateral border hour) r ⌝ }
 {
-    let at = queries::place_of(hour);
-    balances::bilateral_from(*s, s.figures[at], border, hour)
+    let at = query::index_of(hour);
+    query_balance::bilateral_from(*s, s.figures[at], border, hour)
 }
 
 // The market maximum of a border's direction, "absent without capacity": 2, 4, 5.
@@ -225,9 +225,9 @@ pub extern "C" fn gate_bilateral(s: &Session, border: u32, hour: u32) -> Respons
 pub extern "C" fn gate_market_maximum(s: &Session, border: u32, export: bool, hour: u32) -> Response
     ensures { λ r. ⌜ Answered (now (s .entry)) (Q.marketMax border export hour) r ⌝ }
 {
-    let of = maxima::notice_place(border, export);
-    let at = queries::place_of(hour);
-    maxima::market_maximum_from(*s, s.figures[at], s.capacities[of], border, export, hour)
+    let of = query_maximum::notice_index(border, export);
+    let at = query::index_of(hour);
+    query_maximum::market_maximum_from(*s, s.figures[at], s.capacities[of], border, export, hour)
 }
 
 // Its bilateral maximum, which may be below zero: 2, 4, 5.
@@ -240,9 +240,9 @@ pub extern "C" fn gate_bilateral_maximum(
 ) -> Response
     ensures { λ r. ⌜ Answered (now (s .entry)) (Q.bilateralMax border export hour) r ⌝ }
 {
-    let of = maxima::notice_place(border, export);
-    let at = queries::place_of(hour);
-    maxima::bilateral_maximum_from(*s, s.figures[at], s.capacities[of], border, export, hour)
+    let of = query_maximum::notice_index(border, export);
+    let at = query::index_of(hour);
+    query_maximum::bilateral_maximum_from(*s, s.figures[at], s.capacities[of], border, export, hour)
 }
 
 // The hour's price: 2, 4.
@@ -250,6 +250,6 @@ pub extern "C" fn gate_bilateral_maximum(
 pub extern "C" fn gate_price(s: &Session, hour: u32) -> Response
     ensures { λ r. ⌜ Answered (now (s .entry)) (Q.price hour) r ⌝ }
 {
-    let at = queries::place_of(hour);
-    queries::price_from(*s, s.figures[at], hour)
+    let at = query::index_of(hour);
+    query::price_from(*s, s.figures[at], hour)
 }

@@ -19,22 +19,22 @@ use Rattle.rules.proofs.BoolLaws.{by-bool}
 use Rattle.rules.proofs.ListLaws.{all-mapped, all-keep, keep-passes, getD-pad}
 use Rattle.rules.proofs.ElementLaws.{all-both}
 use Rattle.rules.proofs.HourLaws.{Final}
-use Rattle.arrays.specs.Places.{vals}
-use Rattle.arrays.proofs.PlaceLaws.{none-off, from-all, all-at, map-all, vals-take}
-use Rattle.matching.specs.declared.Offers.{Offers}
-use Rattle.matching.specs.View.{offerAt, offersOf}
-use Rattle.borders.specs.declared.Executions.{Executions}
-use Rattle.borders.specs.View.{executionAt, executionsOf}
-use Rattle.borders.specs.Ways.{wayOf, directed, publishedIn}
-use Rattle.borders.specs.Flows.{MarketFlows, ExecutionFlows}
-use Rattle.borders.proofs.WayLaws.{way-back, runs-way}
+use Rattle.arrays.specs.Indices.{vals}
+use Rattle.arrays.proofs.IndexLaws.{none-off, from-all, all-at, map-all, vals-take}
+use Rattle.hour_match.specs.declared.Offers.{Offers}
+use Rattle.hour_match.specs.View.{offerAt, offersOf}
+use Rattle.hour_borders.specs.declared.Executions.{Executions}
+use Rattle.hour_borders.specs.View.{executionAt, executionsOf}
+use Rattle.hour_borders.specs.Ways.{wayOf, directed, publishedIn}
+use Rattle.hour_borders.specs.Flows.{MarketFlows, ExecutionFlows}
+use Rattle.hour_borders.proofs.WayLaws.{way-back, runs-way}
 use Rattle.session.specs.Laid.{pad}
 use Rattle.session.specs.Image.{byWay, energyOf}
 use Rattle.hour.specs.declared.Hour.{Hour}
 use Rattle.hour.specs.declared.Figures.{Figures}
 use Rattle.hour.specs.View.{hourIn, figuresAs, figuresIn}
 
--- Lists by place
+-- Lists by index
 
 -- numbers within a bound, read anywhere
 pub all-within : (m : ℕ) {es : List ℕ} → All (λ e. e ≤ m) es → (i : ℕ) → getD es i 0 ≤ m
@@ -66,12 +66,12 @@ from-last a zero = let o : a + 0 ≡ a = omega arith in rw o
 from-last a (suc n) = let o : a + suc n ≡ suc a + n = omega arith in rw o (ap (λ (l : List ℕ). a ∷ l) (from-last (suc a) n))
 
 -- the first n of an array
-first-places : (a : List ℕ) (n : ℕ) → n ≤ length a → map (λ j. getD a j 0) (from 0 n) ≡ take n a
+first-indices : (a : List ℕ) (n : ℕ) → n ≤ length a → map (λ j. getD a j 0) (from 0 n) ≡ take n a
 unfolding vals
-first-places a n h = rw (none-off n) at (vals-take a n h)
+first-indices a n h = rw (none-off n) at (vals-take a n h)
 
-all-places : (a : List ℕ) → map (λ j. getD a j 0) (from 0 (length a)) ≡ a
-all-places a = first-places a (length a) (omega arith) ∙ take-all (length a) a (omega arith)
+all-indices : (a : List ℕ) → map (λ j. getD a j 0) (from 0 (length a)) ≡ a
+all-indices a = first-indices a (length a) (omega arith) ∙ take-all (length a) a (omega arith)
 
 -- An array of 128 with n energies in front
 
@@ -110,7 +110,7 @@ way-at f (suc (suc (suc (suc (suc (suc (suc (suc (suc (suc w)))))))))) l = absur
 pub by-way : (f : ℕ → Bool → ℕ) (a : List ℕ) → length a ≡ 10 → ((w : ℕ) → w < 10 → getD a w 0 ≡ f (w / 2) (eqb (w % 2) 0)) → a ≡ byWay f
 unfolding byWay
 by-way f a l g =
-    sym (all-places a) ∙ (ap (λ n. map (λ w. getD a w 0) (from 0 n)) l ∙ map-all _ (λ w. f (w / 2) (eqb (w % 2) 0)) (from-all _ 0 10 (λ w h k. g w (omega arith))))
+    sym (all-indices a) ∙ (ap (λ n. map (λ w. getD a w 0) (from 0 n)) l ∙ map-all _ (λ w. f (w / 2) (eqb (w % 2) 0)) (from-all _ 0 10 (λ w h k. g w (omega arith))))
 
 -- flows by border and direction
 pub flows-by-way : (f : ℕ → Bool → ℕ) (a : List ℕ) → length a ≡ 10 → ((b : ℕ) (e : Bool) → b < 5 → getD a (wayOf b e) 0 ≡ f b e) → a ≡ byWay f
@@ -208,7 +208,7 @@ laid-said h r e m x maxima lm fm lx fx =
     maxima (flows-by-way _ (r .market) lm fm) (flows-by-way _ (r .bilateral) lx fx)
   where
     energies : {n : ℕ} {a es : List ℕ} → Front n a → es ≡ map (λ i. getD a i 0) (from 0 n) → a ≡ pad 128 0 es
-    energies {n} {a} f k = front-laid f ∙ ap (pad 128 0) (sym (first-places a n (omega (arith, f .few, f .long))) ∙ sym k)
+    energies {n} {a} f k = front-laid f ∙ ap (pad 128 0) (sym (first-indices a n (omega (arith, f .few, f .long))) ∙ sym k)
 
 -- Read back
 
@@ -219,7 +219,7 @@ offer-same a b c d = rw (a, b, c, d)
 execution-same : {x y : Holder} {e f : ℕ} → x ≡ y → e ≡ f → _≡_ {A = Execution} (record { holder = x; energy = e }) (record { holder = y; energy = f })
 execution-same a b = rw (a, b)
 
--- an array has a list's numbers from place i on
+-- an array has a list's numbers from index i on
 record From (a : List ℕ) (i : ℕ) (es : List ℕ) : Type 0 where
   at : (j : ℕ) → getD a (i + j) 0 ≡ getD es j 0
 

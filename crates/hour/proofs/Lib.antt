@@ -1,2 +1,3 @@
 pub mod LaidLaws
 pub mod ReadyLaws
+pub mod RangeLaws

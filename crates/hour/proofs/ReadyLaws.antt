@@ -13,14 +13,14 @@ use Rattle.rules.specs.Borders.{Directed}
 use Rattle.rules.proofs.BoolLaws.{by-bool, both, neither}
 use Rattle.rules.proofs.ListLaws.{all-map, all-mapped, all-keep, all-unkept, keep-passes, any-false, of-any-false}
 use Rattle.rules.proofs.ElementLaws.{all-both, all-unmapped, Pairwise, empty, ahead, pairwise-map}
-use Rattle.arrays.specs.Places.{vals}
-use Rattle.arrays.proofs.PlaceLaws.{from-all, all-at}
+use Rattle.arrays.specs.Indices.{vals}
+use Rattle.arrays.proofs.IndexLaws.{from-all, all-at}
 use Rattle.arrays.proofs.TestLaws.{above-none, of-above-none}
-use Rattle.matching.specs.View.{Sound, offerAt, offersOf}
-use Rattle.borders.specs.View.{executionAt, executionsOf}
-use Rattle.borders.specs.Ways.{directed, publishedIn}
-use Rattle.readiness.specs.Ranges.{outside, badHolder, badLodgement, badAt, lodgementsReady, badCapacity, badAtWay, capacitiesReady}
-use Rattle.readiness.proofs.RangeLaws.{within-range, of-within, row-holds, of-row}
+use Rattle.hour_match.specs.View.{Sound, offerAt, offersOf}
+use Rattle.hour_borders.specs.View.{executionAt, executionsOf}
+use Rattle.hour_borders.specs.Ways.{directed, publishedIn}
+use Rattle.hour.specs.Ranges.{outside, badHolder, badLodgement, badAt, lodgementsReady, badCapacity, badAtWay, capacitiesReady}
+use Rattle.hour.proofs.RangeLaws.{within-range, of-within, row-holds, of-row}
 use Rattle.hour.specs.declared.Hour.{Hour}
 use Rattle.hour.specs.View.{hourIn}
 use Rattle.hour.proofs.LaidLaws.{pairwise-at}
@@ -183,7 +183,7 @@ ready-told h r =
       capacities-told (h .published) (h .capacity) (r .capacities),
     )
 
--- What it says by place
+-- What it says by index
 
 module _ {h : Hour} (r : Ready h) where
   offer-at : (i : ℕ) → i < h .offers .count → OfferReady (offerAt (h .offers) (h .offered) (replicate 128 0) i)

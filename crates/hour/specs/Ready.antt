@@ -9,8 +9,8 @@ use Rattle.rules.specs.Units.{maxEnergy, maxPrice}
 use Rattle.rules.specs.Match.{Holder, Offer}
 use Rattle.rules.specs.Borders.{Execution}
 use Rattle.rules.specs.Clearing.{clearHour}
-use Rattle.arrays.specs.Places.{vals}
-use Rattle.readiness.specs.Ranges.{lodgementsReady, capacitiesReady}
+use Rattle.arrays.specs.Indices.{vals}
+use Rattle.hour.specs.Ranges.{lodgementsReady, capacitiesReady}
 use Rattle.hour.specs.declared.Hour.{Hour}
 use Rattle.hour.specs.declared.Figures.{Figures}
 use Rattle.hour.specs.View.{hourIn, figuresAs, noFigures}

@@ -3,9 +3,9 @@ use mathlib.Core.List.{map}
 use lib.ListN.{replicate}
 use Rattle.rules.specs.Borders.{flow}
 use Rattle.rules.specs.Clearing as C
-use Rattle.matching.specs.View.{offersOf}
-use Rattle.borders.specs.View.{executionsOf}
-use Rattle.borders.specs.Ways.{publishedIn}
+use Rattle.hour_match.specs.View.{offersOf}
+use Rattle.hour_borders.specs.View.{executionsOf}
+use Rattle.hour_borders.specs.Ways.{publishedIn}
 use Rattle.session.specs.Laid.{pad}
 use Rattle.session.specs.Image.{byWay, energyOf}
 use Rattle.hour.specs.declared.Hour.{Hour}
@@ -19,7 +19,7 @@ hourIn h = record {
   executions = executionsOf (h .executions) (h .energy);
 }
 
--- the rules' figures as clearing gives them: of offers and executions in their places, 0 behind them; by direction, those of border 0
+-- the rules' figures as clearing gives them: of offers and executions in their indices, 0 behind them; by direction, those of border 0
 -- too, where a flow is domestic energy; a maximum that is not published, as those of border 0, is 0
 unfoldable pub figuresAs : C.Figures → Figures
 figuresAs x = record {

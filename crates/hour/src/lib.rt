@@ -1,17 +1,21 @@
 // An hour as it is cleared and what clearing gives (document 01, "Clearing, hour by hour"): the crate `clearhour` clears it.
-use borders::Executions;
-use matching::Offers;
+pub mod readiness;
+
+use hour_borders::Executions;
+use hour_match::Offers;
+use rules::LODGEMENTS;
+use rules::UNITS;
 ghost use mathlib.Core.Path.{_≡_};
 ghost use Rattle.hour.specs.Ready.{isReady};
 
 // An hour as it is cleared: its accepted offers and executions, each kind by rising lodging number, with their energies, and its
-// published capacities by direction (`borders::way`; none of border 0). Behind the counts, and where nothing is published, anything may
+// published capacities by direction (`hour_borders::way`; none of border 0). Behind the counts, and where nothing is published, anything may
 // stand.
 pub struct Hour {
     pub offers: Offers,
-    pub offered: [u32; 128],
+    pub offered: [u32; LODGEMENTS],
     pub executions: Executions,
-    pub energy: [u32; 128],
+    pub energy: [u32; LODGEMENTS],
     pub published: [bool; 10],
     pub capacity: [u32; 10],
 }
@@ -20,9 +24,9 @@ pub struct Hour {
 // direction the market maximum, 0 where none is published, and the energy of matched offers and of executions at the end, border 0
 // being domestic; the count of withdrawal steps and the price.
 pub struct Figures {
-    pub offered: [u32; 128],
-    pub matched: [u32; 128],
-    pub executed: [u32; 128],
+    pub offered: [u32; LODGEMENTS],
+    pub matched: [u32; LODGEMENTS],
+    pub executed: [u32; LODGEMENTS],
     pub maxima: [u32; 10],
     pub market: [u32; 10],
     pub bilateral: [u32; 10],
@@ -38,20 +42,36 @@ pub fn ready(h: Hour) -> bool
     let x = h.executions;
     let n = o.count;
     let k = x.count;
-    if 64 < n {
+    if UNITS < n {
         return false;
     }
-    if 128 - n < k {
+    if LODGEMENTS - n < k {
         return false;
     }
-    if !readiness::lodgements_ready(0, n, &o.number, &o.unit, &o.border, &o.legacy, &h.offered) {
+    if !crate::readiness::lodgements_ready(
+        0,
+        n,
+        &o.number,
+        &o.unit,
+        &o.border,
+        &o.legacy,
+        &h.offered,
+    ) {
         return false;
     }
     if arrays::any_above(&o.price, n, 18_030) {
         return false;
     }
-    if !readiness::lodgements_ready(1, k, &x.number, &x.unit, &x.border, &x.legacy, &h.energy) {
+    if !crate::readiness::lodgements_ready(
+        1,
+        k,
+        &x.number,
+        &x.unit,
+        &x.border,
+        &x.legacy,
+        &h.energy,
+    ) {
         return false;
     }
-    readiness::capacities_ready(&h.published, &h.capacity)
+    crate::readiness::capacities_ready(&h.published, &h.capacity)
 }

@@ -8,9 +8,9 @@ use lib.Dec.{eqb}
 use lib.ListN.{getD}
 use Rattle.rules.specs.Lists.{any, from, hourly}
 use Rattle.rules.specs.Message.{Fields, bits, hourBits, names, badHour}
-use Rattle.ranges.specs.Slots.{badSlot}
+use Rattle.message_ranges.specs.Slots.{badSlot}
 
--- a bit by its place: j bits stand before it, k after
+-- a bit by its index: j bits stand before it, k after
 bit-at : (w n j k : ℕ) → j + suc k ≡ w → getD (bits w n) j 0 ≡ n / 2 ^ k % 2
 unfolding bits
 bit-at zero n j k e = absurd (omega arith)

@@ -36,12 +36,12 @@ noFields = record { execution = false; default = false; reserved = 0; unit = 0; 
 -- the reading of a message's outcome
 unfoldable pub readingAs : Outcome M.Fields → Reading
 readingAs (given m) = record {
-  refusal = 0;
+  row = 0;
   fields = fieldsAs m;
 }
-readingAs (refused n h) = record { refusal = n; fields = noFields }
+readingAs (refused n h) = record { row = n; fields = noFields }
 
 -- the count of an outcome of writing
 unfoldable pub writtenAs : Outcome (List ℕ) → Written
-writtenAs (given bytes) = record { refusal = 0; reserved = 0; count = length bytes }
-writtenAs (refused n h) = record { refusal = n; reserved = 0; count = 0 }
+writtenAs (given bytes) = record { row = 0; reserved = 0; count = length bytes }
+writtenAs (refused n h) = record { row = n; reserved = 0; count = 0 }

@@ -2,6 +2,7 @@
 ghost use mathlib.Core.Path.{_≡_};
 ghost use Prim.Native.Nat.{_+_, _*_, _≤_};
 ghost use Rattle.rules.specs.Message.{form1, priceWidth, slotsEnd, setBits, lengthFor};
+use rules::MAPS;
 
 // The bits of a price: an execution has none.
 pub fn price_width(execution: bool) -> usize
@@ -17,7 +18,7 @@ pub fn price_width(execution: bool) -> usize
 pub fn slots_end(execution: bool, map: u32) -> usize
     ensures { λ r. ⌜ (r ≡ slotsEnd form1 execution (setBits map)) × (r ≤ 864) ⌝ }
 {
-    let n = u32::count_ones(map % 33554432) as usize;
+    let n = u32::count_ones(map % MAPS) as usize;
     64 + n * (17 + price_width(execution))
 }
 

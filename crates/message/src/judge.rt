@@ -1,7 +1,7 @@
 // What a message's fields are refused for: 5 of the table.
 use super::Fields;
-use ranges::bad_key;
-use ranges::bad_slot;
+use message_ranges::bad_key;
+use message_ranges::bad_slot;
 ghost use mathlib.Core.Path.{_≡_};
 ghost use Prim.Native.Nat.{_≤_};
 ghost use Rattle.rules.specs.Lists.{any, from};

@@ -2,6 +2,8 @@
 pub mod form;
 pub mod judge;
 
+use rules::HOURS;
+
 // What a message says, and what a writer is given. Energies and prices are by hour, hour 1 first. What is reserved, here and below,
 // leaves no padding for C.
 #[repr(C)]
@@ -13,21 +15,21 @@ pub struct Fields {
     pub contract: u32,
     // The hour map: hour 1 is bit 24, hour 25 bit 0.
     pub map: u32,
-    pub energies: [u32; 25],
-    pub prices: [u32; 25],
+    pub energies: [u32; HOURS],
+    pub prices: [u32; HOURS],
 }
 
-// A message read: refusal 0 and its fields, or the table's number and fields that are all 0.
+// A message read: row 0 and its fields, or the table's number and fields that are all 0.
 #[repr(C)]
 pub struct Reading {
-    pub refusal: u32,
+    pub row: u32,
     pub fields: Fields,
 }
 
-// A message written: refusal 0 and the count of its bytes, or the table's number and 0.
+// A message written: row 0 and the count of its bytes, or the table's number and 0.
 #[repr(C)]
 pub struct Written {
-    pub refusal: u32,
+    pub row: u32,
     pub reserved: u32,
     pub count: usize,
 }

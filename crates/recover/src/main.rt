@@ -1,29 +1,29 @@
-// A recovery: a day's call log (docs/LOG.md) run again, by `daybook::replay` from a date and by `daybook::replay_on` from the
+// A recovery: a day's call log (docs/LOG.md) run again, by `book::replay` from a date and by `book::replay_on` from the
 // session that is left. Each line of standard input is one of these, and each is answered with a line:
 //
 //     log HEX                              the log's bytes
 //     byte AT VALUE                        one of them is another
-//     replay YEAR MONTH DAY ROOM FROM TO   those from a place up to another, from a fresh session of the date; there is room for so
+//     replay YEAR MONTH DAY ROOM FROM TO   those from an index up to another, from a fresh session of the date; there is room for so
 //                                          many answers
 //     replay-on ROOM FROM TO               the same from the session that is left
 //
 // Any other line is one of a rehearsal (docs/REHEARSAL.md), run on that session. tests/recovery makes the input and, from the
 // independent model, what is expected.
-use bits::byte_at;
 use calendar::Date;
-use report::replies::put_response;
-use report::text::put;
-use report::text::put_count;
+use message_bits::byte_at;
+use rehearse_lines::telling::Said;
+use rehearse_report::replies::put_response;
+use rehearse_report::text::put;
+use rehearse_report::text::put_count;
+use rehearse_words::hex::byte_in;
+use rehearse_words::hex::bytes_in;
+use rehearse_words::words::Scan;
+use rehearse_words::words::ended;
+use rehearse_words::words::is_ended;
+use rehearse_words::words::is_word;
+use rehearse_words::words::next_word;
+use rehearse_words::words::number;
 use session::Session;
-use telling::Said;
-use wording::hex::byte_in;
-use wording::hex::bytes_in;
-use wording::words::Scan;
-use wording::words::ended;
-use wording::words::is_ended;
-use wording::words::is_word;
-use wording::words::next_word;
-use wording::words::number;
 ghost use Prim.Native.Nat.{_≤_};
 ghost use lib.ListN.{length};
 
@@ -38,7 +38,7 @@ const NO_ANSWER: u64 = 18446744073709551615;
 struct Day {
     session: Session,
     bytes: usize,
-    place: u64,
+    index: u64,
 }
 
 // The bytes of the log that are run, and the room for answers; from a fresh session of a date, or from the one that is left.
@@ -61,7 +61,7 @@ fn first_day() -> Day {
     Day {
         session,
         bytes: 0,
-        place: 0,
+        index: 0,
     }
 }
 
@@ -72,13 +72,13 @@ fn up(n: u64) -> u64 {
     n + 1
 }
 
-fn put_place(place: u64) {
-    put_count(place);
+fn put_index(index: u64) {
+    put_count(index);
     put(b": ");
 }
 
 fn unknown(d: Day) -> Day {
-    telling::put_line(d.place, Said::Unknown);
+    rehearse_lines::telling::put_line(d.index, Said::Unknown);
     d
 }
 
@@ -92,7 +92,7 @@ fn put_words(answers: &[u64]) {
     put(b"\n");
 }
 
-// "calls 12, bytes 1848:", then an answer or nothing in each place that there was room for.
+// "calls 12, bytes 1848:", then an answer or nothing in each index that there was room for.
 fn put_run(calls: usize, read: usize, answers: &[u64]) {
     put(b"calls ");
     put_count(calls as u64);
@@ -103,7 +103,7 @@ fn put_run(calls: usize, read: usize, answers: &[u64]) {
 }
 
 fn replay(date: Date, log: &[u8], answers: &mut [u64]) -> Session {
-    let r = daybook::replay(date, log, answers);
+    let r = book::replay(date, log, answers);
     let opened = r.opened;
     let session = r.session;
     put_response(opened);
@@ -113,7 +113,7 @@ fn replay(date: Date, log: &[u8], answers: &mut [u64]) -> Session {
 }
 
 fn replay_on(s: Session, log: &[u8], answers: &mut [u64]) -> Session {
-    let r = daybook::replay_on(s, log, answers);
+    let r = book::replay_on(s, log, answers);
     let session = r.session;
     put_run(r.calls, r.read, answers);
     session
@@ -141,12 +141,12 @@ fn run_part(part: Part, log: &[u8], answers: &mut [u64], d: Day) -> Day {
     }
     let date = part.date;
     let s = d.session;
-    put_place(d.place);
+    put_index(d.index);
     let session = run(part.fresh, date, s, &log[from..to], &mut answers[..room]);
     Day {
         session,
         bytes: d.bytes,
-        place: d.place,
+        index: d.index,
     }
 }
 
@@ -201,7 +201,7 @@ fn run_log(part: Part, log: &[u8], d: Day) -> Day {
 // The log's bytes
 
 fn with_bytes(d: Day, bytes: usize) -> Day {
-    put_place(d.place);
+    put_index(d.index);
     put(b"bytes ");
     put_count(bytes as u64);
     put(b"\n");
@@ -209,7 +209,7 @@ fn with_bytes(d: Day, bytes: usize) -> Day {
     Day {
         session,
         bytes,
-        place: d.place,
+        index: d.index,
     }
 }
 
@@ -265,17 +265,17 @@ fn run_byte(line: &[u8], p: Scan, log: &mut [u8; 16384], d: Day) -> Day {
 
 // A line of a rehearsal.
 fn run_rehearsed(line: &[u8], d: Day) -> Day {
-    let t = lines::run(line, d.session);
+    let t = rehearse_lines::run(line, d.session);
     let session = t.session;
     let said = t.said;
-    telling::put_line(d.place, said);
-    if telling::is_report(said) {
-        report::put_report(session);
+    rehearse_lines::telling::put_line(d.index, said);
+    if rehearse_lines::telling::is_report(said) {
+        rehearse_report::put_report(session);
     }
     Day {
         session,
         bytes: d.bytes,
-        place: d.place,
+        index: d.index,
     }
 }
 
@@ -304,7 +304,7 @@ fn run_line(line: &[u8], log: &mut [u8; 16384], d: Day) -> Day {
 // A line's end: blank lines and comments say nothing.
 fn end_line(line: &[u8], log: &mut [u8; 16384], before: Day) -> Day {
     let mut d = before;
-    d.place = up(d.place);
+    d.index = up(d.index);
     if is_ended(line, 0) {
         return d;
     }
@@ -314,7 +314,7 @@ fn end_line(line: &[u8], log: &mut [u8; 16384], before: Day) -> Day {
     run_line(line, log, d)
 }
 
-// The place of the next line end from `at` on, or the end.
+// The index of the next line end from `at` on, or the end.
 fn line_end(s: &[u8], at: usize) -> usize
     requires { ⌜ at ≤ length (now s) ⌝ }
     ensures { λ r. ⌜ (at ≤ r) × (r ≤ length (now (s .entry))) ⌝ }

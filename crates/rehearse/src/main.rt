@@ -1,12 +1,12 @@
 // A rehearsal: calls and queries as lines of text on standard input, run on the session that the last one left; each answer
 // is a line, a report a line and its tables (docs/REHEARSAL.md). At the end it says how many were run, refused and not understood.
-use bits::byte_at;
 use calendar::Date;
-use report::text::put;
-use report::text::put_count;
+use message_bits::byte_at;
+use rehearse_lines::telling::Said;
+use rehearse_report::text::put;
+use rehearse_report::text::put_count;
+use rehearse_words::words::is_blank;
 use session::Session;
-use telling::Said;
-use wording::words::is_blank;
 ghost use Prim.Native.Nat.{_≤_};
 ghost use lib.ListN.{length};
 
@@ -15,7 +15,7 @@ const STDIN: i32 = 0;
 // The session, and the counts: lines, calls and queries, those refused, lines that are neither.
 struct Day {
     session: Session,
-    place: u64,
+    index: u64,
     calls: u64,
     refused: u64,
     unknown: u64,
@@ -50,7 +50,7 @@ fn first_day() -> Day {
     let session = opened.session;
     Day {
         session,
-        place: 0,
+        index: 0,
         calls: 0,
         refused: 0,
         unknown: 0,
@@ -73,17 +73,17 @@ fn up_if(n: u64, is_so: bool) -> u64 {
 
 // The answer told, and counted: a report, which asks for nothing that could be refused, is not.
 fn tell(d: Day, session: Session, said: Said) -> Day {
-    telling::put_line(d.place, said);
-    if telling::is_report(said) {
-        report::put_report(session);
+    rehearse_lines::telling::put_line(d.index, said);
+    if rehearse_lines::telling::is_report(said) {
+        rehearse_report::put_report(session);
         return d;
     }
-    let unknown = telling::is_unknown(said);
+    let unknown = rehearse_lines::telling::is_unknown(said);
     Day {
         session,
-        place: d.place,
+        index: d.index,
         calls: up_if(d.calls, !unknown),
-        refused: up_if(d.refused, telling::is_refused(said)),
+        refused: up_if(d.refused, rehearse_lines::telling::is_refused(said)),
         unknown: up_if(d.unknown, unknown),
     }
 }
@@ -94,7 +94,7 @@ fn run_line(line: &[u8], long: bool, d: Day) -> Day {
     if long {
         return tell(d, s, Said::Unknown);
     }
-    let t = lines::run(line, s);
+    let t = rehearse_lines::run(line, s);
     let session = t.session;
     let said = t.said;
     tell(d, session, said)
@@ -111,7 +111,7 @@ fn run_first(line: &[u8], count: usize, long: bool, d: Day) -> Day {
 // A line's end.
 fn end_line(line: &[u8], f: Fill, before: Day) -> Day {
     let mut d = before;
-    d.place = up(d.place);
+    d.index = up(d.index);
     if f.count == 0 {
         return d;
     }
@@ -151,7 +151,7 @@ fn keep(piece: &[u8], line: &mut [u8; 8192], start: Fill) -> Fill {
     f
 }
 
-// The place of the next line end from `at` on, or the end.
+// The index of the next line end from `at` on, or the end.
 fn line_end(s: &[u8], at: usize) -> usize
     requires { ⌜ at ≤ length (now s) ⌝ }
     ensures { λ r. ⌜ (at ≤ r) × (r ≤ length (now (s .entry))) ⌝ }

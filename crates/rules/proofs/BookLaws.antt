@@ -19,7 +19,7 @@ use Rattle.rules.specs.Book.{Book, hours, limitsOf, fresh, Frozen, froze
 use Rattle.rules.specs.Judging.{isAccepted, verdictAmong}
 use Rattle.rules.specs.Closing.{judge, judgements, acceptedAt}
 use Rattle.rules.specs.Clearing.{hourOfDay, clearHour, figuresAt, daySteps}
-use Rattle.rules.specs.DayBook.{Call, register, capacity, available, lodge, annul, close, clear, changeRow, unregistered, badHolder, isSecond, unitsFull, full, gateRow, lodgeRows, callRows, rowsOf, withUnits, withCapacities, withStanding, withStage, notify, entry, applied, turned, turn, after, openedWith, opening, Answer, done, steps, reply, answers}
+use Rattle.rules.specs.DayBook.{Call, register, capacity, available, lodge, annul, close, clear, changeRow, unregistered, badHolder, isSecond, unitsFull, full, gateRow, lodgeRows, callRows, rowsOf, withUnits, withCapacities, withStanding, withStage, notify, entry, applied, effectOf, effect, after, openedWith, opening, Answer, done, steps, reply, answers}
 use Rattle.rules.specs.Sound.{OfDay, absent, energies, UnitsSound, HasUnit, Lodged, StandingSound, Sound, WellTyped}
 use Rattle.rules.specs.Demands.{Begins, opened, Got, now, next, Staged, ClosedIn}
 use Rattle.rules.proofs.BoolLaws.{by-bool, not-both, of-not, neither, both, of-both, beq-true, of-beq}
@@ -307,11 +307,11 @@ applied-sound b clear h s =
     }
 
 -- so does any call: a refused one changes nothing
-pub turn-sound : (b : Book) (c : Call) → Sound b → Sound (turn b c .book)
-unfolding turn turned
-turn-sound b c s = go (firstRow (rowsOf b c)) refl
+pub effect-sound : (b : Book) (c : Call) → Sound b → Sound (effect b c .book)
+unfolding effect effectOf
+effect-sound b c s = go (firstRow (rowsOf b c)) refl
   where
-    go : (o : Option Row) → firstRow (rowsOf b c) ≡ o → Sound (turned b c o .book)
+    go : (o : Option Row) → firstRow (rowsOf b c) ≡ o → Sound (effectOf b c o .book)
     go nothing e = applied-sound b c e s
     go (some r) e = s
 
@@ -319,7 +319,7 @@ turn-sound b c s = go (firstRow (rowsOf b c)) refl
 pub calls-sound : (b : Book) (cs : List Call) → Sound b → Sound (after b cs)
 unfolding after
 calls-sound b [] s = s
-calls-sound b (c ∷ cs) s = calls-sound (turn b c .book) cs (turn-sound b c s)
+calls-sound b (c ∷ cs) s = calls-sound (effect b c .book) cs (effect-sound b c s)
 
 -- a fresh book of a date is sound
 fresh-sound : (d : Date) → isDate d ≡ true → Sound (fresh d)
@@ -394,11 +394,11 @@ applied-directions b close w h = h
 applied-directions b clear w h = h
 
 -- so does any call
-pub turn-directions : (b : Book) (c : Call) → WellTyped c → length (b .capacities) ≡ 8 → length (turn b c .book .capacities) ≡ 8
-unfolding turn turned
-turn-directions b c w h = go (firstRow (rowsOf b c))
+pub effect-directions : (b : Book) (c : Call) → WellTyped c → length (b .capacities) ≡ 8 → length (effect b c .book .capacities) ≡ 8
+unfolding effect effectOf
+effect-directions b c w h = go (firstRow (rowsOf b c))
   where
-    go : (o : Option Row) → length (turned b c o .book .capacities) ≡ 8
+    go : (o : Option Row) → length (effectOf b c o .book .capacities) ≡ 8
     go nothing = applied-directions b c w h
     go (some r) = h
 
@@ -406,7 +406,7 @@ turn-directions b c w h = go (firstRow (rowsOf b c))
 calls-directions : (b : Book) {cs : List Call} → All WellTyped cs → length (b .capacities) ≡ 8 → length (after b cs .capacities) ≡ 8
 unfolding after
 calls-directions b none h = h
-calls-directions b (more {x = c} w t) h = calls-directions (turn b c .book) t (turn-directions b c w h)
+calls-directions b (more {x = c} w t) h = calls-directions (effect b c .book) t (effect-directions b c w h)
 
 -- where each capacity notice has its 8 directions, so has the book's
 pub directions-after : {b : Book} {cs : List Call} → Begins b → All WellTyped cs → length (after b cs .capacities) ≡ 8
@@ -450,29 +450,29 @@ frozen-steps = of-frozen daySteps steps-thawed
 -- After closing
 
 -- a change after closing is refused
-change-refused : (b : Book) (c : Call) → b .closed ≡ true → gateRow b c ≡ changeRow b → turn b c .book ≡ b
-unfolding turn turned rowsOf changeRow row firstRow
+change-refused : (b : Book) (c : Call) → b .closed ≡ true → gateRow b c ≡ changeRow b → effect b c .book ≡ b
+unfolding effect effectOf rowsOf changeRow row firstRow
 change-refused b c h e = rw (e, h)
 
 -- clearing changes nothing of what is frozen
-clear-frozen : (b : Book) → frozen (turn b clear .book) ≡ frozen b
-unfolding turn turned applied withStage frozen
+clear-frozen : (b : Book) → frozen (effect b clear .book) ≡ frozen b
+unfolding effect effectOf applied withStage frozen
 clear-frozen b = go (firstRow (rowsOf b clear))
   where
-    go : (o : Option Row) → frozen (turned b clear o .book) ≡ frozen b
+    go : (o : Option Row) → frozen (effectOf b clear o .book) ≡ frozen b
     go nothing = refl
     go (some r) = refl
 
 -- nor does any call on a closed book
-turn-closed : (b : Book) (c : Call) → b .closed ≡ true → frozen (turn b c .book) ≡ frozen b
+effect-closed : (b : Book) (c : Call) → b .closed ≡ true → frozen (effect b c .book) ≡ frozen b
 unfolding gateRow
-turn-closed b (register u) h = ap frozen (change-refused b (register u) h refl)
-turn-closed b (capacity cs) h = ap frozen (change-refused b (capacity cs) h refl)
-turn-closed b (available n es) h = ap frozen (change-refused b (available n es) h refl)
-turn-closed b (lodge bytes) h = ap frozen (change-refused b (lodge bytes) h refl)
-turn-closed b (annul k) h = ap frozen (change-refused b (annul k) h refl)
-turn-closed b close h = ap frozen (change-refused b close h refl)
-turn-closed b clear h = clear-frozen b
+effect-closed b (register u) h = ap frozen (change-refused b (register u) h refl)
+effect-closed b (capacity cs) h = ap frozen (change-refused b (capacity cs) h refl)
+effect-closed b (available n es) h = ap frozen (change-refused b (available n es) h refl)
+effect-closed b (lodge bytes) h = ap frozen (change-refused b (lodge bytes) h refl)
+effect-closed b (annul k) h = ap frozen (change-refused b (annul k) h refl)
+effect-closed b close h = ap frozen (change-refused b close h refl)
+effect-closed b clear h = clear-frozen b
 
 -- no call opens a book again, or takes its figures back
 applied-stays : (b : Book) (c : Call) → (b .closed ≡ true → applied b c .closed ≡ true) × (b .cleared ≡ true → applied b c .cleared ≡ true)
@@ -485,29 +485,29 @@ applied-stays b (annul k) = (λ h. h, λ h. h)
 applied-stays b close = (λ h. refl, λ h. h)
 applied-stays b clear = (λ h. h, λ h. refl)
 
-turn-stays : (b : Book) (c : Call) → (b .closed ≡ true → turn b c .book .closed ≡ true) × (b .cleared ≡ true → turn b c .book .cleared ≡ true)
-unfolding turn turned
-turn-stays b c = go (firstRow (rowsOf b c))
+effect-stays : (b : Book) (c : Call) → (b .closed ≡ true → effect b c .book .closed ≡ true) × (b .cleared ≡ true → effect b c .book .cleared ≡ true)
+unfolding effect effectOf
+effect-stays b c = go (firstRow (rowsOf b c))
   where
-    go : (o : Option Row) → (b .closed ≡ true → turned b c o .book .closed ≡ true) × (b .cleared ≡ true → turned b c o .book .cleared ≡ true)
+    go : (o : Option Row) → (b .closed ≡ true → effectOf b c o .book .closed ≡ true) × (b .cleared ≡ true → effectOf b c o .book .cleared ≡ true)
     go nothing = applied-stays b c
     go (some r) = (λ h. h, λ h. h)
 
 pub stays-closed : (b : Book) (cs : List Call) → b .closed ≡ true → after b cs .closed ≡ true
 unfolding after
 stays-closed b [] h = h
-stays-closed b (c ∷ cs) h = stays-closed (turn b c .book) cs (turn-stays b c .0 h)
+stays-closed b (c ∷ cs) h = stays-closed (effect b c .book) cs (effect-stays b c .0 h)
 
 pub stays-cleared : (b : Book) (cs : List Call) → b .cleared ≡ true → after b cs .cleared ≡ true
 unfolding after
 stays-cleared b [] h = h
-stays-cleared b (c ∷ cs) h = stays-cleared (turn b c .book) cs (turn-stays b c .1 h)
+stays-cleared b (c ∷ cs) h = stays-cleared (effect b c .book) cs (effect-stays b c .1 h)
 
 -- what closing froze is the same after every list of calls
 pub after-closed : (b : Book) (cs : List Call) → b .closed ≡ true → frozen (after b cs) ≡ frozen b
 unfolding after
 after-closed b [] h = refl
-after-closed b (c ∷ cs) h = after-closed (turn b c .book) cs (turn-stays b c .0 h) ∙ turn-closed b c h
+after-closed b (c ∷ cs) h = after-closed (effect b c .book) cs (effect-stays b c .0 h) ∙ effect-closed b c h
 
 -- so every verdict is that of the book at closing, whatever is called afterwards
 pub verdicts-kept : (b : Book) (cs : List Call) → b .closed ≡ true → judgements (after b cs) ≡ judgements b
@@ -520,8 +520,8 @@ figures-kept b cs h e = frozen-figures (after b cs) b h (after-closed b cs e)
 -- The call that closed it
 
 -- closing an open book is accepted
-close-open : (b : Book) → b .closed ≡ false → turn b close .book ≡ withStage b true (b .cleared)
-unfolding turn turned rowsOf gateRow callRows changeRow row firstRow applied
+close-open : (b : Book) → b .closed ≡ false → effect b close .book ≡ withStage b true (b .cleared)
+unfolding effect effectOf rowsOf gateRow callRows changeRow row firstRow applied
 close-open b h = rw h
 
 -- no other call closes one
@@ -536,11 +536,11 @@ closes b close = inl refl
 closes b clear = inr refl
 
 -- nor does a refused one
-turn-closes : (b : Book) (c : Call) → (c ≡ close) ⊎ (turn b c .book .closed ≡ b .closed)
-unfolding turn turned
-turn-closes b c = go (firstRow (rowsOf b c))
+effect-closes : (b : Book) (c : Call) → (c ≡ close) ⊎ (effect b c .book .closed ≡ b .closed)
+unfolding effect effectOf
+effect-closes b c = go (firstRow (rowsOf b c))
   where
-    go : (o : Option Row) → (c ≡ close) ⊎ (turned b c o .book .closed ≡ b .closed)
+    go : (o : Option Row) → (c ≡ close) ⊎ (effectOf b c o .book .closed ≡ b .closed)
     go nothing = closes b c
     go (some r) = inr refl
 
@@ -553,12 +553,12 @@ closed-here b c cs h e =
       rest = cs;
       calls = refl;
       found = h;
-      same = after-closed (turn b close .book) cs (ap (λ (k : Book). k .closed) (close-open b h)) ∙ ap frozen (close-open b h);
-      stage = stays-closed (turn b close .book) cs (ap (λ (k : Book). k .closed) (close-open b h));
+      same = after-closed (effect b close .book) cs (ap (λ (k : Book). k .closed) (close-open b h)) ∙ ap frozen (close-open b h);
+      stage = stays-closed (effect b close .book) cs (ap (λ (k : Book). k .closed) (close-open b h));
     })
 
 -- or a later one does
-closed-later : (b : Book) (c : Call) (cs : List Call) → ClosedIn (turn b c .book) cs → ClosedIn b (c ∷ cs)
+closed-later : (b : Book) (c : Call) (cs : List Call) → ClosedIn (effect b c .book) cs → ClosedIn b (c ∷ cs)
 unfolding after
 closed-later b c cs k = record { earlier = c ∷ k .earlier; rest = k .rest; calls = ap {B = List Call} (λ ds. c ∷ ds) (k .calls); found = k .found; same = k .same; stage = k .stage }
 
@@ -566,54 +566,54 @@ closed-later b c cs k = record { earlier = c ∷ k .earlier; rest = k .rest; cal
 pub closed-in : (b : Book) (cs : List Call) → b .closed ≡ false → after b cs .closed ≡ true → ClosedIn b cs
 unfolding after
 closed-in b [] h k = not-both k h
-closed-in b (c ∷ cs) h k = ⊎-elim (λ e. closed-here b c cs h e) (λ e. closed-later b c cs (closed-in (turn b c .book) cs (e ∙ h) k)) (turn-closes b c)
+closed-in b (c ∷ cs) h k = ⊎-elim (λ e. closed-here b c cs h e) (λ e. closed-later b c cs (closed-in (effect b c .book) cs (e ∙ h) k)) (effect-closes b c)
 
 -- The answers
 
 -- a closing answered as done closed the book
-close-answered : (b : Book) → done ≡ turn b close .answer → turn b close .book .closed ≡ true
-unfolding turn turned applied withStage
+close-answered : (b : Book) → done ≡ effect b close .answer → effect b close .book .closed ≡ true
+unfolding effect effectOf applied withStage
 close-answered b h = go (firstRow (rowsOf b close)) h
   where
-    go : (o : Option Row) → done ≡ turned b close o .answer → turned b close o .book .closed ≡ true
+    go : (o : Option Row) → done ≡ effectOf b close o .answer → effectOf b close o .book .closed ≡ true
     go nothing h = refl
     go (some r) h = let z : _≡_ {A = ℕ} 0 1 = cc in absurd (omega arith)
 
 got-closed : (b : Book) {cs : List Call} {rs : List Answer} → rs ≡ answers b cs → Got close done cs rs → after b cs .closed ≡ true
 unfolding after answers
-got-closed b e (now {cs = cs}) = let h : done ≡ turn b close .answer = cc in stays-closed (turn b close .book) cs (close-answered b h)
-got-closed b e (next {d = d} {cs = cs} {rs = rs} g) = let t : rs ≡ answers (turn b d .book) cs = cc in got-closed (turn b d .book) t g
+got-closed b e (now {cs = cs}) = let h : done ≡ effect b close .answer = cc in stays-closed (effect b close .book) cs (close-answered b h)
+got-closed b e (next {d = d} {cs = cs} {rs = rs} g) = let t : rs ≡ answers (effect b d .book) cs = cc in got-closed (effect b d .book) t g
 
 -- a clearing answered by steps cleared the book, which was closed, and they are the book's
-clear-answered : (b : Book) (n : ℕ) → steps n ≡ turn b clear .answer → (turn b clear .book .cleared ≡ true) × (b .closed ≡ true) × (n ≡ daySteps b)
-unfolding turn turned applied reply withStage rowsOf gateRow row
+clear-answered : (b : Book) (n : ℕ) → steps n ≡ effect b clear .answer → (effect b clear .book .cleared ≡ true) × (b .closed ≡ true) × (n ≡ daySteps b)
+unfolding effect effectOf applied reply withStage rowsOf gateRow row
 clear-answered b n h = go (firstRow (rowsOf b clear)) refl h
   where
-    go : (o : Option Row) → firstRow (rowsOf b clear) ≡ o → steps n ≡ turned b clear o .answer → (turned b clear o .book .cleared ≡ true) × (b .closed ≡ true) × (n ≡ daySteps b)
+    go : (o : Option Row) → firstRow (rowsOf b clear) ≡ o → steps n ≡ effectOf b clear o .answer → (effectOf b clear o .book .cleared ≡ true) × (b .closed ≡ true) × (n ≡ daySteps b)
     go nothing e h = (refl, not-false _ (neither _ _ (all-head (accepted-rows (rowsOf b clear) e)) .0), cc)
     go (some r) e h = let z : _≡_ {A = ℕ} 0 1 = cc in absurd (omega arith)
 
 got-cleared : (b : Book) (n : ℕ) {cs : List Call} {rs : List Answer} → rs ≡ answers b cs → Got clear (steps n) cs rs → (after b cs .cleared ≡ true) × (n ≡ daySteps (after b cs))
 unfolding after answers
 got-cleared b n e (now {cs = cs}) =
-    let h : steps n ≡ turn b clear .answer = cc in
+    let h : steps n ≡ effect b clear .answer = cc in
     let k = clear-answered b n h in
-    (stays-cleared (turn b clear .book) cs (k .0), k .2 ∙ sym (frozen-steps (after b (clear ∷ cs)) b (after-closed b (clear ∷ cs) (k .1))))
-got-cleared b n e (next {d = d} {cs = cs} {rs = rs} g) = let t : rs ≡ answers (turn b d .book) cs = cc in got-cleared (turn b d .book) n t g
+    (stays-cleared (effect b clear .book) cs (k .0), k .2 ∙ sym (frozen-steps (after b (clear ∷ cs)) b (after-closed b (clear ∷ cs) (k .1))))
+got-cleared b n e (next {d = d} {cs = cs} {rs = rs} g) = let t : rs ≡ answers (effect b d .book) cs = cc in got-cleared (effect b d .book) n t g
 
 got-now : {c d : Call} {a r : Answer} {cs : List Call} {rs : List Answer} → d ≡ c → r ≡ a → Got c a (d ∷ cs) (r ∷ rs)
 got-now e f = rw (e, f) now
 
 -- closing an open book is answered as done
-close-done : (b : Book) → b .closed ≡ false → turn b close .answer ≡ done
-unfolding turn turned rowsOf gateRow callRows changeRow row firstRow reply
+close-done : (b : Book) → b .closed ≡ false → effect b close .answer ≡ done
+unfolding effect effectOf rowsOf gateRow callRows changeRow row firstRow reply
 close-done b h = rw h
 
 closed-got : (b : Book) (cs : List Call) → b .closed ≡ false → after b cs .closed ≡ true → Got close done cs (answers b cs)
 unfolding after answers
 closed-got b [] h k = not-both k h
 closed-got b (c ∷ cs) h k =
-    ⊎-elim (λ e. got-now e (ap (λ d. turn b d .answer) e ∙ close-done b h)) (λ e. next (closed-got (turn b c .book) cs (e ∙ h) k)) (turn-closes b c)
+    ⊎-elim (λ e. got-now e (ap (λ d. effect b d .answer) e ∙ close-done b h)) (λ e. next (closed-got (effect b c .book) cs (e ∙ h) k)) (effect-closes b c)
 
 -- only a clearing clears a book
 clears : (b : Book) (c : Call) → ((c ≡ clear) × (reply b c ≡ steps (daySteps b))) ⊎ (applied b c .cleared ≡ b .cleared)
@@ -627,11 +627,11 @@ clears b close = inr refl
 clears b clear = inl (refl, refl)
 
 -- one that is not refused
-turn-clears : (b : Book) (c : Call) → ((c ≡ clear) × (turn b c .answer ≡ steps (daySteps b))) ⊎ (turn b c .book .cleared ≡ b .cleared)
-unfolding turn turned
-turn-clears b c = go (firstRow (rowsOf b c))
+effect-clears : (b : Book) (c : Call) → ((c ≡ clear) × (effect b c .answer ≡ steps (daySteps b))) ⊎ (effect b c .book .cleared ≡ b .cleared)
+unfolding effect effectOf
+effect-clears b c = go (firstRow (rowsOf b c))
   where
-    go : (o : Option Row) → ((c ≡ clear) × (turned b c o .answer ≡ steps (daySteps b))) ⊎ (turned b c o .book .cleared ≡ b .cleared)
+    go : (o : Option Row) → ((c ≡ clear) × (effectOf b c o .answer ≡ steps (daySteps b))) ⊎ (effectOf b c o .book .cleared ≡ b .cleared)
     go nothing = clears b c
     go (some r) = inr refl
 
@@ -639,7 +639,7 @@ cleared-got : (b : Book) (cs : List Call) → b .cleared ≡ false → after b c
 unfolding after answers
 cleared-got b [] h k = not-both k h
 cleared-got b (c ∷ cs) h k =
-    ⊎-elim (λ e. (daySteps b, got-now (e .0) (e .1))) (λ e. let g = cleared-got (turn b c .book) cs (e ∙ h) k in (g .0, next (g .1))) (turn-clears b c)
+    ⊎-elim (λ e. (daySteps b, got-now (e .0) (e .1))) (λ e. let g = cleared-got (effect b c .book) cs (e ∙ h) k in (g .0, next (g .1))) (effect-clears b c)
 
 -- what the answers say of the stage of a book that was open, and not cleared
 pub staged : (b : Book) (cs : List Call) → b .closed ≡ false → b .cleared ≡ false → Staged (after b cs) cs (answers b cs)

@@ -11,10 +11,10 @@ use Rattle.rules.specs.Lists.{All, keep, sumOf}
 use Rattle.rules.specs.Refusals.{firstRow}
 use Rattle.rules.specs.Lodging.{Lodgement, energyAt, isHidden, unhidden, limitRows}
 use Rattle.rules.specs.Book.{Book, hours, limitsOf, ceilingOf}
-use Rattle.rules.specs.Judging.{Verdict, hidden, limit, isAccepted, verdictOfRow, turnBy}
-use Rattle.rules.specs.Closing.{closingTurns, closingOrder, loadAt, judge, judgements, acceptedAt}
+use Rattle.rules.specs.Judging.{Verdict, hidden, limit, isAccepted, verdictOfRow, classBy}
+use Rattle.rules.specs.Closing.{closingClasses, closingOrder, loadAt, judge, judgements, acceptedAt}
 use Rattle.rules.specs.Sound.{Numbered}
-use Rattle.rules.specs.Demands.{verdictOf, turnOf, takenBefore, acceptedBefore, energyWith, Passes, ChosenAt, Judgement}
+use Rattle.rules.specs.Demands.{verdictOf, classOf, takenBefore, acceptedBefore, energyWith, Passes, ChosenAt, Judgement}
 use Rattle.rules.proofs.BoolLaws.{by-bool}
 use Rattle.rules.proofs.ListLaws.{all-map}
 use Rattle.rules.proofs.ElementLaws.{all-both, all-every}
@@ -22,10 +22,10 @@ use Rattle.rules.proofs.LimitLaws.{verdict-shown, refused-exactly, acce
 use Rattle.rules.proofs.JudgingLaws.{Placed, Fits, hidden-verdicts, all-placed, within-top}
 use Rattle.rules.proofs.CeilingLaws.{over-ceiling}
 
--- "normal executions, default executions, offers": the turns by number
-pub turn-is : (l : Lodgement) → turnOf l ≡ cond (l .key .execution) (cond (l .key .default) 1 0) 2
-unfolding turnOf turnBy closingTurns
-turn-is l = by-bool (l .key .execution) (λ e. by-bool (l .key .default) (λ d. rw (e, d)) (λ d. rw (e, d))) (λ e. rw e)
+-- "normal executions, default executions, offers": the classes by number
+pub class-is : (l : Lodgement) → classOf l ≡ cond (l .key .execution) (cond (l .key .default) 1 0) 2
+unfolding classOf classBy closingClasses
+class-is l = by-bool (l .key .execution) (λ e. by-bool (l .key .default) (λ d. rw (e, d)) (λ d. rw (e, d))) (λ e. rw e)
 
 -- the energy in an hour of those of a unit
 abbrev pub energyOn : ℕ → ℕ → List Lodgement → ℕ
@@ -37,7 +37,7 @@ module _ (b : Book) (numbered : Numbered (b .standing)) where
   verdictBy l load = verdictOfRow (firstRow (limitRows (hours b) (l .energies) load (limitsOf b (l .key .unit))))
 
   -- one that was taken is judged by its energy with that accepted before it on its unit
-  placed-with : (l : Lodgement) → Placed (λ l. l .number) (judge b) closingTurns (λ l. not (isHidden (b .standing) l)) (b .standing) numbered l
+  placed-with : (l : Lodgement) → Placed (λ l. l .number) (judge b) closingClasses (λ l. not (isHidden (b .standing) l)) (b .standing) numbered l
       → verdictOf b l ≡ verdictBy l (energyWith b l)
   unfolding verdictOf judgements closingOrder unhidden judge loadAt energyWith acceptedBefore takenBefore acceptedAt
   placed-with l t =
@@ -45,12 +45,12 @@ module _ (b : Book) (numbered : Numbered (b .standing)) where
 
   -- an unhidden one's verdict is that of its limits against its energy with that accepted before it on its unit
   pub verdict-with : All (λ l. isHidden (b .standing) l ≡ false → verdictOf b l ≡ verdictBy l (energyWith b l)) (b .standing)
-  verdict-with = all-map (λ l t e. placed-with l (t (ap not e))) (all-placed (λ l. l .number) (judge b) closingTurns (λ l. not (isHidden (b .standing) l)) (b .standing) numbered)
+  verdict-with = all-map (λ l t e. placed-with l (t (ap not e))) (all-placed (λ l. l .number) (judge b) closingClasses (λ l. not (isHidden (b .standing) l)) (b .standing) numbered)
 
   -- a hidden one's is hidden
   hidden-with : All (λ l. isHidden (b .standing) l ≡ true → verdictOf b l ≡ hidden) (b .standing)
   unfolding verdictOf judgements closingOrder unhidden
-  hidden-with = all-map (λ l t e. t (ap not e)) (hidden-verdicts (λ l. l .number) (judge b) closingTurns (λ l. not (isHidden (b .standing) l)) (b .standing) numbered)
+  hidden-with = all-map (λ l t e. t (ap not e)) (hidden-verdicts (λ l. l .number) (judge b) closingClasses (λ l. not (isHidden (b .standing) l)) (b .standing) numbered)
 
   module _ (l : Lodgement) (t : isHidden (b .standing) l ≡ false → verdictOf b l ≡ verdictBy l (energyWith b l)) (k : isHidden (b .standing) l ≡ true → verdictOf b l ≡ hidden) where
     -- it is refused exactly when it passes the ceiling
@@ -89,6 +89,6 @@ module _ (b : Book) (numbered : Numbered (b .standing)) where
   accepted-within u h low high =
       omega (
         arith,
-        within-top (λ l. l .number) (judge b) closingTurns (λ l. not (isHidden (b .standing) l)) (b .standing) numbered
+        within-top (λ l. l .number) (judge b) closingClasses (λ l. not (isHidden (b .standing) l)) (b .standing) numbered
             (λ k. energyAt k h) (λ k. eqb (k .key .unit) u) 0 (ceilingOf b u h) (all-every (fits u h low high) (b .standing)) zero-le,
       )

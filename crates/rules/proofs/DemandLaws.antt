@@ -18,7 +18,7 @@ use Rattle.rules.specs.Clearing.{holderOf, offerAt, executionAt, publish
 use Rattle.rules.specs.Queries.{matchedAt, executedAt}
 use Rattle.rules.specs.DayBook.{Call, after}
 use Rattle.rules.specs.Sound.{Sound}
-use Rattle.rules.specs.Demands.{Begins, Uncut, executionsAt, Cleared, Demand3}
+use Rattle.rules.specs.Demands.{Begins, Uncut, executionsAt, Cleared, BookDemand3}
 use Rattle.rules.proofs.BoolLaws.{of-not, both, beq-true}
 use Rattle.rules.proofs.ListLaws.{all-map, all-head, all-append, all-keep, of-any-false, first-passes, all-parts}
 use Rattle.rules.proofs.ElementLaws.{each-weaken}
@@ -159,7 +159,7 @@ hour-demanded b s h low high =
     }
 
 -- of a list of calls, from every book that lists start from
-pub book-demand-3 : {b : Book} → Begins b → (cs : List Call) → Demand3 b cs
+pub book-demand-3 : {b : Book} → Begins b → (cs : List Call) → BookDemand3 b cs
 book-demand-3 {b} g cs =
     let start = begins-open g in
     let stage = staged b cs (start .0) (start .1) in

@@ -38,7 +38,7 @@ pub record Final (before after : Offer) : Type 0 where
   pub matched : after .matched ≤ after .offered
 
 -- Demand 3, of an hour and its figures.
-pub record Cleared (x : Hour) (f : Figures) : Type 0 where
+pub record HourCleared (x : Hour) (f : Figures) : Type 0 where
   -- "Matched sales equal matched purchases": both are V of the last match
   pub balanced : matchedOn false (f .offers) ≡ matchedOn true (f .offers)
   pub volumes : (side : Bool) → matchedOn side (f .offers) ≡ volume (f .offers)
@@ -105,7 +105,7 @@ module _ (x : Hour) (s : Sound x) where
   fit = all-fit _ first (x .executions) (x .capacities) (ended-hour .none-over)
 
   -- an hour of the day book is cleared as demand 3 says
-  pub hour-cleared : Cleared x (clearHour x)
+  pub hour-cleared : HourCleared x (clearHour x)
   unfolding clearHour
   hour-cleared =
       record {
@@ -122,7 +122,7 @@ module _ (x : Hour) (s : Sound x) where
       }
 
 -- "A unit's energy is matched plus executed, after cuts": it is at most what the unit offered and what its executions had
-pub unit-energy : {x : Hour} {f : Figures} → Cleared x f → (u : ℕ)
+pub unit-energy : {x : Hour} {f : Figures} → HourCleared x f → (u : ℕ)
     → sumOf (λ o. o .matched) (keep (λ o. eqb (o .holder .unit) u) (f .offers)) + sumOf (λ e. e .energy) (keep (λ e. eqb (e .holder .unit) u) (f .executions))
     ≤ sumOf (λ o. o .offered) (keep (λ o. eqb (o .holder .unit) u) (x .offers)) + sumOf (λ e. e .energy) (keep (λ e. eqb (e .holder .unit) u) (x .executions))
 unit-energy k u =

@@ -18,7 +18,7 @@ use Rattle.rules.specs.Clearing.{holderOf, offerAt, published, borderCap
 use Rattle.rules.proofs.ListLaws.{all-map, all-append}
 use Rattle.rules.proofs.ElementLaws.{empty, ahead, pairwise-keep, pairwise-map, pairwise-append, across}
 use Rattle.rules.proofs.DirectionLaws.{sameDirection, Once}
-use Rattle.rules.proofs.HourLaws.{Sound, Cleared, hour-cleared}
+use Rattle.rules.proofs.HourLaws.{Sound, HourCleared, hour-cleared}
 
 -- Capacities: each border and direction at most once
 
@@ -78,6 +78,6 @@ hour-sound b accepted h n =
     }
 
 -- the book's figures in an hour are as demand 3 says
-pub figures-cleared : (b : Book) (h : ℕ) → Numbered (b .standing) → Cleared (hourOfDay b (acceptedAt b) h) (figuresAt b h)
+pub figures-cleared : (b : Book) (h : ℕ) → Numbered (b .standing) → HourCleared (hourOfDay b (acceptedAt b) h) (figuresAt b h)
 unfolding figuresAt acceptedAt
 figures-cleared b h n = hour-cleared (hourOfDay b (acceptedAt b) h) (hour-sound b (acceptedAt b) h (pairwise-keep _ n))

@@ -16,7 +16,7 @@ use Rattle.rules.specs.Message.{readRows, read, writeRows, write, messag
 use Rattle.rules.specs.Lodging.{limitRows, judgedBy}
 use Rattle.rules.specs.Book.{Book}
 use Rattle.rules.specs.Queries.{Query, verdict, matched, executed, market, bilateral, marketMax, bilateralMax, price, figureRows, unitRows, borderRows, queryRows, shown, query}
-use Rattle.rules.specs.DayBook.{Call, register, capacity, available, lodge, annul, close, clear, Answer, refusal, done, numbered, steps, changeRow, gateRow, lodgeRows, callRows, rowsOf, reply, turned, turn, openedWith, opening}
+use Rattle.rules.specs.DayBook.{Call, register, capacity, available, lodge, annul, close, clear, Answer, refusal, done, numbered, steps, changeRow, gateRow, lodgeRows, callRows, rowsOf, reply, effectOf, effect, openedWith, opening}
 use Rattle.rules.specs.Table.{Ordered, RefusedBy, Refuses, InTableOrder}
 use Rattle.rules.proofs.BoolLaws.{by-bool, both, not-both}
 use Rattle.rules.proofs.ListLaws.{all-map}
@@ -140,11 +140,11 @@ accepted-reply b (annul k) = refl
 accepted-reply b close = refl
 accepted-reply b clear = refl
 
-refused-call : (b : Book) (c : Call) (n h : ℕ) → turn b c .answer ≡ refusal n h → RefusedBy (rowsOf b c) n h
-unfolding turn turned
+refused-call : (b : Book) (c : Call) (n h : ℕ) → effect b c .answer ≡ refusal n h → RefusedBy (rowsOf b c) n h
+unfolding effect effectOf
 refused-call b c n h e = go (firstRow (rowsOf b c)) refl e
   where
-    go : (o : Option Row) → firstRow (rowsOf b c) ≡ o → turned b c o .answer ≡ refusal n h → RefusedBy (rowsOf b c) n h
+    go : (o : Option Row) → firstRow (rowsOf b c) ≡ o → effectOf b c o .answer ≡ refusal n h → RefusedBy (rowsOf b c) n h
     go nothing f e = let z : _≡_ {A = ℕ} 0 1 = sym (accepted-reply b c) ∙ ap refuses e in absurd (omega arith)
     go (some r) f e = refused-by (rowsOf b c) r n h (call-ordered b c) f (cc) (cc)
 

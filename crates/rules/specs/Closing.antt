@@ -7,13 +7,13 @@ use Rattle.rules.specs.Lists.{keep, sumOf}
 use Rattle.rules.specs.Refusals.{firstRow}
 use Rattle.rules.specs.Lodging.{Lodgement, energyAt, unhidden, limitRows}
 use Rattle.rules.specs.Book.{Book, hours, limitsOf}
-use Rattle.rules.specs.Judging.{inTurns, judgeEach}
+use Rattle.rules.specs.Judging.{byClass, judgeEach}
 pub use Rattle.rules.specs.Judging.{Verdict, accepted, hidden, limit, Judged}
 unfoldable pub use Rattle.rules.specs.Judging.{isAccepted, verdictOfRow, verdictAmong}
 
 -- "normal executions, default executions, offers"
-unfoldable pub closingTurns : List (Lodgement → Bool)
-closingTurns =
+unfoldable pub closingClasses : List (Lodgement → Bool)
+closingClasses =
     (λ l. l .key .execution && not (l .key .default))
     ∷ (λ l. l .key .execution && l .key .default)
     ∷ (λ l. not (l .key .execution))
@@ -21,7 +21,7 @@ closingTurns =
 
 -- "Unhidden lodgements are taken in this order"; "within each, latest number first"
 unfoldable pub closingOrder : List Lodgement → List Lodgement
-closingOrder standing = inTurns closingTurns (reverse (unhidden standing))
+closingOrder standing = byClass closingClasses (reverse (unhidden standing))
 
 -- "its energy, plus that of those accepted before it on its unit"
 unfoldable pub loadAt : List Lodgement → Lodgement → ℕ → ℕ
@@ -44,5 +44,5 @@ unfoldable pub acceptedAt : Book → List Lodgement
 acceptedAt b = let js = judgements b in keep (λ l. isAccepted (verdictAmong js (l .number))) (b .standing)
 
 unfoldable pub Closing·all : Unit {0}
-unfolding closingTurns closingOrder loadAt judge judgements verdicts acceptedAt
+unfolding closingClasses closingOrder loadAt judge judgements verdicts acceptedAt
 Closing·all = tt

@@ -168,38 +168,38 @@ reply b (annul k) = done
 reply b close = done
 reply b clear = steps (daySteps b)
 
-pub record Turn : Type 0 where
+pub record Effect : Type 0 where
   pub book : Book
   pub answer : Answer
 
 -- "A call that the table below refuses, judged on the book, gets that refusal and changes nothing there."
-unfoldable pub turned : Book → Call → Option Row → Turn
-turned b c none = record { book = applied b c; answer = reply b c }
-turned b c (some r) = record { book = b; answer = refusal (r .number) (r .hour) }
+unfoldable pub effectOf : Book → Call → Option Row → Effect
+effectOf b c none = record { book = applied b c; answer = reply b c }
+effectOf b c (some r) = record { book = b; answer = refusal (r .number) (r .hour) }
 
 -- one call
-unfoldable pub turn : Book → Call → Turn
-turn b c = turned b c (firstRow (rowsOf b c))
+unfoldable pub effect : Book → Call → Effect
+effect b c = effectOf b c (firstRow (rowsOf b c))
 
 -- "each call on the session the last one left": the book after a list of calls, and every answer
 unfoldable pub after : Book → List Call → Book
 after b [] = b
-after b (c ∷ cs) = after (turn b c .book) cs
+after b (c ∷ cs) = after (effect b c .book) cs
 
 unfoldable pub answers : Book → List Call → List Answer
 answers b [] = []
-answers b (c ∷ cs) = turn b c .answer ∷ answers (turn b c .book) cs
+answers b (c ∷ cs) = effect b c .answer ∷ answers (effect b c .book) cs
 
 -- Opening
 
 -- "Beside a refused date stands the fresh session of 2002-01-01."
-unfoldable pub openedWith : Date → Option Row → Turn
+unfoldable pub openedWith : Date → Option Row → Effect
 openedWith d none = record { book = fresh d; answer = done }
 openedWith d (some r) = record { book = fresh (record { year = 2002; month = 1; day = 1 }); answer = refusal (r .number) (r .hour) }
 
-unfoldable pub opening : Date → Turn
+unfoldable pub opening : Date → Effect
 opening d = openedWith d (firstRow (dateRow d ∷ []))
 
 unfoldable pub DayBook·all : Unit {0}
-unfolding changeRow unregistered badHolder isSecond unitsFull full gateRow lodgeRows callRows rowsOf withUnits withCapacities withStanding withStage notify entry applied reply turned turn after answers openedWith opening
+unfolding changeRow unregistered badHolder isSecond unitsFull full gateRow lodgeRows callRows rowsOf withUnits withCapacities withStanding withStage notify entry applied reply effectOf effect after answers openedWith opening
 DayBook·all = tt

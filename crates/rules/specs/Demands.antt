@@ -13,8 +13,8 @@ use Rattle.rules.specs.Hours.{Date}
 use Rattle.rules.specs.Units.{Registered, capacityOf}
 use Rattle.rules.specs.Lodging.{Lodgement, energyAt, isHidden, passedAt}
 use Rattle.rules.specs.Book.{Book, hours, limitsOf, ceilingOf, frozen}
-use Rattle.rules.specs.Judging.{Verdict, hidden, limit, isAccepted, turnBy, isBefore, verdictAmong}
-use Rattle.rules.specs.Closing.{closingTurns, judgements, acceptedAt}
+use Rattle.rules.specs.Judging.{Verdict, hidden, limit, isAccepted, classBy, isBefore, verdictAmong}
+use Rattle.rules.specs.Closing.{closingClasses, judgements, acceptedAt}
 use Rattle.rules.specs.Share.{share}
 use Rattle.rules.specs.Match.{Offer}
 use Rattle.rules.specs.Borders.{Directed, Execution, runs, atBorder, marketBalance, executionBalance, toward}
@@ -31,12 +31,12 @@ unfoldable pub verdictOf : Book → Lodgement → Verdict
 verdictOf b l = verdictAmong (judgements b) (l .number)
 
 -- "normal executions, default executions, offers"
-unfoldable pub turnOf : Lodgement → ℕ
-turnOf l = turnBy closingTurns l
+unfoldable pub classOf : Lodgement → ℕ
+classOf l = classBy closingClasses l
 
 -- "Unhidden lodgements are taken in this order: normal executions, default executions, offers; within each, latest number first"
 unfoldable pub takenBefore : Lodgement → Lodgement → Bool
-takenBefore k l = isBefore closingTurns (λ l. l .number) k l
+takenBefore k l = isBefore closingClasses (λ l. l .number) k l
 
 -- "that accepted before it on its unit": of those accepted at closing the ones of its unit that are taken before it
 unfoldable pub acceptedBefore : Book → Lodgement → List Lodgement
@@ -195,7 +195,7 @@ pub record ClosedIn (start : Book) (cs : List Call) : Type 0 where
   pub stage : after start cs .closed ≡ true
 
 -- Demand 3, of a list of calls and the book at its end.
-pub record Demand3 (start : Book) (cs : List Call) : Type 0 where
+pub record BookDemand3 (start : Book) (cs : List Call) : Type 0 where
   pub stage : Staged (after start cs) cs (answers start cs)
   -- "If closing was accepted"
   pub found : ClosingAccepted cs (answers start cs) → ClosedIn start cs

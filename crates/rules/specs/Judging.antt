@@ -26,18 +26,18 @@ verdictOfRow (some r) = limit (r .number) (r .hour)
 -- The order
 
 -- by a list of tests: those that pass the first, of the others those that pass the second, and so on; last those that pass none
-unfoldable pub inTurns : {A : Type 0} → List (A → Bool) → List A → List A
-inTurns [] xs = xs
-inTurns (p ∷ ps) xs = keep p xs ++ inTurns ps (keep (λ x. not (p x)) xs)
+unfoldable pub byClass : {A : Type 0} → List (A → Bool) → List A → List A
+byClass [] xs = xs
+byClass (p ∷ ps) xs = keep p xs ++ byClass ps (keep (λ x. not (p x)) xs)
 
--- the turn in which one is taken: the place of the first test that it passes
-unfoldable pub turnBy : {A : Type 0} → List (A → Bool) → A → ℕ
-turnBy [] x = 0
-turnBy (p ∷ ps) x = cond (p x) 0 (suc (turnBy ps x))
+-- the class in which one is taken: the place of the first test that it passes
+unfoldable pub classBy : {A : Type 0} → List (A → Bool) → A → ℕ
+classBy [] x = 0
+classBy (p ∷ ps) x = cond (p x) 0 (suc (classBy ps x))
 
--- one is taken before another: in an earlier turn, or "within each, latest number first"
+-- one is taken before another: in an earlier class, or "within each, latest number first"
 unfoldable pub isBefore : {A : Type 0} → List (A → Bool) → (A → ℕ) → A → A → Bool
-isBefore turns number x y = ltb (turnBy turns x) (turnBy turns y) || (eqb (turnBy turns x) (turnBy turns y) && ltb (number y) (number x))
+isBefore classes number x y = ltb (classBy classes x) (classBy classes y) || (eqb (classBy classes x) (classBy classes y) && ltb (number y) (number x))
 
 -- One after the other
 
@@ -59,5 +59,5 @@ verdictAmong [] n = hidden
 verdictAmong (j ∷ js) n = cond (eqb (j .number) n) (j .verdict) (verdictAmong js n)
 
 unfoldable pub Judging·all : Unit {0}
-unfolding isAccepted verdictOfRow inTurns turnBy isBefore judgeEach verdictAmong
+unfolding isAccepted verdictOfRow byClass classBy isBefore judgeEach verdictAmong
 Judging·all = tt

@@ -13,7 +13,7 @@ use Rattle.rules.specs.Message.{Fields, readRows, read, writeRows, write
 use Rattle.rules.specs.Lodging.{limitRows}
 use Rattle.rules.specs.Book.{Book}
 use Rattle.rules.specs.Queries.{Query, queryRows, query}
-use Rattle.rules.specs.DayBook.{Call, refusal, rowsOf, turn, opening}
+use Rattle.rules.specs.DayBook.{Call, refusal, rowsOf, effect, opening}
 
 -- rows in the table's order: each is one of the table's, and stands there behind those that it follows here
 pub record Ordered (rows : List Row) : Type 0 where
@@ -46,7 +46,7 @@ pub record InTableOrder : Type 0 where
   pub reading : (bytes : List ℕ) → Refuses (readRows bytes) (λ n h. read bytes ≡ refused n h)
   pub writing : (room : ℕ) (m : Fields) → Refuses (writeRows room m) (λ n h. write room m ≡ refused n h)
   -- "A call that breaks a rule is refused by the lowest number that applies", and so is a query
-  pub calls : (b : Book) (c : Call) → Refuses (rowsOf b c) (λ n h. turn b c .answer ≡ refusal n h)
+  pub calls : (b : Book) (c : Call) → Refuses (rowsOf b c) (λ n h. effect b c .answer ≡ refusal n h)
   pub queries : (b : Book) (q : Query) → Refuses (queryRows b q) (λ n h. query b q ≡ refused n h)
   -- a verdict's limits ("chosen as below"): `Chosen` of specs/Demands.antt says that the first is given
   pub verdicts : (H : ℕ) (named : List ℕ) (load : ℕ → ℕ) (ls : Lines) (r : Registered) → Ordered (limitRows H named load (limits ls r))

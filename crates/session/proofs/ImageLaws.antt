@@ -15,12 +15,12 @@ use Rattle.rules.proofs.BoolLaws.{both}
 use Rattle.rules.proofs.HoursLaws.{hours-most}
 use Rattle.session.specs.Laid.{pad}
 use Rattle.session.specs.Image.{image, unitOf, noticeOf, noticeAs, lodgementAs, energiesAs, noUnit, noNotice, noLodgement, noEnergies, Sound}
-use Rattle.session.specs.Parts.{Within, within, numberIs, placeOf}
+use Rattle.session.specs.Parts.{Within, within, numberIs, indexOf}
 use Rattle.session.specs.declared.Session.{Session}
 use Rattle.session.specs.declared.Unit.{Unit}
 use Rattle.session.specs.declared.Notice.{Notice}
 use Rattle.session.proofs.LaidLaws.{take-pad, any-map}
-use Rattle.session.proofs.PlaceLaws.{place-first, place-any, place-map, getD-map}
+use Rattle.session.proofs.IndexLaws.{index-first, index-any, index-map, getD-map}
 
 -- The guard
 
@@ -95,23 +95,23 @@ module _ (s : Session) (b : B.Book) (e : s ≡ image b) where
 
   -- where the unit with a number stands, and what stands there
 
-  pub place-as : (n : ℕ) → placeOf (U.hasNumber n) (b .units) ≡ placeOf (numberIs n) (take (s .enrolled) (s .units))
+  pub index-as : (n : ℕ) → indexOf (U.hasNumber n) (b .units) ≡ indexOf (numberIs n) (take (s .enrolled) (s .units))
   unfolding U.hasNumber
-  place-as n = rw units-as (sym (place-map unitOf (numberIs n) (b .units)))
+  index-as n = rw units-as (sym (index-map unitOf (numberIs n) (b .units)))
 
   units-fit : s .enrolled ≤ length (s .units)
   unfolding image pad
   units-fit = rw e (omega (arith, length-append (map unitOf (b .units)) (replicate (64 - length (map unitOf (b .units))) noUnit), length-map (b .units) unitOf))
 
-  -- whether one is registered, by the place
-  pub registered-at : (n p : ℕ) → p ≡ placeOf (numberIs n) (take (s .enrolled) (s .units)) → U.isRegistered (b .units) n ≡ ltb p (s .enrolled)
+  -- whether one is registered, by the index
+  pub registered-at : (n p : ℕ) → p ≡ indexOf (numberIs n) (take (s .enrolled) (s .units)) → U.isRegistered (b .units) n ≡ ltb p (s .enrolled)
   registered-at n p at =
-      registered-as n ∙ (sym (place-any (numberIs n) (s .units) (s .enrolled) units-fit) ∙ ap (λ j. ltb j (s .enrolled)) (sym at))
+      registered-as n ∙ (sym (index-any (numberIs n) (s .units) (s .enrolled) units-fit) ∙ ap (λ j. ltb j (s .enrolled)) (sym at))
 
-  module _ (n p : ℕ) (at : p ≡ placeOf (numberIs n) (take (s .enrolled) (s .units))) (in-list : p < s .enrolled) where
+  module _ (n p : ℕ) (at : p ≡ indexOf (numberIs n) (take (s .enrolled) (s .units))) (in-list : p < s .enrolled) where
     here : U.unitOf (b .units) n ≡ getD (b .units) p U.nobody
     unfolding U.unitOf
-    here = place-first (U.hasNumber n) U.nobody (b .units) ∙ ap (λ k. getD (b .units) k U.nobody) (place-as n ∙ sym at)
+    here = index-first (U.hasNumber n) U.nobody (b .units) ∙ ap (λ k. getD (b .units) k U.nobody) (index-as n ∙ sym at)
 
     within-list : p < length (b .units)
     within-list = omega (arith, enrolled-as)

@@ -1,4 +1,4 @@
--- Laws of lists laid into arrays, and of loops over their first places.
+-- Laws of lists laid into arrays, and of loops over their first indices.
 use Prim.Native.Nat.{ℕ, zero, suc, _+_, _-_, _≤_, _<_, min}
 use mathlib.Core.Path.{_≡_, refl, sym, ap, _∙_}
 use mathlib.Core.Bool.{Bool, true, false, _||_}
@@ -15,7 +15,7 @@ use Rattle.session.specs.Laid.{pad, counted}
 
 -- Loops that look for an element
 
--- some of the first n passes, from place i on
+-- some of the first n passes, from index i on
 unfoldable pub anyFrom : {A : Type 0} → (A → Bool) → List A → ℕ → ℕ → Bool
 anyFrom p l n i = any p (drop i (take n l))
 

@@ -1,5 +1,5 @@
 pub mod LaidLaws
-pub mod PlaceLaws
+pub mod IndexLaws
 pub mod ImageLaws
 pub mod StepLaws
 pub mod OpenLaws

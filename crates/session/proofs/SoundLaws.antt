@@ -12,8 +12,8 @@ use Rattle.session.specs.Image.{Sound}
 pub opening-sound : (d : H.Date) → Sound (D.opening d .book)
 opening-sound d = record { ranges = L.opening-sound d; directions = L.opening-directions d }
 
-pub turn-sound : (b : B.Book) (c : D.Call) → R.WellTyped c → Sound b → Sound (D.turn b c .book)
-turn-sound b c w s = record { ranges = L.turn-sound b c (s .ranges); directions = L.turn-directions b c w (s .directions) }
+pub effect-sound : (b : B.Book) (c : D.Call) → R.WellTyped c → Sound b → Sound (D.effect b c .book)
+effect-sound b c w s = record { ranges = L.effect-sound b c (s .ranges); directions = L.effect-directions b c w (s .directions) }
 
 -- an open book is not cleared
 pub open-stage : (b : B.Book) → Sound b → b .closed ≡ false → b .cleared ≡ false

@@ -1,10 +1,10 @@
--- What is read beyond the places of an array.
+-- What is read beyond the indices of an array.
 use mathlib.Core.Bool.{false}
 use mathlib.Core.List.{[]}
 use Rattle.session.specs.declared.Notice.{Notice}
 use Rattle.session.specs.declared.Energies.{Energies}
 use Rattle.session.specs.declared.Verdict.{Verdict}
-use Rattle.session.specs.declared.Cleared.{Cleared}
+use Rattle.session.specs.declared.HourFigures.{HourFigures}
 
 abbrev pub bareNotice : Notice
 bareNotice = record { given = false; reserved = 0; reserved2 = 0; energies = [] }
@@ -15,5 +15,5 @@ bareEnergies = record { energies = []; prices = [] }
 abbrev pub bareVerdict : Verdict
 bareVerdict = record { accepted = false; reserved = 0; reserved2 = 0; limit = 0; hour = 0 }
 
-abbrev pub bareFigures : Cleared
+abbrev pub bareFigures : HourFigures
 bareFigures = record { price = 0; market = []; bilateral = []; maxima = []; matched = []; executed = [] }

@@ -26,7 +26,7 @@ use Rattle.session.specs.declared.Key.{Key}
 use Rattle.session.specs.declared.Lodgement.{Lodgement}
 use Rattle.session.specs.declared.Energies.{Energies}
 use Rattle.session.specs.declared.Verdict.{Verdict}
-use Rattle.session.specs.declared.Cleared.{Cleared}
+use Rattle.session.specs.declared.HourFigures.{HourFigures}
 use Rattle.session.specs.declared.Session.{Session}
 
 -- What a caller's struct says
@@ -87,12 +87,12 @@ unfoldable pub energyOf : List Directed → ℕ → Bool → ℕ
 energyOf [] border export = 0
 energyOf (d ∷ ds) border export = cond (eqb (d .border) border && Bool·beq (d .export) export) (d .energy) (energyOf ds border export)
 
--- an energy of each unit, in its place
+-- an energy of each unit, in its index
 unfoldable pub byUnit : (ℕ → ℕ) → List U.Registered → List ℕ
 byUnit f us = pad 64 0 (map (λ r. f (r .unit .number)) us)
 
 -- an hour's figures
-unfoldable pub figuresAs : B.Book → ℕ → Cleared
+unfoldable pub figuresAs : B.Book → ℕ → HourFigures
 figuresAs b h =
     let x = figuresAt b h in
     record {
@@ -121,7 +121,7 @@ noEnergies = record { energies = replicate 25 0; prices = replicate 25 0 }
 abbrev pub noVerdict : Verdict
 noVerdict = record { accepted = false; reserved = 0; reserved2 = 0; limit = 0; hour = 0 }
 
-abbrev pub noFigures : Cleared
+abbrev pub noFigures : HourFigures
 noFigures = record {
   price = 0;
   market = replicate 10 0;

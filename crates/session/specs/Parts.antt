@@ -15,25 +15,25 @@ use Rattle.session.specs.Steps.{As}
 use Rattle.session.specs.declared.Unit.{Unit}
 use Rattle.session.specs.declared.Holder.{Holder}
 use Rattle.session.specs.declared.Session.{Session}
-use Rattle.session.specs.declared.Judged.{Judged}
-use Rattle.session.specs.declared.Judged.the-variants.{No, Clear}
-use Rattle.session.specs.declared.Turn.{Turn}
+use Rattle.session.specs.declared.Ruling.{Ruling}
+use Rattle.session.specs.declared.Ruling.the-variants.{No, Clear}
+use Rattle.session.specs.declared.Effect.{Effect}
 
 -- Guard, judgement, entry
 
-abbrev pub refusedWith : Session → ℕ → ℕ → Turn
+abbrev pub refusedWith : Session → ℕ → ℕ → Effect
 refusedWith s n h = record { session = s; answer = refused n h }
 
-abbrev pub judgement : Option Row → Judged
+abbrev pub judgement : Option Row → Ruling
 judgement none = Clear
 judgement (some r) = No (r .number) (r .hour)
 
 -- a judgement is the first row of the table that applies
-abbrev pub Judges : Session → D.Call → Judged → Type 0
+abbrev pub Judges : Session → D.Call → Ruling → Type 0
 Judges s c j = (b : Book) → s ≡ image b → j ≡ judgement (firstRow (D.rowsOf b c))
 
 -- what a call that no row refuses makes of a session
-pub record Entered (s : Session) (c : D.Call) (r : Turn) : Type 0 where
+pub record Entered (s : Session) (c : D.Call) (r : Effect) : Type 0 where
   pub book : (b : Book) → Sound b → firstRow (D.rowsOf b c) ≡ none → s ≡ image b → As (record { book = D.applied b c; answer = D.reply b c }) (r .answer) (r .session)
   pub fine : isRefusal (r .answer) ≡ false
 
@@ -50,20 +50,20 @@ within s = leb (s .hours) 25 && (leb (s .enrolled) 64 && (leb (s .standing) 128 
 
 -- Searches among units
 
--- the place of the first that passes a test, or behind the last
-unfoldable pub placeOf : {A : Type 0} → (A → Bool) → List A → ℕ
-placeOf p [] = 0
-placeOf p (x ∷ xs) = cond (p x) 0 (suc (placeOf p xs))
+-- the index of the first that passes a test, or behind the last
+unfoldable pub indexOf : {A : Type 0} → (A → Bool) → List A → ℕ
+indexOf p [] = 0
+indexOf p (x ∷ xs) = cond (p x) 0 (suc (indexOf p xs))
 
 abbrev pub numberIs : ℕ → Unit → Bool
 numberIs n u = eqb (u .number) n
 
--- the place of a unit among the registered ones, or their number
-abbrev pub unitPlace : Session → ℕ → ℕ
-unitPlace s unit = placeOf (numberIs unit) (take (s .enrolled) (s .units))
+-- the index of a unit among the registered ones, or their number
+abbrev pub unitIndex : Session → ℕ → ℕ
+unitIndex s unit = indexOf (numberIs unit) (take (s .enrolled) (s .units))
 
--- the unit of a number among the first n: its place, or behind the last, and what stands there
+-- the unit of a number among the first n: its index, or behind the last, and what stands there
 pub record Holds (units : List Unit) (n number : ℕ) (h : Holder) : Type 0 where
-  pub place : h .at ≡ placeOf (numberIs number) (take n units)
+  pub index : h .at ≡ indexOf (numberIs number) (take n units)
   pub most : h .at ≤ n
   pub unit : h .at < n → h .unit ≡ getD units (h .at) noUnit

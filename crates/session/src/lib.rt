@@ -7,6 +7,12 @@ ghost use Rattle.session.specs.Steps.{Opens};
 ghost use Rattle.session.specs.Parts.{within, refusedWith};
 use answer::Response;
 use calendar::Date;
+use rules::DIRECTIONS;
+use rules::HOURS;
+use rules::LODGEMENTS;
+use rules::LONG_DAY;
+use rules::UNITS;
+use rules::row::DATE;
 
 pub mod units;
 
@@ -31,7 +37,7 @@ pub struct Notice {
     pub given: bool,
     pub reserved: u8,
     pub reserved2: u16,
-    pub energies: [u32; 25],
+    pub energies: [u32; HOURS],
 }
 
 // A direction of a capacity notice: absent, or `count` energies.
@@ -41,7 +47,7 @@ pub struct Published {
     pub published: bool,
     pub reserved: u8,
     pub reserved2: u16,
-    pub energies: [u32; 25],
+    pub energies: [u32; HOURS],
 }
 
 #[repr(C)]
@@ -62,8 +68,8 @@ pub struct Lodgement {
 // Energies and prices of a lodgement by hour.
 #[repr(C)]
 pub struct Energies {
-    pub energies: [u32; 25],
-    pub prices: [u32; 25],
+    pub energies: [u32; HOURS],
+    pub prices: [u32; HOURS],
 }
 
 // A lodgement's verdict: accepted, refused by a limit in an hour, or neither, which is hidden.
@@ -76,54 +82,54 @@ pub struct Verdict {
     pub hour: u32,
 }
 
-// An hour's figures. Energies at the borders are by direction (`borders::way`), those of units by the place of the unit.
+// An hour's figures. Energies at the borders are by direction (`hour_borders::way`), those of units by the index of the unit.
 #[repr(C)]
-pub struct Cleared {
+pub struct HourFigures {
     pub price: u32,
     pub market: [u32; 10],
     pub bilateral: [u32; 10],
     pub maxima: [u32; 10],
-    pub matched: [u32; 64],
-    pub executed: [u32; 64],
+    pub matched: [u32; UNITS],
+    pub executed: [u32; UNITS],
 }
 
 // `enrolled` units stand in front of their array, and `standing` lodgements of theirs, in the order of their numbers.
-// `capacities` are export and import of border 1, of 2, of 3, of 4. Verdicts stand in the lodgements' places once closed,
-// figures in the hours' places once cleared.
+// `capacities` are export and import of border 1, of 2, of 3, of 4. Verdicts stand in the lodgements' indices once closed,
+// figures in the hours' indices once cleared.
 #[repr(C)]
 pub struct Session {
     pub date: Date,
     pub hours: u32,
     pub enrolled: usize,
-    pub units: [Unit; 64],
-    pub notices: [Notice; 64],
-    pub capacities: [Notice; 8],
+    pub units: [Unit; UNITS],
+    pub notices: [Notice; UNITS],
+    pub capacities: [Notice; DIRECTIONS],
     pub standing: usize,
-    pub lodgements: [Lodgement; 128],
-    pub energies: [Energies; 128],
+    pub lodgements: [Lodgement; LODGEMENTS],
+    pub energies: [Energies; LODGEMENTS],
     pub last: u32,
     pub closed: bool,
     pub cleared: bool,
     pub reserved: u16,
-    pub verdicts: [Verdict; 128],
-    pub figures: [Cleared; 25],
+    pub verdicts: [Verdict; LODGEMENTS],
+    pub figures: [HourFigures; HOURS],
     pub reserved2: u32,
 }
 
-// The unit of a number, found once for all that ask about it: its place and itself; behind the last and blank where there is none.
+// The unit of a number, found once for all that ask about it: its index and itself; behind the last and blank where there is none.
 pub struct Holder {
     pub at: usize,
     pub unit: Unit,
 }
 
 // The first row of the refusal table that applies to a call, or none.
-pub enum Judged {
+pub enum Ruling {
     No(u32, u32),
     Clear,
 }
 
 // A call's answer, and the session that it leaves.
-pub struct Turn {
+pub struct Effect {
     pub session: Session,
     pub answer: Response,
 }
@@ -135,24 +141,7 @@ pub struct Opened {
     pub session: Session,
 }
 
-// The refusal table's numbers.
-pub const DATE: u32 = 1;
-
-pub const GATE: u32 = 2;
-
-pub const HOUR: u32 = 4;
-
-pub const RANGE: u32 = 5;
-
-pub const NO_UNIT: u32 = 6;
-
-pub const TAKEN: u32 = 7;
-
-pub const SECOND: u32 = 8;
-
-pub const FULL: u32 = 9;
-
-// What stands in an empty place.
+// What stands in an empty index.
 pub fn no_unit() -> Unit
     ensures { λ r. ⌜ r ≡ noUnit ⌝ }
 {
@@ -174,7 +163,7 @@ pub fn no_notice() -> Notice
         given: false,
         reserved: 0,
         reserved2: 0,
-        energies: [0u32; 25],
+        energies: [0u32; HOURS],
     }
 }
 
@@ -198,8 +187,8 @@ pub fn no_energies() -> Energies
     ensures { λ r. ⌜ r ≡ noEnergies ⌝ }
 {
     Energies {
-        energies: [0u32; 25],
-        prices: [0u32; 25],
+        energies: [0u32; HOURS],
+        prices: [0u32; HOURS],
     }
 }
 
@@ -215,27 +204,27 @@ pub fn no_verdict() -> Verdict
     }
 }
 
-pub fn no_figures() -> Cleared
+pub fn no_figures() -> HourFigures
     ensures { λ r. ⌜ r ≡ noFigures ⌝ }
 {
-    Cleared {
+    HourFigures {
         price: 0,
         market: [0u32; 10],
         bilateral: [0u32; 10],
         maxima: [0u32; 10],
-        matched: [0u32; 64],
-        executed: [0u32; 64],
+        matched: [0u32; UNITS],
+        executed: [0u32; UNITS],
     }
 }
 
 impl Session {
-    pub const MAX_UNITS: usize = 64;
+    pub const MAX_UNITS: usize = UNITS;
 
-    pub const MAX_LODGEMENTS: usize = 128;
+    pub const MAX_LODGEMENTS: usize = LODGEMENTS;
 
     pub const MAX_ENERGY: u32 = rules::MAX_ENERGY;
 
-    pub const MAX_NUMBER: u32 = 65_535;
+    pub const MAX_NUMBER: u32 = rules::MAX_NUMBER;
 
     // "A fresh session follows from the date only: no units, no notices, no lodgements." The calls promise something of it
     // where the date is one; `open` is the way in that tests it.
@@ -248,13 +237,13 @@ impl Session {
         let none = no_energies();
         let verdict = no_verdict();
         let figure = no_figures();
-        let units = [unit; 64];
-        let notices = [notice; 64];
-        let capacities = [notice; 8];
-        let lodgements = [lodgement; 128];
-        let energies = [none; 128];
-        let verdicts = [verdict; 128];
-        let figures = [figure; 25];
+        let units = [unit; UNITS];
+        let notices = [notice; UNITS];
+        let capacities = [notice; DIRECTIONS];
+        let lodgements = [lodgement; LODGEMENTS];
+        let energies = [none; LODGEMENTS];
+        let verdicts = [verdict; LODGEMENTS];
+        let figures = [figure; HOURS];
         let hours = calendar::hours_of(date);
         Session {
             date: date,
@@ -280,7 +269,7 @@ impl Session {
     pub fn sound(self) -> bool
         ensures { λ r. ⌜ r ≡ within self ⌝ }
     {
-        if 25 < self.hours {
+        if LONG_DAY < self.hours {
             return false;
         }
         if Self::MAX_UNITS < self.enrolled {
@@ -293,12 +282,12 @@ impl Session {
     }
 
     // A refused call hands the session back.
-    pub fn refused(self, number: u32, hour: u32) -> Turn
+    pub fn refused(self, number: u32, hour: u32) -> Effect
         ensures { λ r. ⌜ r ≡ refusedWith self number hour ⌝ }
     {
         let session = self;
         let answer = answer::refused(number, hour);
-        Turn {
+        Effect {
             session: session,
             answer: answer,
         }

@@ -3,11 +3,12 @@ ghost use mathlib.Core.Path.{_≡_};
 ghost use Prim.Native.Nat.{_≤_, _<_};
 ghost use lib.ListN.{take};
 ghost use Rattle.rules.specs.Units.{badNumber};
-ghost use Rattle.session.specs.Parts.{numberIs, placeOf, Holds};
+ghost use Rattle.session.specs.Parts.{numberIs, indexOf, Holds};
 use crate::Holder;
 use crate::Session;
 use crate::Unit;
 use crate::no_unit;
+use rules::UNITS;
 
 // Numbers of units and agents are 1 to 65,535.
 pub fn bad_number(n: u32) -> bool
@@ -20,7 +21,7 @@ pub fn bad_number(n: u32) -> bool
 }
 
 // The unit with this number among the first n.
-pub fn holder_of(units: [Unit; 64], n: usize, number: u32) -> Holder
+pub fn holder_of(units: [Unit; UNITS], n: usize, number: u32) -> Holder
     requires { ⌜ n ≤ 64 ⌝ }
     ensures { λ r. ⌜ Holds units n number r ⌝ }
 {
@@ -34,10 +35,10 @@ pub fn holder_of(units: [Unit; 64], n: usize, number: u32) -> Holder
     Holder { at: n, unit: unit }
 }
 
-// Its place, or n.
-pub fn place(units: [Unit; 64], n: usize, number: u32) -> usize
+// Its index, or n.
+pub fn index(units: [Unit; UNITS], n: usize, number: u32) -> usize
     requires { ⌜ n ≤ 64 ⌝ }
-    ensures { λ r. ⌜ (r ≡ placeOf (numberIs number) (take n units)) × (r ≤ n) ⌝ }
+    ensures { λ r. ⌜ (r ≡ indexOf (numberIs number) (take n units)) × (r ≤ n) ⌝ }
 {
     let holder = holder_of(units, n, number);
     holder.at

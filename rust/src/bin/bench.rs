@@ -297,7 +297,7 @@ fn main() {
     change!("annul, full", 300, 1, quiet.lodged, |exchange, index| { exchange.annul(key).unwrap() });
     change!("capacity notice, full", 300, 50, quiet.lodged, |exchange, index| exchange.capacity(&notice).unwrap());
     change!("unavailability notice, full", 300, 50, quiet.lodged, |exchange, index| exchange
-        .available(64, &available)
+        .unavailability(64, &available)
         .unwrap());
     change!("register, full: refused", 300, 50, quiet.lodged, |exchange, index| exchange
         .register(unit(65, 0, true))
@@ -320,8 +320,8 @@ fn main() {
     read_only!("verdict", |exchange, index| exchange.verdict(index % 128 + 1));
     read_only!("matched", |exchange, index| exchange.matched(index % 64 + 1, index % 25 + 1));
     read_only!("executed", |exchange, index| exchange.executed(index % 64 + 1, index % 25 + 1));
-    read_only!("market", |exchange, index| exchange.market(index % 4 + 1, index % 25 + 1));
-    read_only!("bilateral", |exchange, index| exchange.bilateral(index % 4 + 1, index % 25 + 1));
+    read_only!("market", |exchange, index| exchange.market_balance(index % 4 + 1, index % 25 + 1));
+    read_only!("bilateral", |exchange, index| exchange.bilateral_balance(index % 4 + 1, index % 25 + 1));
     read_only!("market-maximum", |exchange, index| exchange.market_maximum(
         index % 4 + 1,
         Direction::Export,

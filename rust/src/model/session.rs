@@ -242,7 +242,7 @@ impl Exchange for Session {
         Ok(())
     }
 
-    fn available(&mut self, unit: u32, energies: &Energies) -> Result<(), Refusal> {
+    fn unavailability(&mut self, unit: u32, energies: &Energies) -> Result<(), Refusal> {
         self.still_open()?;
         let hours = self.notice(energies)?;
         if !in_range(unit) || !energies_fit(&hours) {
@@ -403,12 +403,12 @@ impl Exchange for Session {
         Ok(figures.executed[self.place_asked(unit)?])
     }
 
-    fn market(&self, border: u32, hour: u32) -> Result<i64, Refusal> {
+    fn market_balance(&self, border: u32, hour: u32) -> Result<i64, Refusal> {
         let figures = self.figures_of(hour)?;
         Ok(figures.market[Session::border_asked(border)?])
     }
 
-    fn bilateral(&self, border: u32, hour: u32) -> Result<i64, Refusal> {
+    fn bilateral_balance(&self, border: u32, hour: u32) -> Result<i64, Refusal> {
         let figures = self.figures_of(hour)?;
         Ok(figures.bilateral[Session::border_asked(border)?])
     }

@@ -57,8 +57,8 @@ pub fn asked(session: &ffi::Session, query: Query) -> Response {
         Query::Verdict(number) => ffi::verdict(session, number),
         Query::Matched(unit, hour) => ffi::matched(session, unit, hour),
         Query::Executed(unit, hour) => ffi::executed(session, unit, hour),
-        Query::Market(border, hour) => ffi::market(session, border, hour),
-        Query::Bilateral(border, hour) => ffi::bilateral(session, border, hour),
+        Query::Market(border, hour) => ffi::market_balance(session, border, hour),
+        Query::Bilateral(border, hour) => ffi::bilateral_balance(session, border, hour),
         Query::MarketMaximum(border, way, hour) => ffi::market_maximum(session, border, export(way), hour),
         Query::BilateralMaximum(border, way, hour) => ffi::bilateral_maximum(session, border, export(way), hour),
         Query::Price(hour) => ffi::price(session, hour),
@@ -69,7 +69,7 @@ pub fn asked(session: &ffi::Session, query: Query) -> Response {
 pub fn called(session: &mut ffi::Session, call: &Entry, reserved: u8) -> Response {
     match call {
         Entry::Register(one) => ffi::register(session, unit(one, reserved)),
-        Entry::Available(unit, energies) => ffi::available(session, available(*unit, energies, reserved)),
+        Entry::Available(unit, energies) => ffi::unavailability(session, available(*unit, energies, reserved)),
         Entry::Capacity(capacities) => {
             let directions = capacities.directions().each_ref().map(|direction| published(direction, reserved));
             ffi::capacity(session, ffi::Capacities { directions })

@@ -4,7 +4,7 @@ use native.Mathlib.Omega.{arith}
 use lib.Dec.{ltb}
 use borrow.Author.Tests.{lt-ltb, le-ltb}
 use Rattle.rules.specs.Lists.{any}
-use Rattle.arrays.specs.Places.{vals}
+use Rattle.arrays.specs.Indices.{vals}
 use Rattle.arrays.proofs.TestLaws.{any-here, any-next, any-end}
 use borrow.Author.Needs.{needs}
 use Rattle.arrays.proofs.any_above.Statement.{statement}

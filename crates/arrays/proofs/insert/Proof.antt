@@ -1,4 +1,4 @@
--- The loop: the array up to place j, and the number carried along the rest, are the whole number carried along the whole.
+-- The loop: the array up to index j, and the number carried along the rest, are the whole number carried along the whole.
 use Prim.Native.Nat.{_≤_, _-_}
 use mathlib.Core.Path.{_≡_, sym, _∙_, ap}
 use native.Mathlib.Omega.{arith}

@@ -2,7 +2,7 @@ use Prim.Native.Nat.{_-_, _≤_}
 use mathlib.Core.Path.{_≡_, sym, _∙_}
 use native.Mathlib.Omega.{arith}
 use lib.ListN.{getD}
-use Rattle.arrays.specs.Places.{vals, rises, risesFrom}
+use Rattle.arrays.specs.Indices.{vals, rises, risesFrom}
 use Rattle.arrays.proofs.TestLaws.{rises-start, rises-here, rises-again, rises-end}
 use borrow.Author.Needs.{needs}
 use Rattle.arrays.proofs.rising.Statement.{statement}

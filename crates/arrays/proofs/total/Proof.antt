@@ -3,8 +3,8 @@ use mathlib.Core.Path.{_≡_}
 use native.Mathlib.Omega.{arith}
 use Rattle.rules.specs.Lists.{sum}
 use Rattle.rules.specs.Units.{maxEnergy}
-use Rattle.arrays.specs.Places.{vals}
-use Rattle.arrays.proofs.PlaceLaws.{total-next, total-end}
+use Rattle.arrays.specs.Indices.{vals}
+use Rattle.arrays.proofs.IndexLaws.{total-next, total-end}
 use borrow.Author.Needs.{needs}
 use Rattle.arrays.proofs.total.Statement.{statement}
 use Rattle.arrays.proofs.total.Tie as tie

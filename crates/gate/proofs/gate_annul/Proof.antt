@@ -12,12 +12,12 @@ use Rattle.session.proofs.Key.Laws as U′
 use Rattle.gate.proofs.Passing.{Passed, Laws}
 use Rattle.gate.proofs.AppliedTo as law
 use Rattle.gate.proofs.Changes.{lodged}
-use Rattle.annulling.proofs.annul_change.Symbol as step-def
-use Rattle.annulling.proofs.annul_change.Symbol.{name as #step}
-use Rattle.annulling.proofs.annul_change.Met as step-thm
-use Rattle.lent.proofs.settle_standing.Symbol as settle-def
-use Rattle.lent.proofs.settle_standing.Symbol.{name as #settle}
-use Rattle.lent.proofs.settle_standing.Met as settle-thm
+use Rattle.annul.proofs.annul_change.Symbol as step-def
+use Rattle.annul.proofs.annul_change.Symbol.{name as #step}
+use Rattle.annul.proofs.annul_change.Met as step-thm
+use Rattle.gate_store.proofs.settle_standing.Symbol as settle-def
+use Rattle.gate_store.proofs.settle_standing.Symbol.{name as #settle}
+use Rattle.gate_store.proofs.settle_standing.Met as settle-thm
 use Rattle.gate.proofs.gate_annul.Key.{name as #entry}
 use Rattle.gate.proofs.gate_annul as f
 use Rattle.gate.proofs.gate_annul.Statement as stated
@@ -35,5 +35,5 @@ gate-annul-spec 𝓤 H 𝓜 𝓖 𝓡 =
     entered 𝓤 H (tripleOf 𝓤 H (𝓖 .A) f.signature (f.spec 𝓤 H (𝓖 .A) (𝓜 .mem) (𝓡 .run)))
     (tables 𝓤 H 𝓜 𝓡 code.env .C) (tables 𝓤 H 𝓜 𝓡 code.env .Λ) #entry code.function (code.unfolded 𝓤 H 𝓜 𝓡)
     (law.meets passed its-laws lodged #step #settle (λ h u r. Met h (D.annul (keyIn u)) r) 𝓤 H (𝓖 .A) (givenOf 𝓤 H 𝓜 𝓖) (tablesOf 𝓤 H 𝓜 (tables 𝓤 H 𝓜 𝓡 code.env))
-    (cited 𝓤 H (law.Step passed lodged (λ h u r. Met h (D.annul (keyIn u)) r) 𝓤 H (𝓖 .A)) 𝓜 𝓡 code.env #step step-def.routine code.calls-annulling·annul-change (step-thm.met 𝓤 H 𝓜 𝓖 𝓡))
-    (cited 𝓤 H (law.Settle lodged 𝓤 H (𝓖 .A)) 𝓜 𝓡 code.env #settle settle-def.routine code.calls-lent·settle-standing (settle-thm.met 𝓤 H 𝓜 𝓖 𝓡)))
+    (cited 𝓤 H (law.Step passed lodged (λ h u r. Met h (D.annul (keyIn u)) r) 𝓤 H (𝓖 .A)) 𝓜 𝓡 code.env #step step-def.routine code.calls-annul·annul-change (step-thm.met 𝓤 H 𝓜 𝓖 𝓡))
+    (cited 𝓤 H (law.Settle lodged 𝓤 H (𝓖 .A)) 𝓜 𝓡 code.env #settle settle-def.routine code.calls-gate-store·settle-standing (settle-thm.met 𝓤 H 𝓜 𝓖 𝓡)))

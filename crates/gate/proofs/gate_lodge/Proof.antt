@@ -1,5 +1,5 @@
 -- `gate::gate_lodge` meets its contract: a walk of its MIR, by hand. The borrow is opened, the session is copied out and passed with the message to the step that reads it, and the borrow is closed as it was;
--- it is opened again, and the session and what stands at the five places that were found are copied out and passed to the step that judges;
+-- it is opened again, and the session and what stands at the five indices that were found are copied out and passed to the step that judges;
 -- then the reference is passed on for good to the function that stores what this changes. All that the proof knows of the three is that they meet their contracts.
 -- Assumes nothing.
 use mathlib.Core.Path.{_≡_, refl, sym, ap, subst}
@@ -46,44 +46,44 @@ use denote.Triple.Table.{entered, cited}
 use denote.Triple.Walked.{says, Stays, gave-ref, stay-none-slice, walkOf, AllGo, goes-none-slice, goes-gave-ref, Walks, ends-at, walked, walk-meets}
 use denote.Exit.{yes}
 use Rattle.rules.specs.DayBook as D
-use Rattle.session.specs.declared.Turn.{Turn}
+use Rattle.session.specs.declared.Effect.{Effect}
 use Rattle.session.specs.Steps.{Met}
-use Rattle.changes.specs.Changes.{Placed, standingWith}
+use Rattle.session_changes.specs.Changes.{Indexed, standingWith}
 use Rattle.session.specs.Bare.{bareNotice, bareEnergies}
 use Rattle.session.specs.declared.Session.{Session}
 use Rattle.session.specs.declared.Notice.{Notice}
 use Rattle.session.specs.declared.Energies.{Energies}
-use Rattle.pending.specs.Awaiting.{Pends}
-use Rattle.pending.specs.declared.Pending.{Pending}
+use Rattle.lodge_pending.specs.Awaiting.{Pends}
+use Rattle.lodge_pending.specs.declared.Pending.{Pending}
 use Rattle.answer.specs.declared.Response.{Response}
-use Rattle.changes.specs.declared.StandingTurn.{StandingTurn}
+use Rattle.session_changes.specs.declared.StandingEffect.{StandingEffect}
 use Rattle.session.proofs.Session as T
 use Rattle.session.proofs.Session.Laws as T′
 use Rattle.session.proofs.Notice as X
 use Rattle.session.proofs.Notice.Laws as X′
 use Rattle.session.proofs.Energies as E
 use Rattle.session.proofs.Energies.Laws as E′
-use Rattle.pending.proofs.Pending as P
-use Rattle.pending.proofs.Pending.Laws as P′
-use Rattle.changes.proofs.StandingTurn as G
-use Rattle.changes.proofs.StandingTurn.Laws as G′
+use Rattle.lodge_pending.proofs.Pending as P
+use Rattle.lodge_pending.proofs.Pending.Laws as P′
+use Rattle.session_changes.proofs.StandingEffect as G
+use Rattle.session_changes.proofs.StandingEffect.Laws as G′
 use Rattle.answer.proofs.Response as N
 use Rattle.answer.proofs.Response.Laws as N′
-use Rattle.pending.proofs.pend as read
-use Rattle.pending.proofs.pend.Symbol as read-def
-use Rattle.pending.proofs.pend.Symbol.{name as #read}
-use Rattle.pending.proofs.pend.Met as read-thm
-use Rattle.lodging.proofs.lodge.lodge_change as step
-use Rattle.lodging.proofs.lodge.lodge_change.Symbol as step-def
-use Rattle.lodging.proofs.lodge.lodge_change.Symbol.{name as #step}
-use Rattle.lodging.proofs.lodge.lodge_change.Met as step-thm
-use Rattle.lent.proofs.settle_standing.Symbol as settle-def
-use Rattle.lent.proofs.settle_standing.Symbol.{name as #settle}
-use Rattle.lent.proofs.settle_standing.Met as settle-thm
-use Rattle.lent.proofs.ArrayLaws.{type}
-use Rattle.lent.proofs.Cell.{lies as byte, values, sv, field-read}
-use Rattle.lent.proofs.SessionCell as held
-use Rattle.lent.proofs.SessionCell.{Good as Holds, good-at, at-array, read-at}
+use Rattle.lodge_pending.proofs.pend as read
+use Rattle.lodge_pending.proofs.pend.Symbol as read-def
+use Rattle.lodge_pending.proofs.pend.Symbol.{name as #read}
+use Rattle.lodge_pending.proofs.pend.Met as read-thm
+use Rattle.lodge.proofs.lodge.lodge_change as step
+use Rattle.lodge.proofs.lodge.lodge_change.Symbol as step-def
+use Rattle.lodge.proofs.lodge.lodge_change.Symbol.{name as #step}
+use Rattle.lodge.proofs.lodge.lodge_change.Met as step-thm
+use Rattle.gate_store.proofs.settle_standing.Symbol as settle-def
+use Rattle.gate_store.proofs.settle_standing.Symbol.{name as #settle}
+use Rattle.gate_store.proofs.settle_standing.Met as settle-thm
+use Rattle.gate_store.proofs.ArrayLaws.{type}
+use Rattle.gate_store.proofs.Cell.{lies as byte, values, sv, field-read}
+use Rattle.gate_store.proofs.SessionCell as held
+use Rattle.gate_store.proofs.SessionCell.{Good as Holds, good-at, at-array, read-at}
 use Rattle.gate.proofs.AppliedTo.{entry-ended, settle-clauses, Settle, passed, to-settle, goes-settle, settled, stepped, owed}
 use Rattle.gate.proofs.Changes.{lodged}
 use Rattle.gate.proofs.gate_lodge.Key.{name as #entry}
@@ -104,14 +104,14 @@ xv x = LL.val X.the-type X′.the-laws x
 abbrev ev : Energies → Val
 ev e = LL.val E.the-type E′.the-laws e
 
--- where a place that was found lies, by the number of its field, and its read
+-- where an index that was found lies, by the number of its field, and its read
 module _ {M : Type 1} {𝓤 : URA M} {H : Heap 𝓤} {A : Atoms 𝓤} {K : Type 0} {W : Given 𝓤 H A} {Γ : List (Item 𝓤)} where
-  of-place : K → (k : ℕ) → fieldOf P′.mir k ≡ one (tyInt w64, byte P′.mir k) → {E : Env 𝓤 H} {l : ℕ} → Walks′ K W Γ E (P′.mir, l, 0) (field k ∷ []) (tyInt w64, l, 0 + byte P′.mir k)
-  of-place t k e = fld t e (stop t)
+  of-index : K → (k : ℕ) → fieldOf P′.mir k ≡ one (tyInt w64, byte P′.mir k) → {E : Env 𝓤 H} {l : ℕ} → Walks′ K W Γ E (P′.mir, l, 0) (field k ∷ []) (tyInt w64, l, 0 + byte P′.mir k)
+  of-index t k e = fld t e (stop t)
 
-  get-place : K → (k : ℕ) (f : Pending → ℕ) → fieldOf P′.mir k ≡ one (tyInt w64, byte P′.mir k) → ((p : Pending) → getV (values P.the-type P′.the-laws p) k ≡ vint w64 (f p))
+  get-index : K → (k : ℕ) (f : Pending → ℕ) → fieldOf P′.mir k ≡ one (tyInt w64, byte P′.mir k) → ((p : Pending) → getV (values P.the-type P′.the-laws p) k ≡ vint w64 (f p))
       → {q : Share} {l : ℕ} (p : Pending) (n : ℕ) → nth 𝓤 H A n Γ ≡ ‵ (fat q P′.mir l 0 (pv p)) → Reads K W Γ (tyInt w64) l (0 + byte P′.mir k) (vint w64 (f p))
-  get-place t k f e g p n at = field-read t n k at e (g p)
+  get-index t k f e g p n at = field-read t n k at e (g p)
 
 -- the types of the references and of the message
 abbrev refTy : Ty
@@ -123,7 +123,7 @@ lentTy = tyRef erased mut (pointee (T.the-row .written))
 abbrev messageTy : Ty
 messageTy = sliceTy (tyRef (named 1) imm (tyInt w8))
 
--- the last two parts of its MIR: an element at the place that a local holds is read, five times, and the step is called; what it returned is stored
+-- the last two parts of its MIR: an element at the index that a local holds is read, five times, and the step is called; what it returned is stored
 abbrev element : held.Listed → ℕ → ℕ → ℕ → ℕ → ℕ → Body′ → Body′
 element a i m p e x rest =
     seq (assign (place m []) (op2 (mul unsigned) (copy (place i [])) (int w64 (size (type (a .element)))))) (seq (assign (place p []) (addrOf (place 1 (deref T′.mir ∷ field (a .whole .number) ∷ []))))
@@ -160,14 +160,14 @@ module _ {M : Type 1} (𝓤 : URA M) (H : Heap 𝓤) (A : Atoms 𝓤) (W : Given
   OwnM = ShrSlice (named 1) κ′ u8 .own m (mv ∷ [])
 
   -- what is promised of the session left and the response, and by the steps
-  abbrev Good : Turn → Type 0
+  abbrev Good : Effect → Type 0
   Good r = Met h (D.lodge (now m)) r
 
   abbrev Found : Pending → Type 0
   Found p = Pends h (now m) p
 
-  abbrev Promised : Pending → StandingTurn → Type 0
-  Promised p r = ((bytes : List ℕ) → Pends h bytes p → Met h (D.lodge bytes) (stepped lodged h r)) × Placed (r .change)
+  abbrev Promised : Pending → StandingEffect → Type 0
+  Promised p r = ((bytes : List ℕ) → Pends h bytes p → Met h (D.lodge bytes) (stepped lodged h r)) × Indexed (r .change)
 
   abbrev Post : Val → SProp 𝓤
   Post = walkOf 𝓤 H A f.ended stayed (f.clauses 𝓤 H A at-mem run) .post (((κ, (κ′, tt)), (q, (q′, tt)), bounds, x, at), tt)
@@ -196,7 +196,7 @@ module _ {M : Type 1} (𝓤 : URA M) (H : Heap 𝓤) (A : Atoms 𝓤) (W : Given
     abbrev to-step : Step 𝓤 H A at-mem run .Ghost
     to-step = ((tt, tt, tt, asked, (sv h ∷ [], (pv p ∷ [], (xv notice ∷ [], (ev (energies (p .first)) ∷ [], (ev (energies (p .second)) ∷ [], (ev (energies (p .third)) ∷ [], (ev (energies (p .fourth)) ∷ [], tt)))))))), tt)
 
-    step-says : (r : StandingTurn) → ent 𝓤 (ensured 𝓤 H A step.ended (step.clauses 𝓤 H A at-mem run) tt asked tt r) (fact 𝓤 (Promised p r))
+    step-says : (r : StandingEffect) → ent 𝓤 (ensured 𝓤 H A step.ended (step.clauses 𝓤 H A at-mem run) tt asked tt r) (fact 𝓤 (Promised p r))
     step-says r = exE 𝓤 _ (λ ws. snd∗ 𝓤 (sem 𝓤 H A (lasts step.ended tt asked ws)) (fact 𝓤 (Promised p r)))
 
     goes-step : Found p → Holds h → Is P.the-row p (pv p ∷ []) → ent 𝓤 (emp 𝓤) (Step 𝓤 H A at-mem run .pre to-step)
@@ -211,7 +211,7 @@ module _ {M : Type 1} (𝓤 : URA M) (H : Heap 𝓤) (A : Atoms 𝓤) (W : Given
         owned ! P.the-row (Is P.the-row) (LL.makes P.the-type P′.the-plain 𝓤 H A) p _ is $ fjoin ! $
         owned ! T.the-row (Is T.the-row) (LL.makes T.the-type T′.the-plain 𝓤 H A) h _ was $ fjoin ! $ nothing ! $ frame ! $ done !
 
-  exits : (r : StandingTurn) (w : Response) (v : Val) → Good (stepped lodged h r) → w ≡ r .answer
+  exits : (r : StandingEffect) (w : Response) (v : Val) → Good (stepped lodged h r) → w ≡ r .answer
       → ent 𝓤 (⋆ 𝓤 H A (‵ (flft κ q) ∷ ‵ (fres γ (T.the-row .coded .code (standingWith h (r .change)))) ∷ ‵ (N.the-row .own w (v ∷ [])) ∷ (‵ (flft κ′ q′) ⊛ ‵ ftrue) ∷ ‵ OwnM ∷ [])) (Post v)
   exits r w v e same =
       qed W (‵ (flft κ q) ∷ ‵ (fres γ (T.the-row .coded .code (standingWith h (r .change)))) ∷ ‵ (N.the-row .own w (v ∷ [])) ∷ (‵ (flft κ′ q′) ⊛ ‵ ftrue) ∷ ‵ OwnM ∷ []) ∵
@@ -225,7 +225,7 @@ module _ {M : Type 1} (𝓤 : URA M) (H : Heap 𝓤) (A : Atoms 𝓤) (W : Given
       En = (N′.mir, l₀) ∷ (refTy, l₁) ∷ (messageTy, l₂) ∷ (P′.mir, l₃) ∷ ((tyInt w64), l₄) ∷ ((tyInt w64), l₅) ∷ ((tyInt w64), l₆) ∷ ((tyInt w64), l₇) ∷ ((tyInt w64), l₈) ∷ (G′.mir, l₉) ∷ (T′.mir, l₁₀) ∷ ((tyInt w64), l₁₁) ∷ (tyPtr, l₁₂) ∷ (tyPtr, l₁₃) ∷ (X′.mir, l₁₄) ∷ ((tyInt w64), l₁₅) ∷ (tyPtr, l₁₆) ∷ (tyPtr, l₁₇) ∷ (E′.mir, l₁₈) ∷ ((tyInt w64), l₁₉) ∷ (tyPtr, l₂₀) ∷ (tyPtr, l₂₁) ∷ (E′.mir, l₂₂) ∷ ((tyInt w64), l₂₃) ∷ (tyPtr, l₂₄) ∷ (tyPtr, l₂₅) ∷ (E′.mir, l₂₆) ∷ ((tyInt w64), l₂₇) ∷ (tyPtr, l₂₈) ∷ (tyPtr, l₂₉) ∷ (E′.mir, l₃₀) ∷ (lentTy, l₃₁) ∷ []
 
       -- the last part: what the step returned is stored, from [obs; the borrow; its token; the message's token; the message's; true; _31; …; .. room for _0; …]
-      settles : (p : Pending) → Found p → (r : StandingTurn) → Is G.the-row r (LL.val G.the-type G′.the-laws r ∷ []) → Promised p r
+      settles : (p : Pending) → Found p → (r : StandingEffect) → Is G.the-row r (LL.val G.the-type G′.the-laws r ∷ []) → Promised p r
           → Sq W (‵ (fobs γ (T.the-row .coded .code h)) ∷ ‵ (fbor κ (Body (mem T.the-row) b o γ)) ∷ ‵ (flft κ q) ∷ (‵ (flft κ′ q′) ⊛ ‵ ftrue) ∷ ‵ OwnM ∷ ‵ ftrue ∷ ‵ (froom lentTy l₃₁ 0) ∷ ‵ (fdies lentTy l₃₁) ∷ ‵ (froom E′.mir l₃₀ 0) ∷ ‵ (fdies E′.mir l₃₀) ∷ ‵ (froom tyPtr l₂₉ 0) ∷ ‵ (fdies tyPtr l₂₉) ∷ ‵ (froom tyPtr l₂₈ 0) ∷ ‵ (fdies tyPtr l₂₈) ∷ ‵ (froom (tyInt w64) l₂₇ 0) ∷ ‵ (fdies (tyInt w64) l₂₇) ∷ ‵ (froom E′.mir l₂₆ 0) ∷ ‵ (fdies E′.mir l₂₆) ∷ ‵ (froom tyPtr l₂₅ 0) ∷ ‵ (fdies tyPtr l₂₅) ∷ ‵ (froom tyPtr l₂₄ 0) ∷ ‵ (fdies tyPtr l₂₄) ∷ ‵ (froom (tyInt w64) l₂₃ 0) ∷ ‵ (fdies (tyInt w64) l₂₃) ∷ ‵ (froom E′.mir l₂₂ 0) ∷ ‵ (fdies E′.mir l₂₂) ∷ ‵ (froom tyPtr l₂₁ 0) ∷ ‵ (fdies tyPtr l₂₁) ∷ ‵ (froom tyPtr l₂₀ 0) ∷ ‵ (fdies tyPtr l₂₀) ∷ ‵ (froom (tyInt w64) l₁₉ 0) ∷ ‵ (fdies (tyInt w64) l₁₉) ∷ ‵ (froom E′.mir l₁₈ 0) ∷ ‵ (fdies E′.mir l₁₈) ∷ ‵ (froom tyPtr l₁₇ 0) ∷ ‵ (fdies tyPtr l₁₇) ∷ ‵ (froom tyPtr l₁₆ 0) ∷ ‵ (fdies tyPtr l₁₆) ∷ ‵ (froom (tyInt w64) l₁₅ 0) ∷ ‵ (fdies (tyInt w64) l₁₅) ∷ ‵ (froom X′.mir l₁₄ 0) ∷ ‵ (fdies X′.mir l₁₄) ∷ ‵ (froom tyPtr l₁₃ 0) ∷ ‵ (fdies tyPtr l₁₃) ∷ ‵ (froom tyPtr l₁₂ 0) ∷ ‵ (fdies tyPtr l₁₂) ∷ ‵ (froom (tyInt w64) l₁₁ 0) ∷ ‵ (fdies (tyInt w64) l₁₁) ∷ ‵ (froom T′.mir l₁₀ 0) ∷ ‵ (fdies T′.mir l₁₀) ∷ ‵ (fat fullShare G′.mir l₉ 0 (LL.val G.the-type G′.the-laws r)) ∷ ‵ (fdies G′.mir l₉) ∷ ‵ (froom (tyInt w64) l₈ 0) ∷ ‵ (fdies (tyInt w64) l₈) ∷ ‵ (froom (tyInt w64) l₇ 0) ∷ ‵ (fdies (tyInt w64) l₇) ∷ ‵ (froom (tyInt w64) l₆ 0) ∷ ‵ (fdies (tyInt w64) l₆) ∷ ‵ (froom (tyInt w64) l₅ 0) ∷ ‵ (fdies (tyInt w64) l₅) ∷ ‵ (froom (tyInt w64) l₄ 0) ∷ ‵ (fdies (tyInt w64) l₄) ∷ ‵ (froom P′.mir l₃ 0) ∷ ‵ (fdies P′.mir l₃) ∷ ‵ (froom messageTy l₂ 0) ∷ ‵ (fdies messageTy l₂) ∷ ‵ (fat fullShare refTy l₁ 0 (vptr b o)) ∷ ‵ (fdies refTy l₁) ∷ ‵ (froom N′.mir l₀ 0) ∷ ‵ (fdies N′.mir l₀) ∷ []) (runs C Λ En storing (atRet En Post))
       settles p found r is e =
           assigns ! (addr ! (from ! (hop ! (look ! 66 refl) (stop !)))) (from ! (stop !)) (init ! 6 refl (tt, tt)) $
@@ -277,7 +277,7 @@ module _ {M : Type 1} (𝓤 : URA M) (H : Heap 𝓤) (A : Atoms 𝓤) (W : Given
           -- [obs; the borrow; its token; the message's token; the message's; true; _31; …; .. room for _0; …]
           use0 W (raw (Step 𝓤 H A at-mem run .pre (to-step p))) (goes-step p found was is-p) $
           calls-at ! fm (Step 𝓤 H A at-mem run) known (to-step p) (and-then ! (load ! (from ! (stop !)) (look ! 49 refl)) (and-then ! (load ! (from ! (stop !)) (look ! 63 refl)) (and-then ! (load ! (from ! (stop !)) (look ! 41 refl)) (and-then ! (load ! (from ! (stop !)) (look ! 33 refl)) (and-then ! (load ! (from ! (stop !)) (look ! 25 refl)) (and-then ! (load ! (from ! (stop !)) (look ! 17 refl)) (and-then ! (load ! (from ! (stop !)) (look ! 9 refl)) (no-more !)))))))) (λ v₁.
-          use1 W (later (some (λ (r : StandingTurn). (‵ ftrue ⊛ ‵ (G.the-row .own r (v₁ ∷ []))) ⊛ raw (ensured 𝓤 H A step.ended (step.clauses 𝓤 H A at-mem run) tt (asked p) tt r)))) (id⊢ 𝓤 _) $ await ! tt $ pick ! (λ r.
+          use1 W (later (some (λ (r : StandingEffect). (‵ ftrue ⊛ ‵ (G.the-row .own r (v₁ ∷ []))) ⊛ raw (ensured 𝓤 H A step.ended (step.clauses 𝓤 H A at-mem run) tt (asked p) tt r)))) (id⊢ 𝓤 _) $ await ! tt $ pick ! (λ r.
           split ! $ move ! (1 ∷ []) $ use1 W (raw (fact 𝓤 (Promised p r))) (step-says p r) $ heard ! (Promised p r) (λ e. split ! $ drop ! $
           peeks ! G.the-row (Is G.the-row) (shows 𝓤 H A G.the-row) r (v₁ ∷ []) (λ is. drop ! $
           -- [obs; the borrow; its token; the message's token; the message's; true; _31; …; .. room for _0; …]
@@ -308,11 +308,11 @@ module _ {M : Type 1} (𝓤 : URA M) (H : Heap 𝓤) (A : Atoms 𝓤) (W : Given
         -- [the message's token; the message's; true; obs; the borrow; its token; _31; …; .. room for _0; …]
         land ! (from ! (stop !)) (init ! 62 refl (LL.lawful P.the-type P′.the-laws 𝓤 H A W .typed p _ is-p .0)) $ rewrite ! 62 (λ (w : Val). ‵ (fat fullShare P′.mir l₃ 0 w)) (ap only (LL.tells P.the-type P′.the-laws p _ is-p)) refl $
         let lies = found .ready .1 in
-        assigns ! (of-opd ! (load ! (from ! (of-place ! 5 refl)) (get-place ! 5 (λ p. p .notice) refl (λ p. refl) p 62 refl))) (from ! (stop !)) (init ! 60 refl (tt, record { fits = omega (arith, lies .notice .0) })) $
-        assigns ! (of-opd ! (load ! (from ! (of-place ! 6 refl)) (get-place ! 6 (λ p. p .first) refl (λ p. refl) p 62 refl))) (from ! (stop !)) (init ! 58 refl (tt, record { fits = omega (arith, lies .first .0) })) $
-        assigns ! (of-opd ! (load ! (from ! (of-place ! 7 refl)) (get-place ! 7 (λ p. p .second) refl (λ p. refl) p 62 refl))) (from ! (stop !)) (init ! 56 refl (tt, record { fits = omega (arith, lies .second .0) })) $
-        assigns ! (of-opd ! (load ! (from ! (of-place ! 8 refl)) (get-place ! 8 (λ p. p .third) refl (λ p. refl) p 62 refl))) (from ! (stop !)) (init ! 54 refl (tt, record { fits = omega (arith, lies .third .0) })) $
-        assigns ! (of-opd ! (load ! (from ! (of-place ! 9 refl)) (get-place ! 9 (λ p. p .fourth) refl (λ p. refl) p 62 refl))) (from ! (stop !)) (init ! 52 refl (tt, record { fits = omega (arith, lies .fourth .0) })) $
+        assigns ! (of-opd ! (load ! (from ! (of-index ! 5 refl)) (get-index ! 5 (λ p. p .notice) refl (λ p. refl) p 62 refl))) (from ! (stop !)) (init ! 60 refl (tt, record { fits = omega (arith, lies .notice .0) })) $
+        assigns ! (of-opd ! (load ! (from ! (of-index ! 6 refl)) (get-index ! 6 (λ p. p .first) refl (λ p. refl) p 62 refl))) (from ! (stop !)) (init ! 58 refl (tt, record { fits = omega (arith, lies .first .0) })) $
+        assigns ! (of-opd ! (load ! (from ! (of-index ! 7 refl)) (get-index ! 7 (λ p. p .second) refl (λ p. refl) p 62 refl))) (from ! (stop !)) (init ! 56 refl (tt, record { fits = omega (arith, lies .second .0) })) $
+        assigns ! (of-opd ! (load ! (from ! (of-index ! 8 refl)) (get-index ! 8 (λ p. p .third) refl (λ p. refl) p 62 refl))) (from ! (stop !)) (init ! 54 refl (tt, record { fits = omega (arith, lies .third .0) })) $
+        assigns ! (of-opd ! (load ! (from ! (of-index ! 9 refl)) (get-index ! 9 (λ p. p .fourth) refl (λ p. refl) p 62 refl))) (from ! (stop !)) (init ! 52 refl (tt, record { fits = omega (arith, lies .fourth .0) })) $
         forget ! 48 refl $ forget ! 64 refl $
         keep ! (0 ∷ 1 ∷ 2 ∷ 3 ∷ 4 ∷ 5 ∷ 6 ∷ 7 ∷ 8 ∷ 9 ∷ 10 ∷ 11 ∷ 12 ∷ 13 ∷ 14 ∷ 15 ∷ 16 ∷ 17 ∷ 18 ∷ 19 ∷ 20 ∷ 21 ∷ 22 ∷ 23 ∷ 24 ∷ 25 ∷ 26 ∷ 27 ∷ 28 ∷ 29 ∷ 30 ∷ 31 ∷ 32 ∷ 33 ∷ 34 ∷ 35 ∷ 36 ∷ 37 ∷ 38 ∷ 39 ∷ 40 ∷ 41 ∷ 42 ∷ 43 ∷ 44 ∷ 45 ∷ 46 ∷ 47 ∷ 48 ∷ 49 ∷ 50 ∷ 51 ∷ 52 ∷ 53 ∷ 54 ∷ 55 ∷ 56 ∷ 57 ∷ 58 ∷ 59 ∷ 60 ∷ 61 ∷ 62 ∷ 63 ∷ 64 ∷ 65 ∷ 66 ∷ 67 ∷ 68 ∷ 69 ∷ []) $ judges gm l₀ l₁ l₂ l₃ l₄ l₅ l₆ l₇ l₈ l₉ l₁₀ l₁₁ l₁₂ l₁₃ l₁₄ l₁₅ l₁₆ l₁₇ l₁₈ l₁₉ l₂₀ l₂₁ l₂₂ l₂₃ l₂₄ l₂₅ l₂₆ l₂₇ l₂₈ l₂₉ l₃₀ l₃₁ p found (subst (λ (ws : List Val). Is P.the-row p ws) (LL.tells P.the-type P′.the-laws p _ is-p) is-p)))))))))))))))))))))))))))))))))))))))
 
@@ -334,6 +334,6 @@ gate-lodge-spec 𝓤 H 𝓜 𝓖 𝓡 =
     entered 𝓤 H (tripleOf 𝓤 H (𝓖 .A) f.signature (f.spec 𝓤 H (𝓖 .A) (𝓜 .mem) (𝓡 .run)))
     (tables 𝓤 H 𝓜 𝓡 code.env .C) (tables 𝓤 H 𝓜 𝓡 code.env .Λ) #entry code.function (code.unfolded 𝓤 H 𝓜 𝓡)
     (meets 𝓤 H (𝓖 .A) (givenOf 𝓤 H 𝓜 𝓖) (𝓜 .mem) (𝓡 .run) (tablesOf 𝓤 H 𝓜 (tables 𝓤 H 𝓜 𝓡 code.env))
-    (cited 𝓤 H (Read 𝓤 H (𝓖 .A) (𝓜 .mem) (𝓡 .run)) 𝓜 𝓡 code.env #read read-def.routine code.calls-pending·pend (read-thm.met 𝓤 H 𝓜 𝓖 𝓡))
-    (cited 𝓤 H (Step 𝓤 H (𝓖 .A) (𝓜 .mem) (𝓡 .run)) 𝓜 𝓡 code.env #step step-def.routine code.calls-lodging·lodge·lodge-change (step-thm.met 𝓤 H 𝓜 𝓖 𝓡))
-    (cited 𝓤 H (Settle lodged 𝓤 H (𝓖 .A)) 𝓜 𝓡 code.env #settle settle-def.routine code.calls-lent·settle-standing (settle-thm.met 𝓤 H 𝓜 𝓖 𝓡)))
+    (cited 𝓤 H (Read 𝓤 H (𝓖 .A) (𝓜 .mem) (𝓡 .run)) 𝓜 𝓡 code.env #read read-def.routine code.calls-lodge-pending·pend (read-thm.met 𝓤 H 𝓜 𝓖 𝓡))
+    (cited 𝓤 H (Step 𝓤 H (𝓖 .A) (𝓜 .mem) (𝓡 .run)) 𝓜 𝓡 code.env #step step-def.routine code.calls-lodge·lodge·lodge-change (step-thm.met 𝓤 H 𝓜 𝓖 𝓡))
+    (cited 𝓤 H (Settle lodged 𝓤 H (𝓖 .A)) 𝓜 𝓡 code.env #settle settle-def.routine code.calls-gate-store·settle-standing (settle-thm.met 𝓤 H 𝓜 𝓖 𝓡)))

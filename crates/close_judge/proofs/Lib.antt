@@ -1,0 +1,5 @@
+pub mod CountLaws
+pub mod IndexLaws
+pub mod ClassLaws
+pub mod StandingLaws
+pub mod JudgeLaws

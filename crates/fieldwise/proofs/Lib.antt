@@ -1,2 +1,0 @@
-pub mod HourLaws
-pub mod ReadLaws

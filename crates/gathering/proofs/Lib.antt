@@ -1,8 +1,0 @@
-pub mod ColumnLaws
-pub mod PlaceLaws
-pub mod ListLaws
-pub mod DayLaws
-pub mod HourLaws
-pub mod OfferLaws
-pub mod ReadyLaws
-pub mod UnitLaws

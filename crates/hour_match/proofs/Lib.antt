@@ -1,0 +1,4 @@
+pub mod ViewLaws
+pub mod OrderLaws
+pub mod MatchLaws
+pub mod WalkLaws

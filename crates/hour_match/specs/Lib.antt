@@ -1,0 +1,3 @@
+pub mod View
+pub mod Orders
+pub mod Walks

@@ -1,0 +1,2 @@
+pub mod DeductionLaws
+pub mod Laws

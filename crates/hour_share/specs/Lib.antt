@@ -1,0 +1,2 @@
+pub mod Deductions
+pub mod Next

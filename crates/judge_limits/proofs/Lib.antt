@@ -1,0 +1,5 @@
+pub mod WrittenLaws
+pub mod RowLaws
+pub mod BorderLaws
+pub mod NoticeLaws
+pub mod IndexLaws

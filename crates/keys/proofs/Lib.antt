@@ -1,2 +1,0 @@
-pub mod KeyLaws
-pub mod TakenLaws

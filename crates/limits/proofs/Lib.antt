@@ -1,5 +1,0 @@
-pub mod WrittenLaws
-pub mod RowLaws
-pub mod BorderLaws
-pub mod NoticeLaws
-pub mod PlaceLaws

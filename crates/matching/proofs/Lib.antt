@@ -1,3 +1,0 @@
-pub mod ViewLaws
-pub mod OrderLaws
-pub mod MatchLaws

@@ -1,0 +1,13 @@
+use Prim.Native.Nat.{_-_}
+use borrow.Author.Needs.{needs}
+use Rattle.rehearse_words.proofs.records.lodging.Statement.{statement}
+use Rattle.rehearse_words.proofs.records.lodging.Tie as tie
+
+abbrev Inv-loop : tie.InvT-loop
+Inv-loop message count record₀ k₀ «record» k = Unit {0}
+
+abbrev μ-loop : tie.MeasureT-loop
+μ-loop message count record₀ k₀ «record» k = count - k
+
+pub lodging-spec : {M : Type 1} → statement M
+lodging-spec = tie.close (tie.spec Inv-loop μ-loop (λ c. search needs) (λ c κs. search needs) (λ c κs. search needs) (λ c. search needs) (λ c. search needs) (λ c. search needs) (λ c κs. search needs) (λ c. search needs))

@@ -1,9 +1,0 @@
--- Where the next leftover unit goes.
-use Prim.Native.Nat.{ℕ, zero, suc}
-use mathlib.Core.List.{List, [], _∷_}
-
--- the lowest place with an amount above 0, or the place past the last
-unfoldable pub next : List ℕ → ℕ
-next [] = 0
-next (zero ∷ ms) = suc (next ms)
-next (suc m ∷ ms) = 0

@@ -1,3 +1,0 @@
-pub mod RoomLaws
-mod TakeLaws
-mod PassLaws

@@ -1,0 +1,3 @@
+pub mod FlowLaws
+pub mod StepLaws
+pub mod RoundLaws
