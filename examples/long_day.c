@@ -40,8 +40,8 @@ static void name_hour(GateFields *m, uint32_t hour, uint32_t energy, uint32_t pr
 static GateResponse lodge(GateSession *s, GateFields m) {
     uint8_t message[GATE_MESSAGE];
     GateWritten w = gate_write(m, message, sizeof message);
-    if (w.refusal != 0) {
-        GateResponse r = {.kind = GATE_REFUSED, .row = w.refusal};
+    if (w.row != 0) {
+        GateResponse r = {.kind = GATE_REFUSED, .row = w.row};
         return r;
     }
     return gate_lodge(s, message, w.count);
@@ -86,6 +86,7 @@ static void register_units(GateSession *s) {
 }
 
 int main(void) {
+    if (!gate_matches()) return 2; /* the archive is of another version than the header */
     const GateDate date = {2006, 10, 29};
     GateOpening opening = gate_open(date);
     GateSession *s = &opening.session;

@@ -1,12 +1,13 @@
 /*
  * The day-ahead market gate, proved (README.md): one session takes one delivery day of 23, 24 or 25 hours from the first
  * lodgement to the balances at the borders. The rules are document 01; every function of the archive is proved to answer by them.
- * The two inline helpers are plain C; that the structs lie as declared, and the stack that a call uses, are tested (tests/c).
+ * The inline helpers are plain C; that the structs lie as declared, and the stack that a call uses, are tested (tests/c).
  *
  * Build, at the root of the repository:
  *         rt staticlib gate                        proves the gate, makes target/staticlib/libgate.a (x86-64, System V calling convention)
  *         cc -Iinclude program.c target/staticlib/libgate.a -o program
  *
+ * First:  gate_matches(), false where the archive is of another version than this header.
  * A day:  gate_open, then gate_register, gate_capacity, gate_unavailability, gate_lodge and gate_annul in any order and number (a unit
  *         is registered before it is named), then gate_close, then gate_clear; gate_verdict from closing on, the other queries
  *         from clearing on. A call that comes too early or too late is refused and changes nothing.
@@ -43,6 +44,11 @@ extern "C" {
 #else
 #define GATE_ASSERT(fact) _Static_assert(fact, #fact)
 #endif
+
+/* ------------------------------------------------------------------------------------------------ version */
+
+/* Of this header. It rises with each change of a name, a struct or a meaning; a session of one version is not one of another. */
+#define GATE_VERSION 1
 
 /* ------------------------------------------------------------------------------------------------ sizes */
 
@@ -190,15 +196,15 @@ static inline uint32_t gate_hour_bit(uint32_t hour) {
 
 /* ------------------------------------------------------------------------------------------------ what is given back */
 
-/* A message read: refusal 0 and its fields, or the table's row and fields that are all 0. */
+/* A message read: row 0 and its fields, or the table's row and fields that are all 0. */
 typedef struct GateReading {
-    uint32_t refusal;
+    uint32_t row;
     GateFields fields;
 } GateReading;
 
-/* A message written: refusal 0 and the count of its bytes, or the table's row and 0. */
+/* A message written: row 0 and the count of its bytes, or the table's row and 0. */
 typedef struct GateWritten {
-    uint32_t refusal;
+    uint32_t row;
     uint32_t reserved;
     size_t count;
 } GateWritten;
@@ -246,7 +252,7 @@ typedef struct GateVerdict {
 } GateVerdict;
 
 /* An hour's figures, after clearing. Energies at the borders stand at border * 2 for export, border * 2 + 1 for import; those of
- * units in the units' places. */
+ * units by the unit's index. */
 typedef struct GateHourFigures {
     uint32_t price;
     uint32_t market[GATE_WAYS];
@@ -261,16 +267,16 @@ typedef struct GateSession {
     uint32_t hours;                            /* 23, 24 or 25 */
     size_t enrolled;                           /* units */
     GateUnit units[GATE_UNITS];                /* in the order of registering */
-    GateNotice notices[GATE_UNITS];            /* unavailability, in the units' places */
+    GateNotice notices[GATE_UNITS];            /* unavailability, in the units' indices */
     GateNotice capacities[GATE_DIRECTIONS];    /* by gate_direction */
     size_t standing;                           /* lodgements */
     GateLodgement lodgements[GATE_LODGEMENTS]; /* in the order of their numbers */
-    GateEnergies energies[GATE_LODGEMENTS];    /* in the lodgements' places */
+    GateEnergies energies[GATE_LODGEMENTS];    /* in the lodgements' indices */
     uint32_t last;                             /* the last lodging number, 0 before the first */
     bool closed;
     bool cleared;
     uint16_t reserved;
-    GateVerdict verdicts[GATE_LODGEMENTS];     /* in the lodgements' places, once closed */
+    GateVerdict verdicts[GATE_LODGEMENTS];     /* by the lodgement's index, once closed */
     GateHourFigures figures[GATE_HOURS];           /* hour 1 first, once cleared */
     uint32_t reserved2;
 } GateSession;
@@ -309,6 +315,17 @@ GATE_ASSERT(offsetof(GateSession, closed) == 36452 && offsetof(GateSession, clea
 GATE_ASSERT(offsetof(GateSession, verdicts) == 36456 && offsetof(GateSession, figures) == 37992);
 GATE_ASSERT(sizeof(GateSession) == 53896);
 GATE_ASSERT(sizeof(GateOpening) == 53928 && offsetof(GateOpening, session) == 32);
+
+/* ------------------------------------------------------------------------------------------------ the archive */
+
+/* The version and the bytes of a session that the archive was compiled with. */
+uint32_t gate_version(void);
+uint64_t gate_session_size(void);
+
+/* Whether the archive is of this header: to be asked once, before the first call. */
+static inline bool gate_matches(void) {
+    return gate_version() == GATE_VERSION && gate_session_size() == sizeof(GateSession);
+}
 
 /* ------------------------------------------------------------------------------------------------ dates */
 

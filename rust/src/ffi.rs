@@ -180,7 +180,7 @@ impl Fields {
 #[derive(Clone, Copy, PartialEq, Eq)]
 pub struct Reading {
     /// 0, or the refusal table's number.
-    pub refusal: u32,
+    pub row: u32,
     /// The fields.
     pub fields: Fields,
 }
@@ -190,7 +190,7 @@ pub struct Reading {
 #[derive(Clone, Copy, PartialEq, Eq)]
 pub struct Written {
     /// 0, or the refusal table's number.
-    pub refusal: u32,
+    pub row: u32,
     /// Reserved.
     pub reserved: u32,
     /// The bytes written.
@@ -379,8 +379,8 @@ plain! {
     Capacities { directions }
     Availability { count, unit, energies }
     Fields { execution, default, reserved, unit, contract, map, energies, prices }
-    Reading { refusal, fields }
-    Written { refusal, reserved, count }
+    Reading { row, fields }
+    Written { row, reserved, count }
     Response { kind, row, hour, reserved, value, count }
     Opening { response, session }
     Notice { given, reserved, reserved2, energies }
@@ -398,6 +398,8 @@ mod declared {
     use super::*;
 
     extern "C" {
+        pub fn gate_version() -> u32;
+        pub fn gate_session_size() -> u64;
         pub fn gate_open(date: Date) -> Opening;
         pub fn gate_hours(date: Date) -> Response;
         pub fn gate_clock(date: Date, hour: u32) -> ClockName;
@@ -424,6 +426,16 @@ mod declared {
 
 // The functions below hand on to C what Rust's references already promise: a session that is there, whole, lent to nobody
 // else, and bytes that are there up to their length. The interface asks for nothing more, so none of them has a condition.
+
+/// The version of `include/gate.h` that these declarations are of (`GATE_VERSION` there).
+pub const VERSION: u32 = 1;
+
+/// Whether the archive that is linked is of this version, with sessions of this size.
+pub fn matches() -> bool {
+    // SAFETY: nothing is passed, and numbers are given back.
+    let (version, size) = unsafe { (declared::gate_version(), declared::gate_session_size()) };
+    version == VERSION && size == std::mem::size_of::<Session>() as u64
+}
 
 /// Opens the session of a date.
 pub fn open(date: Date) -> (Response, Box<Session>) {

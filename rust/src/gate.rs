@@ -197,7 +197,7 @@ impl Gate {
 
     /// The fields of a message by itself, whatever the day. Refused as 3, 4 or 5.
     pub fn read(message: &[u8]) -> Result<Fields, Refusal> {
-        let ffi::Reading { refusal: row, ref fields } = ffi::read(message);
+        let ffi::Reading { row, ref fields } = ffi::read(message);
         if row == 0 {
             let ffi::Fields { execution, default, reserved: _, unit, contract, map, energies, prices } = *fields;
             let key = Key { execution: execution.into(), default: default.into(), unit, contract };
@@ -224,8 +224,8 @@ impl Gate {
         let (execution, default) = (execution.into(), default.into());
         let fields = ffi::Fields { execution, default, reserved: 0, unit, contract, map, energies, prices };
         match ffi::write(fields, buffer) {
-            ffi::Written { refusal: 0, reserved: 0, count } => Ok(count),
-            ffi::Written { refusal: row, count, .. } => {
+            ffi::Written { row: 0, reserved: 0, count } => Ok(count),
+            ffi::Written { row, count, .. } => {
                 assert_eq!(count, 0, "a length beside refusal {row}");
                 Err(refusal(row, 0))
             }
@@ -344,6 +344,7 @@ impl From<Gate> for Box<ffi::Session> {
 
 impl Exchange for Gate {
     fn opened(day: Date) -> (Result<(), Refusal>, Gate) {
+        assert!(ffi::matches(), "libgate.a is of another version than this crate");
         let (response, session) = ffi::open(date(day));
         (done(&response), Gate { session })
     }

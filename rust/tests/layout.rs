@@ -30,8 +30,8 @@ fn mirrors() -> Vec<Layout> {
         layout!("GateFields" Fields {
             execution, default as "is_default", reserved, unit, contract, map, energies, prices
         }),
-        layout!("GateReading" Reading { refusal, fields }),
-        layout!("GateWritten" Written { refusal, reserved, count }),
+        layout!("GateReading" Reading { row, fields }),
+        layout!("GateWritten" Written { row, reserved, count }),
         layout!("GateClockName" ClockName { row, name, second, reserved, reserved2 }),
         layout!("GateNotice" Notice { given, reserved, reserved2, energies }),
         layout!("GateLodgement" Lodgement { key, number }),

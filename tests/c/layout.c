@@ -111,11 +111,11 @@ static GateResponse lodge(GateFields m) {
     uint8_t bytes[GATE_MESSAGE + 16];
     memset(bytes, 0xEE, sizeof bytes);
     GateWritten w = gate_write(m, bytes, GATE_MESSAGE);
-    CHECK(w.refusal == 0 && w.reserved == 0 && w.count <= GATE_MESSAGE);
+    CHECK(w.row == 0 && w.reserved == 0 && w.count <= GATE_MESSAGE);
     CHECK(all(bytes + w.count, sizeof bytes - w.count, 0xEE));
     GateReading r = gate_read(bytes, w.count);
     m.reserved = 0;
-    CHECK(r.refusal == 0 && memcmp(&r.fields, &m, sizeof m) == 0);
+    CHECK(r.row == 0 && memcmp(&r.fields, &m, sizeof m) == 0);
     return gate_lodge(s, bytes, w.count);
 }
 
@@ -329,8 +329,8 @@ static void each_bit(void) {
         GateReading r = gate_read(bytes, sizeof bytes);
         GateResponse a = gate_lodge(&scratch, bytes, sizeof bytes);
         bytes[bit / 8] ^= (uint8_t)(0x80 >> bit % 8);
-        if (a.kind == GATE_REFUSED) CHECK(same_session(&scratch, s) && (r.refusal == 0 ? a.row >= GATE_REFUSED_UNIT : is(a, GATE_REFUSED, r.refusal, 0, 0, 0)));
-        else CHECK(numbered(a, 1) && r.refusal == 0 && scratch.standing == 1);
+        if (a.kind == GATE_REFUSED) CHECK(same_session(&scratch, s) && (r.row == 0 ? a.row >= GATE_REFUSED_UNIT : is(a, GATE_REFUSED, r.row, 0, 0, 0)));
+        else CHECK(numbered(a, 1) && r.row == 0 && scratch.standing == 1);
         rows[a.row]++;
     }
     CHECK(rows[0] > 0 && rows[GATE_REFUSED_FORM] > 0 && rows[GATE_REFUSED_RANGE] > 0 && rows[GATE_REFUSED_UNIT] > 0 && rows[GATE_REFUSED_MAXIMUM] > 0);
@@ -361,7 +361,7 @@ static void any_bytes(void) {
         bytes[0] = i % 2 == 0 ? bytes[0] : (uint8_t)(0x10 | (bytes[0] & 0x06));
         GateReading r = gate_read(bytes, i % sizeof bytes);
         GateResponse a = gate_lodge(s, bytes, i % sizeof bytes);
-        refusals += a.kind == GATE_REFUSED && (r.refusal == 0 ? a.row >= 6 : a.row == r.refusal);
+        refusals += a.kind == GATE_REFUSED && (r.row == 0 ? a.row >= 6 : a.row == r.row);
     }
     CHECK(refusals == 20000);
     CHECK(same_session(&before, s));
@@ -371,17 +371,17 @@ static void any_bytes(void) {
     memset(bytes, 0xEE, sizeof bytes);
     for (size_t room = 0; room < GATE_MESSAGE; room++) {
         GateWritten w = gate_write(m, bytes, room);
-        CHECK(w.refusal == GATE_REFUSED_SHORT && w.count == 0);
+        CHECK(w.row == GATE_REFUSED_SHORT && w.count == 0);
     }
     CHECK(all(bytes, sizeof bytes, 0xEE));
     CHECK(refused(lodge(m), GATE_REFUSED_MAXIMUM, 25));
     CHECK(same_session(&before, s));
     m.prices[0] = 18031;
     GateWritten w = gate_write(m, bytes, sizeof bytes);
-    CHECK(w.refusal == GATE_REFUSED_RANGE && w.count == 0 && all(bytes, sizeof bytes, 0xEE));
+    CHECK(w.row == GATE_REFUSED_RANGE && w.count == 0 && all(bytes, sizeof bytes, 0xEE));
     m.map = 0;
     w = gate_write(m, bytes, sizeof bytes);
-    CHECK(w.refusal == GATE_REFUSED_HOUR && w.count == 0 && all(bytes, sizeof bytes, 0xEE));
+    CHECK(w.row == GATE_REFUSED_HOUR && w.count == 0 && all(bytes, sizeof bytes, 0xEE));
     CHECK(canaries());
 }
 
@@ -401,6 +401,7 @@ static void *all_days(void *unused) {
 }
 
 int main(void) {
+    CHECK(gate_matches() && gate_version() == GATE_VERSION && gate_session_size() == sizeof(GateSession));
     enum { ROOM = 4 * GATE_STACK };
     uint8_t *stack = aligned_alloc(4096, ROOM);
     if (stack == NULL) return 2;

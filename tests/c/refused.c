@@ -306,7 +306,7 @@ static void write_refused(GateFields f, size_t length, uint32_t row, int line) {
         armed = 1;
         GateWritten w = gate_write(f, buffer, length);
         armed = 0;
-        if (w.refusal != row || w.count != 0) say(line, "gate_write", "another answer");
+        if (w.row != row || w.count != 0) say(line, "gate_write", "another answer");
     } else {
         armed = 0;
         say(line, "gate_write", "a lent byte was written");

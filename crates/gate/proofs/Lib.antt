@@ -9,3 +9,4 @@ pub mod Applied
 pub mod AppliedTo
 pub mod Changes
 pub mod DemandLaws
+pub mod SizeLaws

@@ -34,6 +34,24 @@ use session::Opened;
 use session::Session;
 use session::Unit;
 
+// What the archive is: a program asks before its first call whether it was compiled with the header of this archive.
+
+// `GATE_VERSION` of include/gate.h. Each change of a name, a struct or a meaning there raises it.
+#[no_mangle]
+pub extern "C" fn gate_version() -> u32
+    ensures { λ r. ⌜ r ≡ 1 ⌝ }
+{
+    1
+}
+
+// The bytes of a session: the size of its type (`session-size` of proofs/SizeLaws.antt).
+#[no_mangle]
+pub extern "C" fn gate_session_size() -> u64
+    ensures { λ r. ⌜ r ≡ 53896 ⌝ }
+{
+    53896
+}
+
 // Dates
 
 // Opens the session of a date: 1.
