@@ -1,7 +1,8 @@
 /*
  * "no lent byte written" (demand 1): a refused call, and every query, on a session whose pages cannot be written. Every call and query is
- * tried in every stage of a day with each row of the table that it can be refused by there; the writer with a buffer that cannot be
- * written. A byte stored, even one that is there already, is a fault and a failed check.
+ * tried in every stage of a day with each row of the table that it can be refused by there; the writer with a buffer, the reader with
+ * a message that cannot be written. A byte stored, even one that is there already, is a fault and a failed check (tests/c/stores_back.c
+ * is a gate that stores such bytes).
  */
 #define _GNU_SOURCE /* MAP_ANONYMOUS */
 
@@ -330,6 +331,32 @@ static void writer(void) {
     write_refused(contract, GATE_MESSAGE, GATE_REFUSED_RANGE, __LINE__);
 }
 
+/* The reader's message, read or refused. */
+static void read_answers(size_t length, uint32_t row, int line) {
+    checks++;
+    protect(PROT_READ);
+    if (sigsetjmp(back, 1) == 0) {
+        armed = 1;
+        GateReading r = gate_read(message, length);
+        armed = 0;
+        if (r.refusal != row) say(line, "gate_read", "another answer");
+    } else {
+        armed = 0;
+        say(line, "gate_read", "a lent byte was written");
+    }
+    protect(PROT_READ | PROT_WRITE);
+}
+static void reader(void) {
+    stage = "the reader";
+    size_t n = put(key(false, 7, 0), 3, 120);
+    read_answers(n, 0, __LINE__);
+    for (size_t length = 0; length < n; length++) read_answers(length, GATE_REFUSED_FORM, __LINE__);
+    memset(message + 8, 0, 4);
+    read_answers(n, GATE_REFUSED_RANGE, __LINE__);
+    memset(message + 4, 0, 4);
+    read_answers(8, GATE_REFUSED_HOUR, __LINE__);
+}
+
 /* The pages are what this test says they are: a store faults. */
 static void pages_are_guarded(void) {
     static volatile uint8_t *const *at = (volatile uint8_t *const *)&buffer;
@@ -358,6 +385,7 @@ int main(void) {
     stage = "pages";
     pages_are_guarded();
     writer();
+    reader();
 
     open_session("open and empty");
     open_refusals(false);

@@ -1,16 +1,14 @@
--- Document 01's number and values for each answer of a call, `told`, and of a query, `shown`, as the plain struct that C is handed.
+-- Document 01's number and values for each answer of a call, `told`, of a query, `shown`, and of a question about a date, `counted` and `named`, as
+-- the plain struct that C is handed.
 use Prim.Native.Nat.{ℕ}
 use mathlib.Core.Bool.{Bool, false}
 use lib.Dec.{eqb}
 use lib.IntN.{ℤ, pos}
 use Rattle.rules.specs.Refusals as R
+use Rattle.rules.specs.Hours as H
 use Rattle.rules.specs.Closing as C
 use Rattle.rules.specs.Queries as Q
 use Rattle.rules.specs.DayBook as D
-use Rattle.calendar.specs.declared.Counted.{Counted}
-use Rattle.calendar.specs.declared.Counted.the-variants as CV
-use Rattle.calendar.specs.declared.Named.{Named}
-use Rattle.calendar.specs.declared.Named.the-variants as NV
 use Rattle.answer.specs.declared.Response.{Response}
 use Rattle.answer.specs.declared.ClockName.{ClockName}
 
@@ -73,12 +71,18 @@ unfoldable pub shown : R.Outcome Q.Shown → Response
 shown (R.refused row hour) = refused row hour
 shown (R.given a) = valueTold a
 
--- Dates: a figure, or a refusal, whose row has no hour of its own
+-- What questions about a date answer: a number; a clock name with its mark, which has no hour beside its row
 
-unfoldable pub ofCounted : Counted → Response
-ofCounted (CV.Refused n) = refused n 0
-ofCounted (CV.Given n) = figure (pos n)
+unfoldable pub counted : R.Outcome ℕ → Response
+counted (R.refused row hour) = refused row hour
+counted (R.given n) = figure (pos n)
 
-unfoldable pub ofNamed : Named → ClockName
-ofNamed (NV.Refused n) = record { row = n; name = 0; second = false; reserved = 0; reserved2 = 0 }
-ofNamed (NV.Given c) = record { row = 0; name = c .name; second = c .second; reserved = 0; reserved2 = 0 }
+abbrev pub unnamed : ℕ → ClockName
+unnamed row = record { row = row; name = 0; second = false; reserved = 0; reserved2 = 0 }
+
+abbrev pub clockTold : H.Clock → ClockName
+clockTold c = record { row = 0; name = c .name; second = c .second; reserved = 0; reserved2 = 0 }
+
+unfoldable pub named : R.Outcome H.Clock → ClockName
+named (R.refused row hour) = unnamed row
+named (R.given c) = clockTold c

@@ -1,9 +1,7 @@
-// What the gate says, as the plain struct that C is handed: the one answer of every call and query.
+// What the gate says, as the plain struct that C is handed: the one answer of every call, query and question about a date.
 ghost use mathlib.Core.Path.{_≡_};
 ghost use lib.IntN.{pos};
 ghost use Rattle.answer.specs.Told as T;
-use calendar::Counted;
-use calendar::Named;
 
 // An answer. Its kind says which of the other fields hold something; those that do not are 0, and so is what is reserved, which leaves
 // no padding for C.
@@ -169,34 +167,15 @@ pub fn absent() -> Response
     plain(ABSENT)
 }
 
-// Dates: a refusal, whose row has no hour of its own, or what was asked for.
-
-pub fn of_counted(c: Counted) -> Response
-    ensures { λ r. ⌜ r ≡ T.ofCounted c ⌝ }
+// No clock name: the refusal table's number.
+pub fn unnamed(row: u32) -> ClockName
+    ensures { λ r. ⌜ r ≡ T.unnamed row ⌝ }
 {
-    match c {
-        Counted::Refused(row) => refused(row, 0),
-        Counted::Given(n) => number(n),
-    }
-}
-
-pub fn of_named(n: Named) -> ClockName
-    ensures { λ r. ⌜ r ≡ T.ofNamed n ⌝ }
-{
-    match n {
-        Named::Refused(row) => ClockName {
-            row,
-            name: 0,
-            second: false,
-            reserved: 0,
-            reserved2: 0,
-        },
-        Named::Given(c) => ClockName {
-            row: 0,
-            name: c.name,
-            second: c.second,
-            reserved: 0,
-            reserved2: 0,
-        },
+    ClockName {
+        row,
+        name: 0,
+        second: false,
+        reserved: 0,
+        reserved2: 0,
     }
 }

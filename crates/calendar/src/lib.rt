@@ -3,10 +3,16 @@ ghost use mathlib.Core.Path.{_≡_};
 ghost use mathlib.Core.Bool.{true};
 ghost use Prim.Native.Nat.{_≤_};
 ghost use Rattle.rules.specs.Hours.{isDate, hoursOf, clockName, clockOf, hourOf, hoursAt, clockAt, hourAt};
-ghost use Rattle.calendar.specs.View.{dateIn, clockIn, clockAs, countedAs, namedAs};
+ghost use Rattle.answer.specs.Told.{counted, clockTold, named};
+ghost use Rattle.calendar.specs.View.{dateIn, clockIn};
 
 pub mod dates;
 
+use answer::ClockName;
+use answer::Response;
+use answer::number;
+use answer::refused;
+use answer::unnamed;
 use rules::LONG_DAY;
 use rules::SHORT_DAY;
 use rules::row::DATE;
@@ -28,18 +34,6 @@ pub struct Clock {
     pub reserved2: u16,
 }
 
-// The number asked for, or the refusal table's number.
-pub enum Counted {
-    Refused(u32),
-    Given(u32),
-}
-
-// The clock name asked for, or the refusal table's number.
-pub enum Named {
-    Refused(u32),
-    Given(Clock),
-}
-
 // "Dates run from 2002-01-01 to 2099-12-31, Gregorian."
 pub fn is_date(d: Date) -> bool
     ensures { λ r. ⌜ r ≡ isDate (dateIn d) ⌝ }
@@ -55,13 +49,13 @@ pub fn hours_of(d: Date) -> u32
 }
 
 // The number of hours of a date.
-pub fn hours_at(d: Date) -> Counted
-    ensures { λ r. ⌜ r ≡ countedAs (hoursAt (dateIn d)) ⌝ }
+pub fn hours_at(d: Date) -> Response
+    ensures { λ r. ⌜ r ≡ counted (hoursAt (dateIn d)) ⌝ }
 {
     if !is_date(d) {
-        return Counted::Refused(DATE);
+        return refused(DATE, 0);
     }
-    Counted::Given(hours_of(d))
+    number(hours_of(d))
 }
 
 // "on 24 hours h−1; on 23, h−1 up to hour 2, then h; on 25, h−1 up to hour 3, then h−2"
@@ -85,20 +79,22 @@ fn clock_name(hours: u32, hour: u32) -> u32
 }
 
 // "Hours 3 and 4 of a 25-hour day are both named 2, the first unmarked, the second marked"
-fn clock_of(hours: u32, hour: u32) -> Clock
+fn clock_of(hours: u32, hour: u32) -> ClockName
     requires { ⌜ 1 ≤ hour ⌝ }
-    ensures { λ r. ⌜ r ≡ clockAs (clockOf hours hour) ⌝ }
+    ensures { λ r. ⌜ r ≡ clockTold (clockOf hours hour) ⌝ }
 {
     let name = clock_name(hours, hour);
     if hours == LONG_DAY {
-        return Clock {
+        return ClockName {
+            row: 0,
             name,
             second: hour == 4,
             reserved: 0,
             reserved2: 0,
         };
     }
-    Clock {
+    ClockName {
+        row: 0,
         name,
         second: false,
         reserved: 0,
@@ -107,20 +103,20 @@ fn clock_of(hours: u32, hour: u32) -> Clock
 }
 
 // The clock name and mark of an hour of a date.
-pub fn clock_at(d: Date, hour: u32) -> Named
-    ensures { λ r. ⌜ r ≡ namedAs (clockAt (dateIn d) hour) ⌝ }
+pub fn clock_at(d: Date, hour: u32) -> ClockName
+    ensures { λ r. ⌜ r ≡ named (clockAt (dateIn d) hour) ⌝ }
 {
     if !is_date(d) {
-        return Named::Refused(DATE);
+        return unnamed(DATE);
     }
     if hour == 0 {
-        return Named::Refused(HOUR);
+        return unnamed(HOUR);
     }
     let hours = hours_of(d);
     if hours < hour {
-        return Named::Refused(HOUR);
+        return unnamed(HOUR);
     }
-    Named::Given(clock_of(hours, hour))
+    clock_of(hours, hour)
 }
 
 // The hour of a name that is marked: of two o'clock on the long day.
@@ -161,15 +157,15 @@ fn hour_of(hours: u32, c: Clock) -> u32
 }
 
 // The hour of a clock name and mark of a date.
-pub fn hour_at(d: Date, c: Clock) -> Counted
-    ensures { λ r. ⌜ r ≡ countedAs (hourAt (dateIn d) (clockIn c)) ⌝ }
+pub fn hour_at(d: Date, c: Clock) -> Response
+    ensures { λ r. ⌜ r ≡ counted (hourAt (dateIn d) (clockIn c)) ⌝ }
 {
     if !is_date(d) {
-        return Counted::Refused(DATE);
+        return refused(DATE, 0);
     }
     let hour = hour_of(hours_of(d), c);
     if hour == 0 {
-        return Counted::Refused(HOUR);
+        return refused(HOUR, 0);
     }
-    Counted::Given(hour)
+    number(hour)
 }

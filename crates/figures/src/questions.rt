@@ -1,8 +1,9 @@
 // The questions of `figures` that no hour answers: of dates and of messages. A line's numbers, and what is written of an answer.
+use answer::ClockName;
+use answer::REFUSED;
+use answer::Response;
 use calendar::Clock;
-use calendar::Counted;
 use calendar::Date;
-use calendar::Named;
 use message::Fields;
 use message::Reading;
 ghost use Prim.Native.Nat.{_<_};
@@ -112,17 +113,24 @@ fn date_of(n: Numbers) -> Date {
     }
 }
 
-fn put_counted(c: Counted) {
-    match c {
-        Counted::Refused(n) => put_refusal(n),
-        Counted::Given(n) => {
-            put_number(n);
-            put(b"\n");
-        }
+// How far a number is above zero.
+fn above(n: i64) -> u64 {
+    if n < 0 {
+        return 0;
     }
+    n as u64
 }
 
-fn put_clock(c: Clock) {
+fn put_counted(r: Response) {
+    if r.kind == REFUSED {
+        put_refusal(r.row);
+        return;
+    }
+    io::print_decimal(STDOUT, above(r.value));
+    put(b"\n");
+}
+
+fn put_clock(c: ClockName) {
     put_number(c.name);
     if c.second {
         put(b" second");
@@ -130,11 +138,12 @@ fn put_clock(c: Clock) {
     put(b"\n");
 }
 
-fn put_named(c: Named) {
-    match c {
-        Named::Refused(n) => put_refusal(n),
-        Named::Given(clock) => put_clock(clock),
+fn put_named(c: ClockName) {
+    if c.row != 0 {
+        put_refusal(c.row);
+        return;
     }
+    put_clock(c);
 }
 
 // " 3:120@4500", in an hour that has energy.

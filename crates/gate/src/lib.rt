@@ -7,9 +7,9 @@ ghost use Rattle.rules.specs.Hours.{hoursAt, clockAt, hourAt};
 ghost use Rattle.rules.specs.Message.{read as reading, write as writing, bufferAfter};
 ghost use Rattle.rules.specs.DayBook.{register, lodge, annul, close, clear};
 ghost use Rattle.rules.specs.Queries as Q;
-ghost use Rattle.calendar.specs.View.{dateIn, clockIn, countedAs, namedAs};
+ghost use Rattle.calendar.specs.View.{dateIn, clockIn};
 ghost use Rattle.message.specs.View.{fieldsIn, readingAs, writtenAs};
-ghost use Rattle.answer.specs.Told.{ofCounted, ofNamed};
+ghost use Rattle.answer.specs.Told.{counted, named};
 ghost use Rattle.session.specs.Image.{unitIn, keyIn};
 ghost use Rattle.session.specs.Steps.{Opens, Met};
 ghost use Rattle.notify_unavailability.specs.Notices.{availableIn};
@@ -65,28 +65,25 @@ pub extern "C" fn gate_open(date: Date) -> Opened
 // The number of hours of a date: 1.
 #[no_mangle]
 pub extern "C" fn gate_hours(date: Date) -> Response
-    ensures { λ r. ⌜ r ≡ ofCounted (countedAs (hoursAt (dateIn date))) ⌝ }
+    ensures { λ r. ⌜ r ≡ counted (hoursAt (dateIn date)) ⌝ }
 {
-    let c = calendar::hours_at(date);
-    answer::of_counted(c)
+    calendar::hours_at(date)
 }
 
 // The clock name and mark of an hour of a date: 1, 4.
 #[no_mangle]
 pub extern "C" fn gate_clock(date: Date, hour: u32) -> ClockName
-    ensures { λ r. ⌜ r ≡ ofNamed (namedAs (clockAt (dateIn date) hour)) ⌝ }
+    ensures { λ r. ⌜ r ≡ named (clockAt (dateIn date) hour) ⌝ }
 {
-    let n = calendar::clock_at(date, hour);
-    answer::of_named(n)
+    calendar::clock_at(date, hour)
 }
 
 // The hour of a clock name and mark of a date: 1, 4.
 #[no_mangle]
 pub extern "C" fn gate_hour(date: Date, clock: Clock) -> Response
-    ensures { λ r. ⌜ r ≡ ofCounted (countedAs (hourAt (dateIn date) (clockIn clock))) ⌝ }
+    ensures { λ r. ⌜ r ≡ counted (hourAt (dateIn date) (clockIn clock)) ⌝ }
 {
-    let c = calendar::hour_at(date, clock);
-    answer::of_counted(c)
+    calendar::hour_at(date, clock)
 }
 
 // Messages

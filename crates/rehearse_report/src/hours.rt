@@ -3,12 +3,11 @@ use crate::text::put;
 use crate::text::put_left;
 use crate::text::put_number_right;
 use crate::text::put_two_digits;
-use calendar::Clock;
+use answer::ClockName;
 use calendar::Date;
-use calendar::Named;
 
 // "02 second"
-fn put_clock(c: Clock) {
+fn put_clock(c: ClockName) {
     put_two_digits(c.name);
     if c.second {
         put(b" second");
@@ -22,9 +21,10 @@ pub fn put_hour(date: Date, hour: u32) {
     put(b"  ");
     put_number_right(hour, 4);
     put(b"  ");
-    let named = calendar::clock_at(date, hour);
-    match named {
-        Named::Refused(row) => put_left(b"-", 9),
-        Named::Given(c) => put_clock(c),
+    let c = calendar::clock_at(date, hour);
+    if c.row != 0 {
+        put_left(b"-", 9);
+    } else {
+        put_clock(c);
     }
 }

@@ -7,16 +7,20 @@ use borrow.Author.Needs.{needs}
 use Rattle.rules.specs.Refusals.{row, outcome, Refusals·all}
 use Rattle.rules.specs.Hours.{dateRow, hourAt, hourRows}
 use Rattle.rules.proofs.HoursLaws.{hours-least, hours-most}
-use Rattle.calendar.specs.View.{dateIn, clockIn, countedAs}
+use Rattle.answer.specs.Told.{counted}
+use Rattle.calendar.specs.View.{dateIn, clockIn}
 use Rattle.calendar.proofs.hour_at.Statement.{statement}
 use Rattle.calendar.proofs.hour_at.Tie as tie
 
 is-date-requires : tie.Need-is-date-requires
 is-date-requires c κs = search needs
 
+refused-requires : tie.Need-refused-requires
+refused-requires c κs = search needs
+
 returns : tie.Need-returns
-unfolding countedAs hourAt hourRows dateRow Refusals·all
-returns c = rw (← c .before .is-date .ensures, c .if1 .taken)
+unfolding counted hourAt hourRows dateRow Refusals·all
+returns c = rw (← c .before .before .is-date .ensures, c .before .if1 .taken) (c .refused .ensures)
 
 hours-of-requires : tie.Need-hours-of-requires
 hours-of-requires c κs = search needs
@@ -40,15 +44,21 @@ found c =
       ← c .hour-of .ensures,
     )
 
+refused-requires-2 : tie.Need-refused-requires-2
+refused-requires-2 c κs = search needs
+
 returns-2 : tie.Need-returns-2
-unfolding countedAs Refusals·all
-returns-2 c = rw (found (c .before), eq-eqb _ _ (c .if2 .taken))
+unfolding counted Refusals·all
+returns-2 c = rw (found (c .before .before), eq-eqb _ _ (c .before .if2 .taken)) (c .refused2 .ensures)
+
+number-requires : tie.Need-number-requires
+number-requires c κs = search needs
 
 returns-3 : tie.Need-returns-3
-unfolding countedAs Refusals·all
-returns-3 c = rw (found (c .before), ne-eqb _ _ (c .if2 .left))
+unfolding counted Refusals·all
+returns-3 c = rw (found (c .before .before), ne-eqb _ _ (c .before .if2 .left)) (c .number .ensures)
 
 pub hour-at-spec : {M : Type 1} → statement M
 hour-at-spec =
     tie.close
-    (tie.spec is-date-requires returns hours-of-requires hour-of-requires returns-2 returns-3)
+    (tie.spec is-date-requires refused-requires returns hours-of-requires hour-of-requires refused-requires-2 returns-2 number-requires returns-3)

@@ -41,7 +41,7 @@ element-copy-out-if1-2 : tie.Need-element-copy-out-if1-2 Inv-loop μ-loop
 element-copy-out-if1-2 c = search needs
 
 returns : tie.Need-returns Inv-loop μ-loop
-returns c = lacks (c .before .before .before .before .loop .h) (omega arith) (c .if1 .taken)
+returns c = lacks (c .before .before .before .before .loop .h) (omega arith) (omega (arith, c .if1 .taken))
 
 add-h : tie.Need-add-h Inv-loop μ-loop
 add-h c = search needs
