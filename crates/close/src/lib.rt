@@ -6,6 +6,7 @@ ghost use Rattle.session_changes.specs.Changes.{closingEffect};
 ghost use Rattle.close.specs.Closed.{closedEffect};
 use answer::accepted;
 use close_ceilings::ceilings_of;
+use close_ceilings::lines_of;
 use close_holders::holders_of;
 use close_order::DEFAULT;
 use close_order::NORMAL;
@@ -38,10 +39,39 @@ fn verdicts(s: Session) -> [Verdict; LODGEMENTS]
     let lodgements = s.lodgements;
     let loads = loads_of(s.standing, energies);
     let holders = holders_of(units, s.enrolled, lodgements, s.standing);
-    let mut room = ceilings_of(units, notices, capacities, s.enrolled);
-    let normal = pass(s, &loads, &holders, &mut room, NORMAL, none);
-    let executions = pass(s, &loads, &holders, &mut room, DEFAULT, normal);
-    pass(s, &loads, &holders, &mut room, OFFERS, executions)
+    let lines = lines_of(capacities);
+    let mut room = ceilings_of(units, notices, &lines, s.enrolled);
+    let mut marks = [false; LODGEMENTS];
+    let normal = pass(
+        s,
+        &loads,
+        &holders,
+        &lines,
+        &mut room,
+        &mut marks,
+        NORMAL,
+        none,
+    );
+    let executions = pass(
+        s,
+        &loads,
+        &holders,
+        &lines,
+        &mut room,
+        &mut marks,
+        DEFAULT,
+        normal,
+    );
+    pass(
+        s,
+        &loads,
+        &holders,
+        &lines,
+        &mut room,
+        &mut marks,
+        OFFERS,
+        executions,
+    )
 }
 
 // What closing changes: 2.

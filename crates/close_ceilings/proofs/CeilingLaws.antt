@@ -37,7 +37,7 @@ row-none : (cs : List Notice) (b h : ℕ) → length cs ≡ 8 → 4 < b → line
 unfolding lineAt
 row-none cs b h e k = ap lineOf (sym (off-domestic cs 0 (suc h) refl) ∙ off-borders cs b (suc h) (λ z. absurd (omega arith)) e k)
 
-row-as : (cs : List Notice) (b h : ℕ) → length cs ≡ 8 → lineAt cs (lineRow b) h ≡ lineAt cs b h
+pub row-as : (cs : List Notice) (b h : ℕ) → length cs ≡ 8 → lineAt cs (lineRow b) h ≡ lineAt cs b h
 unfolding lineRow
 row-as cs b h e = by-bool (ltb 4 b) (λ t. rw t (row-none cs b h e (ltb-true 4 b t))) (λ t. rw t)
 
@@ -65,7 +65,7 @@ ceiling-as u n cs lines h m l e =
     (ceiling-by (n .given) (u .maximum) (getD (n .energies) h 0) (borderSum (map noticeIn cs) (u .border) (suc h)) m
     ∙ ap (λ a. min (u .maximum) (min a (leastOf (u .maximum) (borderSum (map noticeIn cs) (u .border) (suc h) ∷ [])))) (sym (available-at (n .given) (n .energies) (u .maximum) h)))
 
-row-in : (b : ℕ) → lineRow b < 5
+pub row-in : (b : ℕ) → lineRow b < 5
 unfolding lineRow
 row-in b = by-bool (ltb 4 b) (λ t. rw t (omega arith)) (λ t. rw t (omega (arith, ltb-false 4 b t)))
 

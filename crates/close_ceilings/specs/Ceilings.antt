@@ -5,7 +5,7 @@ use mathlib.Core.Bool.{Bool, cond}
 use mathlib.Core.List.{List, map}
 use mathlib.Core.Option.{Option, some, none}
 use lib.Dec.{ltb}
-use lib.ListN.{getD}
+use lib.ListN.{length, getD}
 use Rattle.rules.specs.Units.{borderSum, ceiling}
 use Rattle.session.specs.Bare.{bareNotice}
 use Rattle.session.specs.Image.{noUnit}
@@ -32,6 +32,11 @@ lineOf (some n) = min n most
 -- that of a border, the hours counted from 0
 unfoldable pub lineAt : List Notice → ℕ → ℕ → ℕ
 lineAt cs border h = lineOf (borderSum (map noticeIn cs) border (suc h))
+
+-- the array has limit 12 by border and hour, 25 numbers for each border
+pub record LinesOf (cs : List Notice) (lines : List ℕ) : Type 0 where
+  pub eight : length cs ≡ 8
+  pub at : (b h : ℕ) → b < 5 → h < 25 → getD lines (b * 25 + h) 0 ≡ lineAt cs b h
 
 unfoldable pub lineRow : ℕ → ℕ
 lineRow border = cond (ltb 4 border) 0 border

@@ -1,8 +1,10 @@
 // The ceilings of units by hour: "the ceiling of a unit in an hour is the least of" its limits.
 ghost use mathlib.Core.Path.{_≡_};
+ghost use mathlib.Core.List.{List};
 ghost use Prim.Native.Nat.{ℕ, _+_, _*_, _<_, _≤_};
 ghost use lib.ListN.{getD, length};
-ghost use Rattle.close_ceilings.specs.Ceilings.{most, lineBy, lineIn, lineAt, lineRow, ceilingBy, ceilingIn, ceilingAt, RowAt};
+ghost use Rattle.session.specs.declared.Notice.{Notice};
+ghost use Rattle.close_ceilings.specs.Ceilings.{most, lineBy, lineIn, lineAt, LinesOf, lineRow, ceilingBy, ceilingIn, ceilingAt, RowAt};
 use arrays::lower;
 use judge_limits::BorderLimit;
 use judge_limits::border_limit;
@@ -40,8 +42,8 @@ fn lay_line(lines: &mut [u32; BORDERS * HOURS + HOURS], border: usize, limit: Bo
 }
 
 // Limit 12 by border and hour, 25 numbers for each border.
-fn lines_of(capacities: [Notice; DIRECTIONS]) -> [u32; BORDERS * HOURS + HOURS]
-    ensures { λ r. ⌜ ((b h : ℕ) → b < 5 → h < 25 → getD r (b * 25 + h) 0 ≡ lineAt capacities b h) ⌝ }
+pub fn lines_of(capacities: [Notice; DIRECTIONS]) -> [u32; BORDERS * HOURS + HOURS]
+    ensures { λ r. ⌜ LinesOf capacities r ⌝ }
 {
     let mut lines = [0u32; BORDERS * HOURS + HOURS];
     for b in 0..5 {
@@ -60,6 +62,18 @@ fn line_row(border: u32) -> usize
         return 0;
     }
     border as usize
+}
+
+// Limit 12 of a border by hour, as it is laid.
+pub fn line_of(lines: &[u32; BORDERS * HOURS + HOURS], border: u32) -> [u64; HOURS]
+    ensures { λ r. ⌜ ((cs : List Notice) → LinesOf cs (now (lines .entry)) → (h : ℕ) → h < 25 → getD r h 0 ≡ lineAt cs border h) ⌝ }
+{
+    let row = line_row(border);
+    let mut line = [0u64; HOURS];
+    for h in 0..HOURS {
+        line[h] = arrays::wide(lines[row * HOURS + h]);
+    }
+    line
 }
 
 // The least of the limits in an hour: "without one, the maximum is available".
@@ -99,18 +113,18 @@ fn lay_unit(
 pub fn ceilings_of(
     units: [Unit; UNITS],
     notices: [Notice; UNITS],
-    capacities: [Notice; DIRECTIONS],
+    lines: &[u32; BORDERS * HOURS + HOURS],
     n: usize,
 ) -> [u32; UNITS * HOURS + HOURS]
     requires { ⌜ n ≤ 64 ⌝ }
-    ensures { λ r. ⌜ ((p h : ℕ) → p < n → h < 25 → getD r (p * 25 + h) 0 ≡ ceilingAt units notices capacities p h) ⌝ }
+    ensures { λ r. ⌜ ((cs : List Notice) → LinesOf cs (now (lines .entry))
+        → (p h : ℕ) → p < n → h < 25 → getD r (p * 25 + h) 0 ≡ ceilingAt units notices cs p h) ⌝ }
 {
-    let lines = lines_of(capacities);
     let mut ceilings = [0u32; UNITS * HOURS + HOURS];
     for p in 0..n {
         let u = units[p];
         let notice = notices[p];
-        lay_unit(&mut ceilings, p, u, notice, &lines);
+        lay_unit(&mut ceilings, p, u, notice, lines);
     }
     ceilings
 }

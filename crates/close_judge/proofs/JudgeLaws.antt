@@ -19,8 +19,8 @@ use Rattle.rules.specs.Demands.{classOf, takenBefore, verdictOf, acceptedBefore
 use Rattle.rules.proofs.BoolLaws.{both}
 use Rattle.rules.proofs.ListLaws.{all-at, keep-keep}
 use Rattle.rules.proofs.ClosingLaws.{verdict-with}
-use Rattle.session.specs.Bare.{bareEnergies}
-use Rattle.session.specs.Image.{image, Sound, unitAs, noticeAs, verdictAs, noLodgement}
+use Rattle.session.specs.Bare.{bareNotice, bareEnergies}
+use Rattle.session.specs.Image.{image, Sound, unitOf, unitAs, noticeAs, verdictAs, noUnit, noLodgement}
 use Rattle.session.specs.Parts.{Within, judgement, numberIs, indexOf}
 use Rattle.session.specs.declared.Session.{Session}
 use Rattle.session.specs.declared.Unit.{Unit}
@@ -29,15 +29,16 @@ use Rattle.session.specs.declared.Lodgement.{Lodgement}
 use Rattle.session.specs.declared.Energies.{Energies}
 use Rattle.session.specs.declared.Verdict.{Verdict}
 use Rattle.session.specs.declared.Ruling.{Ruling}
-use Rattle.session.proofs.ImageLaws.{standing-as, hours-as, capacities-as, energies-as, registered-as, unit-as, notice-as}
+use Rattle.session.proofs.ImageLaws.{standing-as, hours-as, enrolled-as, units-as, capacities-as, energies-as, registered-as, unit-as, notice-as}
 use Rattle.session.proofs.IndexLaws.{indexed, getD-map}
 use Rattle.judge_loads.specs.Loads.{marked, energyIn, loadIn, loadBy}
+use Rattle.close_holders.specs.Holders.{holderAt}
 use Rattle.judge_limits.specs.Limits.{judgedIn}
 use Rattle.judge_limits.proofs.NoticeLaws.{judged-as}
 use Rattle.judge_loads.proofs.MarkLaws.{load-keep}
 use Rattle.judge_limits.proofs.IndexLaws.{judged-indices, judged-same}
-use Rattle.close_judge.specs.Classes.{beyond, standingAt, verdictAt, classAt, isTaken, Reached, Loaded, JudgesAt, countsOn, countsAt, verdictBy}
-use Rattle.close_judge.proofs.CountLaws.{length-from, indices-at, counted-as}
+use Rattle.close_judge.specs.Classes.{beyond, standingAt, verdictAt, classAt, isTaken, Reached, Loaded, Held, UnitAt, Marks, JudgesAt, countsOn, countsAt, heldAt, verdictBy}
+use Rattle.close_judge.proofs.CountLaws.{length-from, indices-at, counted-as, indices-tell, marked-same}
 use Rattle.close_judge.proofs.IndexLaws.{verdictSoFar, so-far}
 use Rattle.close_judge.proofs.ClassLaws.{closing-before, taken-class, verdict-at}
 use Rattle.close_judge.proofs.StandingLaws.{stands, lodgement-at, energies-at, loaded-at}
@@ -111,6 +112,11 @@ module _ (s : Session) (b : Book) (sound : Sound b) (e : s ≡ image b) (vs : Li
 
 -- The code's ways out
 
+-- the index of its unit
+pub held-index : (s : Session) (hs : List ℕ) (i : ℕ) → i < s .standing → Held s hs → getD hs i 0 ≡ indexOf (numberIs (getD (s .lodgements) i noLodgement .key .unit)) (take (s .enrolled) (s .units))
+unfolding holderAt
+held-index s hs i h held = held .at i h
+
 module _ (s : Session) (vs : List Verdict) (i : ℕ) (h : i < s .standing) (dl : Lodgement) where
   abbrev unitHere : ℕ
   unitHere = getD (s .lodgements) i dl .key .unit
@@ -125,9 +131,6 @@ module _ (s : Session) (vs : List Verdict) (i : ℕ) (h : i < s .standing) (dl :
       omega (arith, indexed (numberIs unitHere) (take (s .enrolled) (s .units)) m, length-take (s .enrolled) (s .units))
 
   module _ (p : ℕ) (at : p ≡ indexOf (numberIs unitHere) (take (s .enrolled) (s .units))) where
-    pub judge-absent : (v : Verdict) → s .enrolled ≤ p → JudgesAt s vs i v
-    judge-absent v k b class sound e r t = absurd (omega (arith, unit-indexed b sound e))
-
     pub judge-given : (de : Energies) (du : Unit) (dn : Notice) (ms : List Bool) (j : Ruling) (v : Verdict) → p < s .enrolled
         → ms ≡ map (countsAt unitHere vs (s .lodgements)) (from 0 128)
         → j ≡ judgedIn (getD (s .units) p du) (getD (s .notices) p dn) (s .capacities) false (s .hours) (getD (s .energies) i de .energies) (loadIn (getD (s .energies) i de .energies) ms (take (s .standing) (s .energies)))
@@ -140,7 +143,7 @@ module _ (s : Session) (vs : List Verdict) (i : ℕ) (h : i < s .standing) (dl :
         (unit-as s b e (standingAt b i .key .unit) p here k du) (notice-as s b e (standingAt b i .key .unit) p here k dn) (ap (λ (x : Energies). x .energies) (energies-at s b e i h de)))
 
     -- and with the energies lent, by the indices of those that are counted
-    pub judge-lent : (du : Unit) (dn : Notice) (own : List ℕ) (ms : List Bool) (loads ps : List ℕ) (j : Ruling) (v : Verdict) → p < s .enrolled
+    judge-lent : (du : Unit) (dn : Notice) (own : List ℕ) (ms : List Bool) (loads ps : List ℕ) (j : Ruling) (v : Verdict) → p < s .enrolled
         → Within s → ((x : ℕ) → x < 25 → getD own x 0 ≡ getD loads (i * 25 + x) 0) → Loaded s loads
         → ms ≡ map (countsAt unitHere vs (s .lodgements)) (from 0 128) → ps ≡ marked ms (from 0 (s .standing))
         → j ≡ judgedIn (getD (s .units) p du) (getD (s .notices) p dn) (s .capacities) false (s .hours) own (loadBy own loads ps)
@@ -161,3 +164,31 @@ module _ (s : Session) (vs : List Verdict) (i : ℕ) (h : i < s .standing) (dl :
 
         load-same : (x : ℕ) → hourly own x ≡ hourly here x → loadIn own ms (take (s .standing) (s .energies)) x ≡ loadIn here ms (take (s .standing) (s .energies)) x
         load-same x e = ap (λ n. n + sumOf (energyIn x) (marked ms (take (s .standing) (s .energies)))) e
+
+    -- one counts by the index of its unit as by the unit's number
+    held-counts : (ms : List Bool) (hs : List ℕ) → Within s → Held s hs → Marks vs ms → p < length (take (s .enrolled) (s .units))
+        → (x : ℕ) → x < s .standing → heldAt p ms hs x ≡ countsAt unitHere vs (s .lodgements) x
+    unfolding heldAt countsAt countsOn holderAt
+    held-counts ms hs w held em k x l =
+        rw (em .at x (omega (arith, w .standing)), held .at x l, at, indices-tell (take (s .enrolled) (s .units)) unitHere (getD (s .lodgements) x noLodgement .key .unit) (omega (arith, at)))
+
+    -- with the indices of the units and the marks of those accepted lent
+    pub judge-held : (u : Unit) (n : Notice) (own : List ℕ) (ms : List Bool) (hs loads ps : List ℕ) (j : Ruling) (v : Verdict) → UnitAt s p u n
+        → Within s → ((x : ℕ) → x < 25 → getD own x 0 ≡ getD loads (i * 25 + x) 0) → Loaded s loads → Held s hs → Marks vs ms
+        → ps ≡ marked (map (heldAt p ms hs) (from 0 128)) (from 0 (s .standing))
+        → j ≡ judgedIn u n (s .capacities) false (s .hours) own (loadBy own loads ps)
+        → v ≡ verdictBy j → JudgesAt s vs i v
+    judge-held u n own ms hs loads ps j v un w eo lent held em ep ej ev b class sound e r t =
+        judge-lent noUnit bareNotice own (map (countsAt unitHere vs (s .lodgements)) (from 0 128)) loads ps j v indexed w eo lent refl (ep ∙ same) (ej ∙ rw (un .unit, un .notice)) ev b class sound e r t
+      where
+        indexed : p < s .enrolled
+        indexed = omega (arith, at, unit-indexed b sound e)
+
+        full : length (take (s .enrolled) (s .units)) ≡ s .enrolled
+        full = ap length (units-as s b e) ∙ length-map (b .units) unitOf ∙ enrolled-as s b e
+
+        same : marked (map (heldAt p ms hs) (from 0 128)) (from 0 (s .standing)) ≡ marked (map (countsAt unitHere vs (s .lodgements)) (from 0 128)) (from 0 (s .standing))
+        same = marked-same (map (heldAt p ms hs) (from 0 128)) (map (countsAt unitHere vs (s .lodgements)) (from 0 128)) (from 0 (s .standing))
+            (length-map (from 0 128) (heldAt p ms hs) ∙ sym (length-map (from 0 128) (countsAt unitHere vs (s .lodgements))))
+            (λ x l. let m : x < s .standing = omega (arith, length-from 0 (s .standing)) in
+            indices-at (heldAt p ms hs) 128 false x (omega (arith, w .standing)) ∙ held-counts ms hs w held em (omega (arith, full, indexed)) x m ∙ sym (indices-at (countsAt unitHere vs (s .lodgements)) 128 false x (omega (arith, w .standing))))

@@ -1,5 +1,5 @@
 -- How far a closing has come, and what the session's verdicts are there.
-use Prim.Native.Nat.{ℕ, _+_, _≤_}
+use Prim.Native.Nat.{ℕ, _+_, _≤_, _<_}
 use mathlib.Core.Path.{_≡_}
 use mathlib.Core.Bool.{Bool, true, false, not, _&&_, _||_}
 use mathlib.Core.List.{List, []}
@@ -9,8 +9,13 @@ use Rattle.rules.specs.Lodging as L
 use Rattle.rules.specs.Book.{Book}
 use Rattle.rules.specs.Closing as C
 use Rattle.rules.specs.Demands.{classOf}
-use Rattle.session.specs.Image.{image, Sound, verdictAs, noVerdict, noLodgement}
+use Rattle.session.specs.Bare.{bareNotice}
+use Rattle.session.specs.Image.{image, Sound, verdictAs, noUnit, noVerdict, noLodgement}
 use Rattle.judge_loads.specs.Loads.{LoadsOf}
+use Rattle.close_ceilings.specs.Ceilings.{LinesOf}
+use Rattle.close_holders.specs.Holders.{holderAt}
+use Rattle.session.specs.declared.Unit.{Unit}
+use Rattle.session.specs.declared.Notice.{Notice}
 use Rattle.session.specs.declared.Lodgement.{Lodgement}
 use Rattle.session.specs.declared.Verdict.{Verdict}
 use Rattle.session.specs.declared.Session.{Session}
@@ -61,6 +66,30 @@ pub record Loaded (s : Session) (loads : List ℕ) : Type 0 where
   pub room : s .standing ≤ length (s .energies)
   pub energies : LoadsOf (take (s .standing) (s .energies)) loads
 
+-- the array has the index of each standing one's unit
+pub record Held (s : Session) (holders : List ℕ) : Type 0 where
+  pub at : (j : ℕ) → j < s .standing → getD holders j 0 ≡ holderAt (s .units) (s .enrolled) (s .lodgements) j
+  pub most : (j : ℕ) → getD holders j 0 ≤ s .enrolled
+
+-- The arrays that are lent to a judgement.
+pub record Prepared (s : Session) (loads holders sums : List ℕ) : Type 0 where
+  -- each standing lodgement's energies by hour
+  pub energies : Loaded s loads
+  -- the index of each one's unit
+  pub units : Held s holders
+  -- limit 12 by border and hour
+  pub lines : LinesOf (s .capacities) sums
+
+-- the unit at an index, and its notice
+pub record UnitAt (s : Session) (p : ℕ) (u : Unit) (n : Notice) : Type 0 where
+  pub unit : u ≡ getD (s .units) p noUnit
+  pub notice : n ≡ getD (s .notices) p bareNotice
+
+-- the marks of the verdicts that accept
+pub record Marks (vs : List Verdict) (marks : List Bool) : Type 0 where
+  pub long : length marks ≡ 128
+  pub at : (j : ℕ) → j < 128 → getD marks j false ≡ getD vs j noVerdict .accepted
+
 -- What judging a lodgement promises
 
 -- the verdict of an index that is taken, by those before it
@@ -76,6 +105,10 @@ countsOn unit v l = v .accepted && eqb (l .key .unit) unit
 
 unfoldable pub countsAt : ℕ → List Verdict → List Lodgement → ℕ → Bool
 countsAt unit vs ls j = countsOn unit (getD vs j noVerdict) (getD ls j noLodgement)
+
+-- the same by the index of the unit, and by marks
+unfoldable pub heldAt : ℕ → List Bool → List ℕ → ℕ → Bool
+heldAt p marks holders j = getD marks j false && eqb (getD holders j 0) p
 
 -- a judgement by the limits as a verdict
 unfoldable pub verdictBy : Ruling → Verdict

@@ -1,49 +1,88 @@
 // One lodgement's verdict at closing (document 01, "Closing").
 ghost use mathlib.Core.Path.{_≡_};
-ghost use mathlib.Core.List.{map};
-ghost use Prim.Native.Nat.{ℕ, _+_, _*_, _<_};
+ghost use mathlib.Core.Bool.{false};
+ghost use mathlib.Core.List.{List, map};
+ghost use Prim.Native.Nat.{ℕ, _+_, _*_, _<_, _≤_};
 ghost use Rattle.rules.specs.Lists.{from};
-ghost use lib.ListN.{getD, length};
+ghost use lib.ListN.{getD, take, length};
+ghost use Rattle.judge_loads.specs.Loads.{IndicesOf, RowsAt, loadBy};
+ghost use Rattle.judge_limits.specs.Limits.{judgedIn};
+ghost use Rattle.close_ceilings.specs.Ceilings.{LinesOf};
 ghost use Rattle.session.specs.Parts.{Within};
+ghost use Rattle.session.specs.declared.Notice.{Notice};
+ghost use Rattle.session.specs.declared.Verdict.{Verdict};
 ghost use Rattle.session.specs.declared.Ruling.the-variants.{Clear};
-ghost use Rattle.close_judge.specs.Classes.{Loaded, countsOn, countsAt, verdictBy, JudgesAt};
-use judge_limits::judge_energy;
-use judge_loads::counted_indices;
+ghost use Rattle.close_judge.specs.Classes.{Prepared, UnitAt, Marks, heldAt, verdictBy, JudgesAt};
+use close_ceilings::line_of;
+use judge_limits::available_energies;
+use judge_limits::lowest_row;
+use judge_limits::maximum_energies;
+use judge_loads::lowest_hour;
+use rules::BORDERS;
 use rules::HOURS;
 use rules::LODGEMENTS;
-use session::Lodgement;
+use session::Notice;
 use session::Ruling;
 use session::Session;
+use session::Unit;
 use session::Verdict;
-use session::no_verdict;
-use session::units::index;
 
-// Whether a lodgement is accepted and of this unit.
-fn counts(unit: u32, v: Verdict, l: Lodgement) -> bool
-    ensures { λ r. ⌜ r ≡ countsOn unit v l ⌝ }
+// "those accepted before it on its unit": how many of the first n are marked and of the unit at index p, their indices in front of `at`.
+fn accepted_on(
+    marks: &[bool; LODGEMENTS],
+    holders: &[usize; LODGEMENTS],
+    p: usize,
+    n: usize,
+    at: &mut [usize; LODGEMENTS],
+) -> usize
+    requires { ⌜ (n ≤ 128) × (length (now at) ≡ 128) ⌝ }
+    ensures { λ r. ⌜ IndicesOf (map (heldAt p (now (marks .entry)) (now (holders .entry))) (from 0 128)) n (record { count = r; at = now (at .exit) }) ⌝ }
 {
-    let holder = l.key.unit;
-    if !v.accepted {
-        return false;
+    let mut count = 0usize;
+    for l in 0..n {
+        let is_accepted = marks[l];
+        if !is_accepted {
+            continue;
+        }
+        let holder = holders[l];
+        if holder != p {
+            continue;
+        }
+        at[count] = l;
+        count += 1;
     }
-    holder == unit
+    count
 }
 
-// "those accepted before it on its unit": the indices accepted so far, of this unit.
-fn accepted_on(
-    unit: u32,
-    verdicts: [Verdict; LODGEMENTS],
-    lodgements: [Lodgement; LODGEMENTS],
-) -> [bool; LODGEMENTS]
-    ensures { λ r. ⌜ r ≡ map (countsAt unit verdicts lodgements) (from 0 128) ⌝ }
+// The first of a unit's limits that is passed, with the lowest hour in which it is. One is looked at only where those before it are
+// not passed. Limit 12 is read as it is laid for the border, cut at what a maximum can be: what passes that passes limit 10.
+fn judge_limits(
+    unit: Unit,
+    notice: Notice,
+    lines: &[u32; BORDERS * HOURS + HOURS],
+    own: [u32; HOURS],
+    loads: &[u32],
+    at: &[usize],
+    count: usize,
+    hours: usize,
+) -> Ruling
+    requires { ⌜ (count ≤ 128) × (hours ≤ 25) × RowsAt (now at) count (now loads) ⌝ }
+    ensures { λ j. ⌜ ((cs : List Notice) → LinesOf cs (now (lines .entry))
+        → j ≡ judgedIn unit notice cs false hours own (loadBy own (now (loads .entry)) (take count (now (at .entry))))) ⌝ }
 {
-    let mut marks = [false; LODGEMENTS];
-    for j in 0..LODGEMENTS {
-        let v = verdicts[j];
-        let l = lodgements[j];
-        marks[j] = counts(unit, v, l);
+    let most = maximum_energies(unit.maximum);
+    let ten = lowest_hour(own, loads, at, count, hours, most);
+    if ten != 0 {
+        return lowest_row(ten, 0, 0);
     }
-    marks
+    let available = available_energies(unit.maximum, notice);
+    let eleven = lowest_hour(own, loads, at, count, hours, available);
+    if eleven != 0 {
+        return lowest_row(ten, eleven, 0);
+    }
+    let line = line_of(lines, unit.border);
+    let twelve = lowest_hour(own, loads, at, count, hours, line);
+    lowest_row(ten, eleven, twelve)
 }
 
 // Accepted, or "refused whole" by the first limit passed in its lowest hour.
@@ -87,45 +126,29 @@ pub fn accepted() -> Verdict
     verdict_by(Ruling::Clear)
 }
 
-// The verdict of the lodgement at an index: "its energy, plus that of those accepted before it on its unit", against the
-// unit's limits. The energies of all are lent.
+// The verdict of the lodgement at an index: "its energy, plus that of those accepted before it on its unit", against the limits of
+// its unit. What is read of all is lent: their energies, the indices of their units, the marks of those accepted. The indices of those
+// counted are put into `others`, so that no judgement clears an array.
 pub fn judge_index(
     s: Session,
+    u: Unit,
+    notice: Notice,
+    lines: &[u32; BORDERS * HOURS + HOURS],
     loads: &[u32; LODGEMENTS * HOURS],
-    verdicts: [Verdict; LODGEMENTS],
+    holders: &[usize; LODGEMENTS],
+    marks: &[bool; LODGEMENTS],
+    others: &mut [usize; LODGEMENTS],
     at: usize,
 ) -> Verdict
-    requires { ⌜ Within s × (at < s .standing) × Loaded s (now loads) ⌝ }
-    ensures { λ r. ⌜ JudgesAt s verdicts at r ⌝ }
+    requires { ⌜ Within s × (at < s .standing) × Prepared s (now loads) (now holders) (now lines)
+        × UnitAt s (getD (now holders) at 0) u notice × (length (now others) ≡ 128) ⌝ }
+    ensures { λ r. ⌜ ((vs : List Verdict) → Marks vs (now (marks .entry)) → JudgesAt s vs at r) ⌝ }
+    ensures { λ _. ⌜ length (now (others .exit)) ≡ 128 ⌝ }
 {
-    let lodgements = s.lodgements;
-    let l = lodgements[at];
-    let unit = l.key.unit;
-    let units = s.units;
-    let p = index(units, s.enrolled, unit);
-    if s.enrolled <= p {
-        // No call leaves a lodgement without its unit.
-        return no_verdict();
-    }
-    let u = units[p];
-    let notices = s.notices;
-    let notice = notices[p];
-    let capacities = s.capacities;
+    let p = holders[at];
     let own = energies_at(loads, at);
-    let counted = accepted_on(unit, verdicts, lodgements);
-    let found = counted_indices(&counted, s.standing);
-    let others = found.at;
+    let count = accepted_on(marks, holders, p, s.standing, others);
     let hours = s.hours as usize;
-    let j = judge_energy(
-        u,
-        notice,
-        capacities,
-        false,
-        own,
-        loads,
-        &others,
-        found.count,
-        hours,
-    );
+    let j = judge_limits(u, notice, lines, own, loads, others, count, hours);
     verdict_by(j)
 }

@@ -15,15 +15,20 @@ use Rattle.session.proofs.ImageLaws.{standing-as, enrolled-as, units-as}
 use Rattle.close_holders.specs.Holders.{holderAt}
 use Rattle.close_order.specs.Room.{Admitted}
 use Rattle.close_order.proofs.FitLaws.{held, admitted-taken, admitted-left}
-use Rattle.close_judge.specs.Classes.{isTaken, Loaded, JudgesAt, verdictBy}
+use Rattle.close_judge.specs.Classes.{isTaken, Loaded, Held, JudgesAt, verdictBy}
 use Rattle.close_judge.proofs.ClassLaws.{reached-past, reached-taken}
 use Rattle.close_judge.proofs.JudgeLaws.{unit-indexed}
-use Rattle.close_order.specs.Passes.{TakesAt, Held, ClosingAt}
+use Rattle.close_order.specs.Passes.{TakesAt, ClosingAt}
 use Rattle.close_order.proofs.RoomLaws.{closing-at, reached-at, kept-refused, kept-accepted, not-yet, admitted, refused}
 
 -- each one's unit has a row of the room
 pub holder-in : (s : Session) (holders : List ℕ) → Within s → Held s holders → (j : ℕ) → getD holders j 0 < 65
 holder-in s holders w held j = omega (arith, held .most j, w .enrolled)
+
+-- one that no limit refuses is marked
+pub accepted-marked : {v : Verdict} → v ≡ verdictBy Clear → true ≡ v .accepted
+unfolding verdictBy
+accepted-marked e = sym (ap (λ (x : Verdict). x .accepted) e)
 
 module _ (s : Session) (class : ℕ) (start : List Verdict) (all : List ℕ) where
   -- with some indices left
@@ -45,6 +50,11 @@ module _ (s : Session) (class : ℕ) (start : List Verdict) (all : List ℕ) whe
     left-past t k q b sound e r =
         let a = here b sound e r in
         rw (← same) (closing-at (reached-past b (sound .ranges .standing .rising) class at given (omega (arith, standing-as s b e)) (sym (k b e) ∙ q) (reached-at a)) (a .left))
+
+    -- no call leaves a lodgement without its unit
+    pub left-absent : (after : List ℕ) (p : ℕ) → p ≡ holderAt (s .units) (s .enrolled) (s .lodgements) at → s .enrolled ≤ p → Left rest given after
+    unfolding holderAt
+    left-absent after p holder k b sound e r = absurd (omega (arith, unit-indexed s given at in-list noLodgement b sound e))
 
     -- what its room holds of a lodgement that is taken
     module _ (t : Bool) (k : TakesAt s class at t) (q : t ≡ true) (long : at < length given) (w : Within s) (loads after : List ℕ) (lent : Loaded s loads) (p : ℕ) (holder : p ≡ holderAt (s .units) (s .enrolled) (s .lodgements) at) (v : Verdict) (a : Bool) (m : Admitted p loads at (s .hours) room after a) where

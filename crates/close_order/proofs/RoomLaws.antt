@@ -33,7 +33,7 @@ use Rattle.close_ceilings.proofs.JudgedLaws.{Refuses, refuses, judged-under, ju
 use Rattle.close_order.specs.Room.{leftAt, Fits, lacks}
 use Rattle.close_order.proofs.FitLaws.{held}
 use Rattle.close_judge.specs.Classes.{verdictAt, classAt, isTaken, Reached, Loaded, JudgesAt, countsOn, countsAt, verdictBy}
-use Rattle.close_judge.proofs.CountLaws.{length-from, indices-at}
+use Rattle.close_judge.proofs.CountLaws.{length-from, indices-at, indices-differ}
 use Rattle.close_judge.proofs.IndexLaws.{by-not-yet}
 use Rattle.close_judge.proofs.ClassLaws.{taken-class}
 use Rattle.close_judge.proofs.StandingLaws.{loaded-at}
@@ -114,20 +114,6 @@ module _ (s : Session) (vs : List Verdict) (i : ℕ) (v : Verdict) (h : i < leng
         ∙ sum-mark (energyIn (suc x)) (marks (s .lodgements) unit vs) (take (s .standing) (s .energies)) i bareEnergies (omega (arith, marks-length (s .lodgements) unit vs))
         (omega (arith, length-take-le (s .standing) (s .energies) room)) (marks-at (s .lodgements) unit vs i (omega arith) ∙ uncounted unit)
         ∙ ap (λ n. n + sumOf (energyIn (suc x)) (marked (marks (s .lodgements) unit vs) (take (s .standing) (s .energies)))) (energy-here x)
-
--- Indices of units
-
-index-passes : {A : Type 0} (q : A → Bool) (d : A) (xs : List A) → indexOf q xs < length xs → q (getD xs (indexOf q xs) d) ≡ true
-unfolding indexOf
-index-passes q d [] h = absurd (omega arith)
-index-passes q d (x ∷ xs) h = by-bool (q x) (λ e. rw e e) (λ e. rw e (index-passes q d xs (omega (arith, rw e at h))))
-
--- units of different numbers stand at different indices
-indices-differ : (us : List Unit) (a b : ℕ) → indexOf (numberIs a) us < length us → indexOf (numberIs b) us ≡ indexOf (numberIs a) us → b ≡ a
-indices-differ us a b h e =
-    let x = eqb-true (getD us (indexOf (numberIs a) us) noUnit .number) a (index-passes (numberIs a) noUnit us h) in
-    let y = eqb-true (getD us (indexOf (numberIs b) us) noUnit .number) b (index-passes (numberIs b) noUnit us (omega arith)) in
-    sym y ∙ ap (λ p. getD us p noUnit .number) e ∙ x
 
 -- The room, when a verdict is given
 

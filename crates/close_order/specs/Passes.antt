@@ -13,8 +13,7 @@ use Rattle.session.specs.declared.Verdict.{Verdict}
 use Rattle.session.specs.declared.Session.{Session}
 use Rattle.judge_loads.specs.Loads.{marked, energyIn}
 use Rattle.close_ceilings.specs.Ceilings.{ceilingAt}
-use Rattle.close_holders.specs.Holders.{holderAt}
-use Rattle.close_judge.specs.Classes.{hasPassed, classAt, verdictAt, isTaken, Loaded, countsAt}
+use Rattle.close_judge.specs.Classes.{hasPassed, classAt, verdictAt, isTaken, countsAt}
 
 -- "normal executions, default executions, offers"
 unfoldable pub classIn : Key → ℕ
@@ -23,22 +22,6 @@ classIn k = cond (k .execution) (cond (k .default) 1 0) 2
 -- whether the index is taken
 abbrev pub TakesAt : Session → ℕ → ℕ → Bool → Type 0
 TakesAt s class i r = (b : Book) → s ≡ image b → r ≡ isTaken b class i
-
--- What the classes of a closing work with
-
--- the array has the index of each standing one's unit
-pub record Held (s : Session) (holders : List ℕ) : Type 0 where
-  pub at : (j : ℕ) → j < s .standing → getD holders j 0 ≡ holderAt (s .units) (s .enrolled) (s .lodgements) j
-  pub most : (j : ℕ) → getD holders j 0 ≤ s .enrolled
-
--- The arrays that are lent to a class.
-pub record Prepared (s : Session) (loads holders room : List ℕ) : Type 0 where
-  -- each standing lodgement's energies by hour
-  pub energies : Loaded s loads
-  -- the index of each one's unit
-  pub units : Held s holders
-  -- 25 hours for each unit, and a row more
-  pub rows : length room ≡ 1625
 
 -- Where a closing stands
 

@@ -32,6 +32,27 @@ pub lowest-same : (p q : ℕ → Bool) (n : ℕ) → ((k : ℕ) → 1 ≤ k → 
 unfolding lowest
 lowest-same p q n f = first-same p q 1 n (λ k a b. f k a (omega arith))
 
+-- The row that is given, by the three hours
+
+module _ (x y z : ℕ) where
+  pub row-10 : (x ≡ 0 → ⊥) → No 10 x ≡ lowestRow x y z
+  unfolding lowestRow firstRow
+  row-10 h = rw (ne-eqb x 0 h)
+
+  pub row-11 : x ≡ 0 → (y ≡ 0 → ⊥) → No 11 y ≡ lowestRow x y z
+  unfolding lowestRow firstRow
+  row-11 e h = rw (eq-eqb x 0 e, ne-eqb y 0 h)
+
+  pub row-12 : x ≡ 0 → y ≡ 0 → (z ≡ 0 → ⊥) → No 12 z ≡ lowestRow x y z
+  unfolding lowestRow firstRow
+  row-12 e f h = rw (eq-eqb x 0 e, eq-eqb y 0 f, ne-eqb z 0 h)
+
+  pub row-none : x ≡ 0 → y ≡ 0 → z ≡ 0 → Clear ≡ lowestRow x y z
+  unfolding lowestRow firstRow
+  row-none e f g = rw (eq-eqb x 0 e, eq-eqb y 0 f, eq-eqb z 0 g)
+
+-- The judgement, by the lowest hours
+
 module _ (H : ℕ) (own : List ℕ) (load : ℕ → ℕ) where
   -- limits that are the same in every hour are passed first in the same
   pub limit-same : (l m : Limit) → ((h : ℕ) → 1 ≤ h → h ≤ H → l .at h ≡ m .at h) → lowest (passedAt own load l) H ≡ lowest (passedAt own load m) H
@@ -93,6 +114,17 @@ module _ (H : ℕ) (own : List ℕ) (load : ℕ → ℕ) where
     pub judge-default : (default : Bool) {x : ℕ} → default ≡ true → x ≡ ten → lowestRow x 0 0 ≡ judgedIn u n cs default H own load
     judge-default default {x} t e = rw (t, judged-default, ten-as, e)
 
+    -- a limit is told whatever those behind it are, so these need not be looked at
+    pub judge-ten : {x : ℕ} → x ≡ ten → (x ≡ 0 → ⊥) → lowestRow x 0 0 ≡ judgedIn u n cs false H own load
+    judge-ten {x} e z = rw (judged-normal, ten-as, ← e) (sym (row-10 x 0 0 z) ∙ row-10 x (lowest (passedAt own load l11) H) (lowest (passedAt own load l12) H) z)
+
+    module _ {x y : ℕ} (e : x ≡ ten) (f : y ≡ eleven) where
+      pub judge-eleven : x ≡ 0 → (y ≡ 0 → ⊥) → lowestRow x y 0 ≡ judgedIn u n cs false H own load
+      judge-eleven o z = rw (judged-normal, ten-as, eleven-as, ← e, ← f) (sym (row-11 x y 0 o z) ∙ row-11 x y (lowest (passedAt own load l12) H) o z)
+
+      pub judge-twelve : {z : ℕ} → z ≡ lowest (passedAt own load (borderLimit (linesIn cs) (registeredIn u n))) H → lowestRow x y z ≡ judgedIn u n cs false H own load
+      judge-twelve {z} g = rw (judged-normal, ten-as, eleven-as, ← e, ← f, ← g)
+
     module _ (b : BorderLimit) (is : (h : ℕ) → borderAt b h ≡ borderSum (map noticeIn cs) (u .border) h) where
       twelve-off : not (b .applies) ≡ true → lowest (passedAt own load l12) H ≡ 0
       unfolding borderAt borderLimit
@@ -110,22 +142,3 @@ module _ (H : ℕ) (own : List ℕ) (load : ℕ → ℕ) where
         -- all three
         pub judge-on : {z : ℕ} → not (b .applies) ≡ false → z ≡ lowest (passedAt own load (laid (b .energies))) H → lowestRow x y z ≡ judgedIn u n cs default H own load
         judge-on {z} k g = rw (t, judged-normal, ten-as, eleven-as, twelve-on k, e, f, g)
-
--- The row that is given, by the three hours
-
-module _ (x y z : ℕ) where
-  pub row-10 : (x ≡ 0 → ⊥) → No 10 x ≡ lowestRow x y z
-  unfolding lowestRow firstRow
-  row-10 h = rw (ne-eqb x 0 h)
-
-  pub row-11 : x ≡ 0 → (y ≡ 0 → ⊥) → No 11 y ≡ lowestRow x y z
-  unfolding lowestRow firstRow
-  row-11 e h = rw (eq-eqb x 0 e, ne-eqb y 0 h)
-
-  pub row-12 : x ≡ 0 → y ≡ 0 → (z ≡ 0 → ⊥) → No 12 z ≡ lowestRow x y z
-  unfolding lowestRow firstRow
-  row-12 e f h = rw (eq-eqb x 0 e, eq-eqb y 0 f, ne-eqb z 0 h)
-
-  pub row-none : x ≡ 0 → y ≡ 0 → z ≡ 0 → Clear ≡ lowestRow x y z
-  unfolding lowestRow firstRow
-  row-none e f g = rw (eq-eqb x 0 e, eq-eqb y 0 f, eq-eqb z 0 g)

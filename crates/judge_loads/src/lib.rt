@@ -1,36 +1,13 @@
-// The lodgements that are counted beside one, their indices and energies, and the lowest hour in which its energy with theirs
-// passes a limit.
+// The energies of the lodgements that are counted beside one, and the lowest hour in which its energy with theirs passes a limit.
 ghost use mathlib.Core.Path.{_≡_};
 ghost use Prim.Native.Nat.{_+_, _*_, _<_, _≤_};
 ghost use lib.ListN.{take, length};
 ghost use Rattle.rules.specs.Lists.{lowest};
 ghost use Rattle.rules.specs.Lodging.{passedAt};
-ghost use Rattle.judge_loads.specs.Loads.{IndicesOf, RowAt, PutAt, LoadsOf, RowsAt, loadBy, laid};
-use arrays::Indices;
+ghost use Rattle.judge_loads.specs.Loads.{RowAt, PutAt, LoadsOf, RowsAt, loadBy, laid};
 use rules::HOURS;
 use rules::LODGEMENTS;
 use session::Energies;
-
-// The indices of those of the first n lodgements that are counted.
-pub fn counted_indices(counted: &[bool; LODGEMENTS], n: usize) -> Indices
-    requires { ⌜ n ≤ 128 ⌝ }
-    ensures { λ r. ⌜ IndicesOf (now (counted .entry)) n r ⌝ }
-{
-    let mut at = [0usize; LODGEMENTS];
-    let mut count = 0usize;
-    for l in 0..n {
-        let is_counted = counted[l];
-        if !is_counted {
-            continue;
-        }
-        at[count] = l;
-        count += 1;
-    }
-    Indices {
-        count: count,
-        at: at,
-    }
-}
 
 // A lodgement's numbers by hour, at its index.
 pub fn put(all: &mut [u32; LODGEMENTS * HOURS], l: usize, row: [u32; HOURS])

@@ -14,13 +14,10 @@ use Rattle.close_ceilings.proofs.ceilings_of.Statement.{statement}
 use Rattle.close_ceilings.proofs.ceilings_of.Tie as tie
 
 abbrev Inv-loop : tie.InvT-loop
-Inv-loop n units notices lines ceilings₀ p₀ ceilings p = (p ≤ n) × (length ceilings ≡ 1625) × Rows (laidAt units notices lines) p ceilings × ((k : ℕ) → k < p → getD units k noUnit .maximum ≤ most)
+Inv-loop lines n units notices ceilings₀ p₀ ceilings p = (p ≤ n) × (length ceilings ≡ 1625) × Rows (laidAt units notices lines) p ceilings × ((k : ℕ) → k < p → getD units k noUnit .maximum ≤ most)
 
 abbrev μ-loop : tie.MeasureT-loop
-μ-loop n units notices lines ceilings₀ p₀ ceilings p = n - p
-
-lines-of-requires : tie.Need-lines-of-requires Inv-loop μ-loop
-lines-of-requires c κs = search needs
+μ-loop lines n units notices ceilings₀ p₀ ceilings p = n - p
 
 loop-holds : tie.Need-loop-holds Inv-loop μ-loop
 loop-holds c = (omega arith, refl, rows-start _ _, λ k i. absurd (omega arith))
@@ -49,12 +46,15 @@ loop-less c = search needs
 loop-again : tie.Need-loop-again Inv-loop μ-loop
 unfolding laidAt
 loop-again c =
-    let s = c .before .before .before .before .before .before .loop in
-    let a = c .before .before .before .before .before .before .before .before .args in
-    (omega arith, c .lay-unit .ensures .0, rows-next (laidAt (a .t1) (a .t2) (c .before .before .before .before .before .before .before .lines-of .result)) (s .p) _ (s .ceilings) _ (c .lay-unit .ensures .1) (λ h. refl) (s .inv .2), below-more _ _ (s .inv .3) (c .lay-unit .ensures .2))
+    let s = c .before .before .before .before .before .loop in
+    let a = c .before .before .before .before .before .before .args in
+    (omega arith, c .lay-unit .ensures .0, rows-next (laidAt (a .t1) (a .t2) (a .lines .now)) (s .p) _ (s .ceilings) _ (c .lay-unit .ensures .1) (λ h. refl) (s .inv .2), below-more _ _ (s .inv .3) (c .lay-unit .ensures .2))
 
 returns : tie.Need-returns Inv-loop μ-loop
-returns c = λ p h i k. rows-end _ _ _ _ (omega arith) (c .before .loop .inv .2) p h i k ∙ laid-as (c .before .before .before .args .t1) (c .before .before .before .args .t2) (c .before .before .before .args .capacities) (c .before .before .lines-of .result) (c .before .loop .p) p h (c .before .loop .inv .3) (omega arith) (omega arith) k (c .before .before .lines-of .ensures)
+returns c =
+    let s = c .before .loop in
+    let a = c .before .before .args in
+    λ cs lent p h i k. rows-end _ _ _ _ (omega arith) (s .inv .2) p h i k ∙ laid-as (a .t1) (a .t2) cs (a .lines .now) (s .p) p h (s .inv .3) (omega arith) (lent .eight) k (lent .at)
 
 pub ceilings-of-spec : {M : Type 1} → statement M
 ceilings-of-spec =
@@ -62,7 +62,6 @@ ceilings-of-spec =
     (tie.spec
     Inv-loop
     μ-loop
-    lines-of-requires
     loop-holds
     mul-u
     array-copy-out-u

@@ -41,7 +41,7 @@ loop-again c =
     (omega arith, c .lay-line .ensures .0, rows-next (lineAt cs) (s .b) (lineIn (l .result)) (s .lines) _ (c .lay-line .ensures .1) (λ h. line-as cs (s .b) (l .result) h (l .ensures (suc h))) (s .inv .2))
 
 returns : tie.Need-returns Inv-loop μ-loop
-returns c = rows-end _ _ _ _ (omega arith) (c .before .loop .inv .2)
+returns c = record { eight = omega arith; at = rows-end _ _ _ _ (omega arith) (c .before .loop .inv .2) }
 
 pub lines-of-spec : {M : Type 1} → statement M
 lines-of-spec =

@@ -1,54 +1,102 @@
-use Prim.Native.Nat.{_≤_, _-_}
+use Prim.Native.Nat.{ℕ, _-_, _≤_, _<_}
 use mathlib.Core.Path.{_≡_, refl, _∙_}
 use mathlib.Core.List.{map}
 use native.Mathlib.Omega.{arith}
-use lib.ListN.{take, length, length-set}
+use lib.ListN.{length, take, getD, length-set}
+use borrow.Author.Tests.{not-true, not-false}
 use Rattle.rules.specs.Lists.{from}
-use Rattle.close_judge.specs.Classes.{countsAt}
-use Rattle.close_judge.proofs.CountLaws.{indices-next, indices-end}
+use Rattle.judge_loads.specs.Loads.{marked}
+use Rattle.judge_loads.proofs.LoadLaws.{index-start, index-noted, index-passed, index-below}
+use Rattle.close_judge.specs.Classes.{heldAt}
+use Rattle.close_judge.proofs.CountLaws.{held-on, not-marked, not-holder}
 use borrow.Author.Needs.{needs}
 use Rattle.close_judge.proofs.accepted_on.Statement.{statement}
 use Rattle.close_judge.proofs.accepted_on.Tie as tie
 
 abbrev Inv-loop : tie.InvT-loop
-Inv-loop unit verdicts lodgements marks₀ j₀ marks j = (j ≤ 128) × (length marks ≡ 128) × (take j marks ≡ map (countsAt unit verdicts lodgements) (take j (from 0 128)))
+Inv-loop marks holders p n at₀ count₀ l₀ at count l =
+    (l ≤ n) × (count ≤ l) × (length at ≡ 128) × (take count at ≡ marked (map (heldAt p marks holders) (from 0 128)) (from 0 l)) × ((j : ℕ) → j < count → getD at j 0 < n)
 
 abbrev μ-loop : tie.MeasureT-loop
-μ-loop unit verdicts lodgements marks₀ j₀ marks j = 128 - j
+μ-loop marks holders p n at₀ count₀ l₀ at count l = n - l
 
 loop-holds : tie.Need-loop-holds Inv-loop μ-loop
-loop-holds c = (omega arith, refl, refl)
+loop-holds c = (omega arith, omega arith, c .pre .1, index-start _, λ j k. absurd (omega arith))
 
-mul-v : tie.Need-mul-v Inv-loop μ-loop
-mul-v c = search needs
+element-copy-out-is-accepted : tie.Need-element-copy-out-is-accepted Inv-loop μ-loop
+element-copy-out-is-accepted c = search needs
 
-array-copy-out-v : tie.Need-array-copy-out-v Inv-loop μ-loop
-array-copy-out-v c = search needs
-
-mul-l : tie.Need-mul-l Inv-loop μ-loop
-mul-l c = search needs
-
-array-copy-out-l : tie.Need-array-copy-out-l Inv-loop μ-loop
-array-copy-out-l c = search needs
-
-counts-requires : tie.Need-counts-requires Inv-loop μ-loop
-counts-requires c κs = search needs
-
-array-write-marks : tie.Need-array-write-marks Inv-loop μ-loop
-array-write-marks c = search needs
-
-add-j : tie.Need-add-j Inv-loop μ-loop
-add-j c = search needs
+add-l : tie.Need-add-l Inv-loop μ-loop
+add-l c = search needs
 
 loop-less : tie.Need-loop-less Inv-loop μ-loop
 loop-less c = search needs
 
 loop-again : tie.Need-loop-again Inv-loop μ-loop
-unfolding countsAt
-loop-again c = (omega arith, (simp length-set) ∙ c .before .before .before .before .loop .inv .1, rw (c .counts .ensures) (indices-next (countsAt (c .before .before .before .before .before .args .unit) (c .before .before .before .before .before .args .t2) (c .before .before .before .before .before .args .t3)) 128 (c .before .before .before .before .loop .marks) (c .before .before .before .before .loop .j) (c .before .before .before .before .loop .inv .1) (omega arith) (c .before .before .before .before .loop .inv .2)))
+loop-again c =
+    let s = c .before .before .before .loop in
+    let a = c .before .before .before .before .args in (
+      omega arith,
+      omega arith,
+      s .inv .2,
+      index-passed _ (s .at) (s .l) (s .count) (not-marked (a .p) (a .marks .now) (a .holders .now) (s .l) (omega arith) (not-true _ (c .if1 .taken))) (s .inv .3),
+      s .inv .4,
+    )
+
+mul-holder : tie.Need-mul-holder Inv-loop μ-loop
+mul-holder c = search needs
+
+element-copy-out-holder : tie.Need-element-copy-out-holder Inv-loop μ-loop
+element-copy-out-holder c = search needs
+
+add-l-2 : tie.Need-add-l-2 Inv-loop μ-loop
+add-l-2 c = search needs
+
+loop-less-2 : tie.Need-loop-less-2 Inv-loop μ-loop
+loop-less-2 c = search needs
+
+loop-again-2 : tie.Need-loop-again-2 Inv-loop μ-loop
+loop-again-2 c =
+    let s = c .before .before .before .before .before .loop in
+    let a = c .before .before .before .before .before .before .args in (
+      omega arith,
+      omega arith,
+      s .inv .2,
+      index-passed _ (s .at) (s .l) (s .count) (not-holder (a .p) (a .marks .now) (a .holders .now) (s .l) (omega arith) (c .if2 .taken)) (s .inv .3),
+      s .inv .4,
+    )
+
+mul-at : tie.Need-mul-at Inv-loop μ-loop
+mul-at c = search needs
+
+element-write-at : tie.Need-element-write-at Inv-loop μ-loop
+element-write-at c = search needs
+
+add-count : tie.Need-add-count Inv-loop μ-loop
+add-count c = search needs
+
+add-l-3 : tie.Need-add-l-3 Inv-loop μ-loop
+add-l-3 c = search needs
+
+loop-less-3 : tie.Need-loop-less-3 Inv-loop μ-loop
+loop-less-3 c = search needs
+
+loop-again-3 : tie.Need-loop-again-3 Inv-loop μ-loop
+loop-again-3 c =
+    let s = c .before .before .before .before .before .loop in
+    let a = c .before .before .before .before .before .before .args in (
+      omega arith,
+      omega arith,
+      (simp length-set) ∙ s .inv .2,
+      index-noted _ (s .at) (s .l) (s .count) (omega arith) (held-on (a .p) (a .marks .now) (a .holders .now) (s .l) (omega arith) (not-false _ (c .before .before .if1 .left)) (c .if2 .left)) (s .inv .3),
+      index-below (map (heldAt (a .p) (a .marks .now) (a .holders .now)) (from 0 128)) (s .at) (s .l) (s .count) (a .n) (omega arith) (omega arith) (s .inv .4),
+    )
 
 returns : tie.Need-returns Inv-loop μ-loop
-returns c = indices-end (countsAt (c .before .before .args .unit) (c .before .before .args .t2) (c .before .before .args .t3)) 128 (c .before .loop .marks) (c .before .loop .j) (c .before .loop .inv .1) (omega arith) (c .before .loop .inv .2)
+returns c =
+    let s = c .before .loop in
+    let e : s .l ≡ c .before .before .args .n = omega arith in
+    record { most = omega arith; indices = rw e at (s .inv .3); long = s .inv .2; below = s .inv .4 }
 
 pub accepted-on-spec : {M : Type 1} → statement M
 accepted-on-spec =
@@ -57,13 +105,19 @@ accepted-on-spec =
     Inv-loop
     μ-loop
     loop-holds
-    mul-v
-    array-copy-out-v
-    mul-l
-    array-copy-out-l
-    counts-requires
-    array-write-marks
-    add-j
+    element-copy-out-is-accepted
+    add-l
     loop-less
     loop-again
+    mul-holder
+    element-copy-out-holder
+    add-l-2
+    loop-less-2
+    loop-again-2
+    mul-at
+    element-write-at
+    add-count
+    add-l-3
+    loop-less-3
+    loop-again-3
     returns)
