@@ -98,8 +98,8 @@ fn limit(row: u32) -> Limit {
     }
 }
 
-// Each call looks for the kinds that it has, by reference: the gate's answer is not copied. That fields which hold nothing are 0 is
-// part of the interface.
+// Each call looks for the kinds that it has, by reference: the gate's answer is not copied, and inline, since a call more costs as much
+// as the look. That fields which hold nothing are 0 is part of the interface.
 
 /// The refusal that a response is, if it is none of the kinds that its call has.
 fn refused(response: &Response) -> Refusal {
@@ -114,6 +114,7 @@ fn unexpected(response: &Response) -> ! {
     panic!("the archive answers {response:?}, which this call does not have: it is not of this crate's interface")
 }
 
+#[inline]
 fn done(response: &Response) -> Result<(), Refusal> {
     match *response {
         Response { kind: 0, row: 0, hour: 0, reserved: 0, value: 0, count: 0 } => Ok(()),
@@ -121,6 +122,7 @@ fn done(response: &Response) -> Result<(), Refusal> {
     }
 }
 
+#[inline]
 fn figure(response: &Response) -> Result<i64, Refusal> {
     match *response {
         Response { kind: 6, row: 0, hour: 0, reserved: 0, value, count: 0 } => Ok(value),
@@ -129,10 +131,12 @@ fn figure(response: &Response) -> Result<i64, Refusal> {
 }
 
 /// A figure that is not below zero.
+#[inline]
 fn amount(response: &Response) -> Result<u32, Refusal> {
     Ok(u32::try_from(figure(response)?).unwrap_or_else(|_| unexpected(response)))
 }
 
+#[inline]
 fn maximum(response: &Response) -> Result<Option<i64>, Refusal> {
     match *response {
         Response { kind: 7, row: 0, hour: 0, reserved: 0, value: 0, count: 0 } => Ok(None),

@@ -240,9 +240,15 @@ pub extern "C" fn gate_bilateral_balance(s: &Session, border: u32, hour: u32) ->
 pub extern "C" fn gate_market_maximum(s: &Session, border: u32, export: bool, hour: u32) -> Response
     ensures { λ r. ⌜ Answered (now (s .entry)) (Q.marketMax border export hour) r ⌝ }
 {
-    let of = query_maximum::notice_index(border, export);
-    let at = query::index_of(hour);
-    query_maximum::market_maximum_from(*s, s.figures[at], s.capacities[of], border, export, hour)
+    let p = query_maximum::judge_direction(*s, border, export, hour);
+    let at = p.at;
+    let of = p.of;
+    query_maximum::market_maximum_from(
+        p,
+        s.figures[at],
+        s.capacities[of].given,
+        s.capacities[of].energies[at],
+    )
 }
 
 // Its bilateral maximum, which may be below zero: 2, 4, 5.
@@ -255,9 +261,15 @@ pub extern "C" fn gate_bilateral_maximum(
 ) -> Response
     ensures { λ r. ⌜ Answered (now (s .entry)) (Q.bilateralMax border export hour) r ⌝ }
 {
-    let of = query_maximum::notice_index(border, export);
-    let at = query::index_of(hour);
-    query_maximum::bilateral_maximum_from(*s, s.figures[at], s.capacities[of], border, export, hour)
+    let p = query_maximum::judge_direction(*s, border, export, hour);
+    let at = p.at;
+    let of = p.of;
+    query_maximum::bilateral_maximum_from(
+        p,
+        s.figures[at],
+        s.capacities[of].given,
+        s.capacities[of].energies[at],
+    )
 }
 
 // The hour's price: 2, 4.

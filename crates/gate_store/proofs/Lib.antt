@@ -6,5 +6,6 @@ pub mod Cell
 pub mod Parts
 pub mod SessionCell
 pub mod Searched
+pub mod Halved
 pub mod Settled
 pub mod Moved

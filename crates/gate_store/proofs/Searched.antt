@@ -65,36 +65,36 @@ pub record Searched : Type 2 where
   pub numbered : ℕ
 
 module _ (g : Searched) where
-  abbrev many : ℕ
+  abbrev pub many : ℕ
   many = g .array .many
 
-  abbrev list : Session → List (g .array .element .Value)
+  abbrev pub list : Session → List (g .array .element .Value)
   list s = get-all (g .array) s
 
-  abbrev count : Session → ℕ
+  abbrev pub count : Session → ℕ
   count s = g .counter .get s
 
   -- an element's type, how long it is, and where its number lies in it
-  abbrev elementTy : Ty
+  abbrev pub elementTy : Ty
   elementTy = type (g .array .element)
 
-  abbrev wide : ℕ
+  abbrev pub wide : ℕ
   wide = size elementTy
 
-  abbrev number-at : ℕ
+  abbrev pub number-at : ℕ
   number-at = lies elementTy (g .numbered)
 
-  abbrev has : ℕ → g .array .element .Value → Bool
+  abbrev pub has : ℕ → g .array .element .Value → Bool
   has n x = eqb (g .number-of x) n
 
   abbrev pub number : Session → ℕ → ℕ
   number s i = g .number-of (getD (list s) i (g .blank))
 
   -- the index of a number, and the index that is come to from one
-  abbrev index-of : Session → ℕ → ℕ
+  abbrev pub index-of : Session → ℕ → ℕ
   index-of s n = indexOf (has n) (take (count s) (list s))
 
-  abbrev reached : Session → ℕ → ℕ → ℕ
+  abbrev pub reached : Session → ℕ → ℕ → ℕ
   reached s n i = reach (has n) (list s) (count s) i
 
 -- what the walk needs of it: that the numbers fit, and that an element's number is read
@@ -102,7 +102,7 @@ pub record Laws (g : Searched) : Type 2 where
   pub many-fits : Tᵇ (ltb (many g) (2 ^ 64))
   pub wide-fits : Tᵇ (ltb (wide g) (2 ^ 64))
   pub low : (i : ℕ) → i < many g → i * wide g < 2 ^ 64
-  pub below : (i : ℕ) → i ≤ many g → i < 2 ^ 64
+  pub below : (i : ℕ) → i ≤ 2 * many g → i < 2 ^ 64
   pub guards : (s : Session) → Within s → count g s ≤ many g
   pub small : (s : Session) → Good s → (i : ℕ) → i < many g → number g s i < 2 ^ 32
   pub is-number : fieldOf (elementTy g) (g .numbered) ≡ some (tyInt w32, number-at g)
@@ -114,18 +114,18 @@ module _ (g : Searched) (law : Laws g) (s : Session) (good : Good s) (few : coun
   enough : count g s ≤ length (list g s)
   enough = omega (arith, few, length-of (g .array) s good)
 
-  here : i < count g s → eqb (number g s i) n ≡ true → reached g s n i ≡ i
+  pub here : i < count g s → eqb (number g s i) n ≡ true → reached g s n i ≡ i
   here h e = reach-here (has g n) (g .blank) (list g s) (count g s) i h enough e
 
-  next-one : i < count g s → eqb (number g s i) n ≡ false → reached g s n i ≡ reached g s n (i + 1)
+  pub next-one : i < count g s → eqb (number g s i) n ≡ false → reached g s n i ≡ reached g s n (i + 1)
   next-one h e = reach-next (has g n) (g .blank) (list g s) (count g s) i h enough e
 
-  at-end : i ≡ count g s → reached g s n i ≡ count g s
+  pub at-end : i ≡ count g s → reached g s n i ≡ count g s
   at-end e = reach-end (has g n) (list g s) (count g s) i e enough
 
 -- the MIR of such a function
 
-abbrev refTy : Ty
+abbrev pub refTy : Ty
 refTy = tyRef (named 0) imm (pointee (T.the-row .written))
 
 abbrev step : Body
@@ -159,7 +159,7 @@ Found g s n r = Within s → r ≡ index-of g s n
 abbrev pub clauses : Searched → {M : Type 1} (𝓤 : URA M) → Clauses 𝓤 shape.ended
 clauses g 𝓤 κs a = record { ghost = Unit {0}; requires = λ _. emp 𝓤; ensures = λ _ r e. fact 𝓤 (Found g (now (a .0)) (a .1 .0) r) }
 
-abbrev stayed : Stays (shape.ended .signature .params) (shape.ended .kept)
+abbrev pub stayed : Stays (shape.ended .signature .params) (shape.ended .kept)
 stayed = (stay-none-ref (0 ∷ []) tt (plain (λ _. T.the-row)) yes, (stay-none (λ _. u32) yes, tt))
 
 module _ (g : Searched) (law : Laws g) {M : Type 1} (𝓤 : URA M) (H : Heap 𝓤) (A : Atoms 𝓤) (W : Given 𝓤 H A) (κ : Lft) (q : Share) (b o : ℕ) (γ : GName) (h : Session) (t : ℕ) (gt : Is u32 t (vint w32 t ∷ [])) where

@@ -101,7 +101,8 @@ pub fn unit_at(s: &Session, unit: u32) -> usize
     n
 }
 
-// The index of a lodging number among the standing ones, or their number. Of a session that the guard refuses, any index will do.
+// The index of a lodging number among the standing ones, or their number, by halving, since the numbers rise. Of a session that the
+// guard refuses, any index will do.
 pub fn lodged_at(s: &Session, number: u32) -> usize
     ensures { λ r. ⌜ LodgedFound (now (s .entry)) number r ⌝ }
 {
@@ -109,12 +110,19 @@ pub fn lodged_at(s: &Session, number: u32) -> usize
     if LODGEMENTS < n {
         return 0;
     }
-    let mut i = 0;
-    while i < n {
-        if s.lodgements[i].number == number {
-            return i;
+    let mut low = 0;
+    let mut high = n;
+    while low < high {
+        let middle = (low + high) / 2;
+        let found = s.lodgements[middle].number;
+        if found == number {
+            return middle;
         }
-        i = i + 1;
+        if found < number {
+            low = middle + 1;
+        } else {
+            high = middle;
+        }
     }
     n
 }

@@ -2,17 +2,34 @@
 use mathlib.Core.Path.{_≡_, refl}
 use mathlib.Core.Bool.{true, false}
 use mathlib.Core.List.{List}
-use Prim.Native.Nat.{ℕ, _*_, _≤_}
+use Prim.Native.Nat.{ℕ, _+_, _*_, _≤_}
+use native.Mathlib.Omega.{arith}
 use lib.ListN.{length, drop}
+use Rattle.rules.specs.Lists.{roundUp}
 use Rattle.rules.specs.Refusals.{row, firstRow, unless, outcome}
-use Rattle.rules.specs.Message.{Form, bitsOf, field, priceWidth, headWidth, slotWidth, slotsEnd, setBits, hourBits, readSlots, isExecution, mapOf, fieldsOf, decode, formOf, messageOf, badForm, wrongForm, badMap, wrongRange, readRows, read}
+use Rattle.rules.specs.Message.{Form, form1, value, bitsOf, field, priceWidth, headWidth, slotWidth, slotsEnd, lengthFor, setBits, hourBits, readSlots, isExecution, mapOf, fieldsOf, decode, formOf, messageOf, badFilling, badForm, wrongForm, badMap, wrongRange, readRows, read}
+use Rattle.rules.proofs.BitLaws.{length-bitsOf}
 use Rattle.rules.proofs.MessageLaws.{formed, form-right}
-use Rattle.message.proofs.FormLaws.{slots-read}
+use Rattle.message.proofs.FormLaws.{Long, filling-field, slots-read}
 use Rattle.message.specs.declared.Fields.{Fields}
 use Rattle.message.specs.declared.Reading.{Reading}
 use Rattle.message.specs.View.{fieldsIn, noFields, readingAs}
 use Rattle.message_reader.specs.Slots.{headIn}
 use Rattle.message_reader.specs.declared.Head.{Head}
+
+-- an offer of form 1 ends with a byte, so it has no filling
+
+offer-end : (n : ℕ) → lengthFor form1 false n * 8 ≡ slotsEnd form1 false n
+unfolding lengthFor roundUp slotWidth priceWidth
+offer-end n = omega arith
+
+pub offer-filled : (bytes : List ℕ) → isExecution (bitsOf bytes) ≡ false → Long form1 bytes → false ≡ badFilling form1 (bitsOf bytes)
+unfolding field value
+offer-filled bytes x l =
+    let n = setBits (mapOf (bitsOf bytes)) in
+    let k : length bytes ≡ lengthFor form1 false n = rw x at l in
+    let e : 8 * length bytes ≡ slotsEnd form1 false n + 0 = omega (arith, k, offer-end n) in
+    filling-field form1 0 (bitsOf bytes) (rw (length-bitsOf, x) e)
 
 -- a refusal's reading
 abbrev pub no : ℕ → Reading

@@ -1,10 +1,11 @@
 -- The head of a message, and what its slots are refused for.
-use Prim.Native.Nat.{ℕ, zero, suc}
+use Prim.Native.Nat.{ℕ, zero, suc, _*_, _^_, _≤_, _<_}
+use mathlib.Core.Path.{_≡_}
 use mathlib.Core.Bool.{Bool, true, false, _||_}
 use mathlib.Core.List.{List, [], _∷_}
 use lib.Dec.{eqb}
-use lib.ListN.{drop}
-use Rattle.rules.specs.Message.{field, priceWidth, slotWidth, isExecution, mapOf}
+use lib.ListN.{length, drop, replicate}
+use Rattle.rules.specs.Message.{Form, bitsOf, field, priceWidth, headWidth, slotWidth, slotsEnd, setBits, hourBits, readSlots, isExecution, mapOf}
 use Rattle.message_ranges.specs.Slots.{badSlot}
 use Rattle.message.specs.declared.Reading.{Reading}
 use Rattle.message_reader.specs.declared.Head.{Head}
@@ -41,3 +42,14 @@ badSlots w top x [] bs = false
 badSlots w top x (zero ∷ map) bs = badSlots w top x map bs
 badSlots w top x (suc b ∷ map) bs =
     badSlot top x true (field 0 w bs) (field w (priceWidth x) bs) || badSlots w top x map (drop (slotWidth w x) bs)
+
+-- a message whose slots are filled in: their bits are there, and both arrays still blank
+abbrev pub ToFill : Form → List ℕ → Bool → ℕ → List ℕ → List ℕ → Type 0
+ToFill f bytes x map energies prices = (map < 2 ^ 25) × (slotsEnd f x (setBits map) ≤ 8 * length bytes) × (energies ≡ replicate 25 0) × (prices ≡ replicate 25 0)
+
+-- what is then known: whether a set hour's energy or price is outside its range, all energies and all prices
+abbrev pub SlotsRead : Form → List ℕ → Bool → ℕ → Bool → List ℕ → List ℕ → Type 0
+SlotsRead f bytes x map bad energies prices =
+    (bad ≡ badSlots (f .width) (f .top) x (hourBits map) (drop (headWidth f) (bitsOf bytes)))
+    × (energies ≡ readSlots (field 0 (f .width)) (slotWidth (f .width) x) (hourBits map) (drop (headWidth f) (bitsOf bytes)))
+    × (prices ≡ readSlots (field (f .width) (priceWidth x)) (slotWidth (f .width) x) (hourBits map) (drop (headWidth f) (bitsOf bytes)))

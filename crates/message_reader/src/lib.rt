@@ -18,26 +18,12 @@ use rules::row::HOUR;
 use rules::row::RANGE;
 ghost use mathlib.Core.Path.{_≡_};
 ghost use mathlib.Core.Bool.{false, _||_};
-ghost use Prim.Native.Nat.{_+_, _*_, _^_, _<_, _≤_};
+ghost use mathlib.Core.List.{List};
+ghost use Prim.Native.Nat.{ℕ, _^_, _<_, _≤_};
 ghost use lib.Count.{leadingZeros};
-ghost use lib.ListN.{length, drop, replicate};
-ghost use Rattle.rules.specs.Message.{
-  form1,
-  priceWidth,
-  headWidth,
-  slotWidth,
-  slotsEnd,
-  formOf,
-  setBits,
-  hourBits,
-  bitsOf,
-  field,
-  readSlots,
-  messageOf,
-  wrongForm,
-  read as reading,
-};
-ghost use Rattle.message_reader.specs.Slots.{badSlots, headIn, noHead, readingOf};
+ghost use lib.ListN.{length, replicate};
+ghost use Rattle.rules.specs.Message.{form1, formOf, bitsOf, field, messageOf, wrongForm, read as reading};
+ghost use Rattle.message_reader.specs.Slots.{ToFill, SlotsRead, headIn, noHead, readingOf};
 ghost use Rattle.message.specs.View.{fieldsIn, readingAs};
 
 // The first eight bytes as one number: it holds every field before the slots.
@@ -48,14 +34,11 @@ fn head_word(s: &[u8]) -> u64
     four_at(s, 0) * 4294967296 + four_at(s, 4)
 }
 
-// 3: wrong length, form, kind or filling.
-pub fn bad_form(s: &[u8]) -> bool
+// 3: wrong length, form, kind or filling, of a message with a head. An offer ends with a byte and has no filling.
+fn bad_head(s: &[u8], word: u64) -> bool
+    requires { ⌜ (8 ≤ length (now s)) × (word ≡ field 0 64 (bitsOf (now s))) ⌝ }
     ensures { λ r. ⌜ r ≡ wrongForm (now (s .entry)) ⌝ }
 {
-    if s.len() < 8 {
-        return true;
-    }
-    let word = head_word(s);
     let kind = part(word, 58, 2);
     let map = part(word, 0, 25);
     if s.len() != length_for(kind == 1, map) {
@@ -64,11 +47,25 @@ pub fn bad_form(s: &[u8]) -> bool
     if part(word, 60, 4) != 1 {
         return true;
     }
+    if kind == 0 {
+        return false;
+    }
     if 1 < kind {
         return true;
     }
     let end = slots_end(kind == 1, map);
     slot_at(s, end, s.len() * 8 - end) != 0
+}
+
+// 3: wrong length, form, kind or filling.
+pub fn bad_form(s: &[u8]) -> bool
+    ensures { λ r. ⌜ r ≡ wrongForm (now (s .entry)) ⌝ }
+{
+    if s.len() < 8 {
+        return true;
+    }
+    let word = head_word(s);
+    bad_head(s, word)
 }
 
 // The hours before the first that the map names.
@@ -97,11 +94,8 @@ fn fill(
     energies: &mut [u32; HOURS],
     prices: &mut [u32; HOURS],
 ) -> bool
-    requires { ⌜ (map < 2 ^ 25) × (slotsEnd form1 execution (setBits map) ≤ 8 * length (now s))
-        × (now energies ≡ replicate 25 0) × (now prices ≡ replicate 25 0) ⌝ }
-    ensures { λ r. ⌜ (r ≡ badSlots (form1 .width) (form1 .top) execution (hourBits map) (drop (headWidth form1) (bitsOf (now (s .entry)))))
-        × (now (energies .exit) ≡ readSlots (field 0 (form1 .width)) (slotWidth (form1 .width) execution) (hourBits map) (drop (headWidth form1) (bitsOf (now (s .entry)))))
-        × (now (prices .exit) ≡ readSlots (field (form1 .width) (priceWidth execution)) (slotWidth (form1 .width) execution) (hourBits map) (drop (headWidth form1) (bitsOf (now (s .entry))))) ⌝ }
+    requires { ⌜ ToFill form1 (now s) execution map (now energies) (now prices) ⌝ }
+    ensures { λ r. ⌜ SlotsRead form1 (now (s .entry)) execution map r (now (energies .exit)) (now (prices .exit)) ⌝ }
 {
     let price = price_width(execution);
     let mask = power(price) as u32 - 1;
@@ -122,6 +116,23 @@ fn fill(
     bad
 }
 
+// The same. A kind by itself in each call has the loop compiled for it, with widths that are fixed.
+fn fill_by_kind(
+    s: &[u8],
+    execution: bool,
+    map: u32,
+    energies: &mut [u32; HOURS],
+    prices: &mut [u32; HOURS],
+) -> bool
+    requires { ⌜ ToFill form1 (now s) execution map (now energies) (now prices) ⌝ }
+    ensures { λ r. ⌜ SlotsRead form1 (now (s .entry)) execution map r (now (energies .exit)) (now (prices .exit)) ⌝ }
+{
+    if execution {
+        return fill(s, true, map, energies, prices);
+    }
+    fill(s, false, map, energies, prices)
+}
+
 // The fields before the hours' slots.
 struct Head {
     execution: bool,
@@ -131,11 +142,9 @@ struct Head {
     map: u32,
 }
 
-fn head_of(s: &[u8]) -> Head
-    requires { ⌜ 8 ≤ length (now s) ⌝ }
-    ensures { λ r. ⌜ (r ≡ headIn (bitsOf (now (s .entry)))) × (r .map < 2 ^ 25) ⌝ }
+fn head_of(word: u64) -> Head
+    ensures { λ r. ⌜ ((bytes : List ℕ) → 8 ≤ length bytes → word ≡ field 0 64 (bitsOf bytes) → r ≡ headIn (bitsOf bytes)) × (r .map < 2 ^ 25) ⌝ }
 {
-    let word = head_word(s);
     Head {
         execution: part(word, 58, 2) == 1,
         default: part(word, 57, 1) == 1,
@@ -150,7 +159,8 @@ pub fn fields_of(s: &[u8]) -> Fields
     requires { ⌜ wrongForm (now s) ≡ false ⌝ }
     ensures { λ r. ⌜ fieldsIn r ≡ messageOf (now (s .entry)) ⌝ }
 {
-    let head = head_of(s);
+    let word = head_word(s);
+    let head = head_of(word);
     let mut energies = [0u32; HOURS];
     let mut prices = [0u32; HOURS];
     let _bad = fill(s, head.execution, head.map, &mut energies, &mut prices);
@@ -207,17 +217,21 @@ fn judged(s: &[u8], energies: &mut [u32; HOURS], prices: &mut [u32; HOURS]) -> H
     requires { ⌜ (now energies ≡ replicate 25 0) × (now prices ≡ replicate 25 0) ⌝ }
     ensures { λ r. ⌜ readingOf r (now (energies .exit)) (now (prices .exit)) ≡ readingAs (reading (now (s .entry))) ⌝ }
 {
-    if bad_form(s) {
+    if s.len() < 8 {
         return refused(FORM);
     }
-    let head = head_of(s);
+    let word = head_word(s);
+    if bad_head(s, word) {
+        return refused(FORM);
+    }
+    let head = head_of(word);
     if bad_map(head.map) {
         return refused(HOUR);
     }
     if bad_key(head.execution, head.unit, head.contract) {
         return refused(RANGE);
     }
-    if fill(s, head.execution, head.map, energies, prices) {
+    if fill_by_kind(s, head.execution, head.map, energies, prices) {
         clear(energies, prices);
         return refused(RANGE);
     }

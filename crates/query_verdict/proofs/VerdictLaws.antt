@@ -1,14 +1,15 @@
 -- Verdicts in the lodgements' indices, and what they are told as.
-use Prim.Native.Nat.{ℕ, _≤_, _<_}
+use Prim.Native.Nat.{ℕ, zero, suc, _≤_, _<_}
 use mathlib.Core.Path.{_≡_, refl, ap, sym, _∙_}
 use mathlib.Core.Bool.{Bool, true, false, cond, not}
 use mathlib.Core.List.{List, [], _∷_, map}
 use mathlib.Core.Option.{none as nothing}
 use native.Mathlib.Omega.{arith}
 use lib.Dec.{eqb}
-use lib.ListN.{getD, take, length-map}
+use lib.ListN.{length, getD, take, length-map}
+use lib.Seq.{getD-take}
 use borrow.Author.Tests.{eqb-true, not-true, lt-ltb, le-ltb}
-use Rattle.rules.specs.Lists.{All, none, more, first}
+use Rattle.rules.specs.Lists.{All, none, more, Pairwise, empty, ahead, first}
 use Rattle.rules.specs.Refusals.{Row, row, limitRow, firstRow, unless, outcome}
 use Rattle.rules.specs.Units.{unitOf}
 use Rattle.rules.specs.Lodging as L
@@ -18,20 +19,21 @@ use Rattle.rules.specs.Closing as C
 use Rattle.rules.specs.Queries as Q
 use Rattle.rules.specs.Queries.{isStanding}
 use Rattle.rules.proofs.BoolLaws.{by-bool, of-not}
-use Rattle.rules.proofs.ListLaws.{first-passes, all-mapped}
+use Rattle.rules.proofs.ListLaws.{all-at, first-passes, all-mapped}
 use Rattle.rules.proofs.CeilingLaws.{limits-numbered}
 use Rattle.session.specs.Bare.{bareVerdict}
 use Rattle.session.specs.Laid.{pad}
-use Rattle.session.specs.Image.{image, verdictsIn, verdictAs, noVerdict, lodgementAs}
+use Rattle.session.specs.Image.{image, Sound, verdictsIn, verdictAs, noVerdict, noLodgement, lodgementAs}
 use Rattle.session.specs.Parts.{indexOf}
 use Rattle.session.specs.declared.Session.{Session}
+use Rattle.session.specs.declared.Lodgement.{Lodgement}
 use Rattle.session.specs.declared.Verdict.{Verdict}
 use Rattle.session.proofs.IndexLaws.{indexed, unindexed, index-first, index-map, getD-map}
 use Rattle.session.proofs.ImageLaws.{closed-as, standing-as, lodgements-as}
 use Rattle.answer.specs.Told.{shown, valueTold, verdictTold, refused}
 use Rattle.answer.specs.declared.Response.{Response}
 use Rattle.query.specs.Replies.{Answered}
-use Rattle.query_verdict.specs.Parts.{lodged, toldAs, verdictIndex, verdictAt}
+use Rattle.query_verdict.specs.Parts.{lodged, numberAt, Rising, toldAs, verdictIndex, verdictAt}
 use Rattle.query.proofs.FigureLaws.{pad-at}
 
 -- A limit's number is never 0
@@ -92,7 +94,24 @@ verdict-at b n h =
     ∙ ap (λ l. C.verdictAmong js (l .number)) (sym (index-first (hasNumber n) blank (b .standing)))
     ∙ ap (C.verdictAmong js) (eqb-true (first (hasNumber n) blank (b .standing) .number) n (first-passes (hasNumber n) blank (b .standing) h)))
 
+numbers-rise : {ls : List L.Lodgement} → Pairwise (λ k l. k .number < l .number) ls → (i j : ℕ) → i < j → j < length ls → getD ls i blank .number < getD ls j blank .number
+numbers-rise empty i j l h = absurd (omega arith)
+numbers-rise (ahead a t) i zero l h = absurd (omega arith)
+numbers-rise (ahead a t) zero (suc j) l h = all-at j blank a (omega arith)
+numbers-rise (ahead a t) (suc i) (suc j) l h = numbers-rise t i j (omega arith) (omega arith)
+
 module _ (s : Session) (b : Book) (e : s ≡ image b) where
+  number-as : (i : ℕ) → i < s .standing → numberAt s i ≡ getD (b .standing) i blank .number
+  number-as i h =
+      ap (λ (l : Lodgement). l .number)
+      (sym (getD-take (s .standing) (s .lodgements) i noLodgement h)
+      ∙ ap (λ (ls : List Lodgement). getD ls i noLodgement) (lodgements-as s b e)
+      ∙ getD-map lodgementAs blank noLodgement (b .standing) i (omega (arith, h, standing-as s b e)))
+
+  -- a sound book's lodgements stand by rising number
+  pub rises : Sound b → Rising s
+  rises sound i j l h = rw (number-as i (omega arith), number-as j h) (numbers-rise (sound .ranges .standing .rising) i j l (omega (arith, h, standing-as s b e)))
+
   index-among : (n : ℕ) → indexOf (lodged n) (take (s .standing) (s .lodgements)) ≡ indexOf (hasNumber n) (b .standing)
   index-among n = rw (lodgements-as s b e) (index-map lodgementAs (lodged n) (b .standing))
 
@@ -120,8 +139,11 @@ pub verdict-2 : (s : Session) (n : ℕ) → (r : Response) → r ≡ refused 2 0
 unfolding shown Q.query Q.queryRows outcome unless row firstRow
 verdict-2 s n r q k b sound e = rw (closed-as s b e, k) q
 
-module _ (s : Session) (n at : ℕ) (index : at ≡ indexOf (lodged n) (take (s .standing) (s .lodgements))) (k : s .closed ≡ true) where
-  module _ (b : Book) (e : s ≡ image b) where
+module _ (s : Session) (n at : ℕ) (found : Rising s → at ≡ indexOf (lodged n) (take (s .standing) (s .lodgements))) (k : s .closed ≡ true) where
+  module _ (b : Book) (sound : Sound b) (e : s ≡ image b) where
+    index : at ≡ indexOf (lodged n) (take (s .standing) (s .lodgements))
+    index = found (rises s b e sound)
+
     -- the number stands exactly if its index is one of the lodgements'
     stands-below : isStanding b n ≡ true → at < s .standing
     unfolding isStanding
@@ -136,15 +158,15 @@ module _ (s : Session) (n at : ℕ) (index : at ≡ indexOf (lodged n) (take (s 
   pub verdict-13 : (r : Response) → r ≡ refused 13 0 → s .standing ≤ at → Answered s (Q.verdict n) r
   unfolding shown Q.query Q.queryRows outcome unless row firstRow
   verdict-13 r q h b sound e =
-      rw (of-not (isStanding b n) (λ t. absurd (omega (arith, h, stands-below b e t))), closed-as s b e, k) q
+      rw (of-not (isStanding b n) (λ t. absurd (omega (arith, h, stands-below b sound e t))), closed-as s b e, k) q
 
-  no-row : (b : Book) → s ≡ image b → at < s .standing → firstRow (Q.queryRows b (Q.verdict n)) ≡ nothing
+  no-row : (b : Book) → Sound b → s ≡ image b → at < s .standing → firstRow (Q.queryRows b (Q.verdict n)) ≡ nothing
   unfolding Q.queryRows row firstRow
-  no-row b e h = rw (below-stands b e h, closed-as s b e, k)
+  no-row b sound e h = rw (below-stands b sound e h, closed-as s b e, k)
 
   pub verdict-told : at < s .standing → at ≤ 127 → (v : Verdict) → v ≡ verdictAt s at → (r : Response) → r ≡ toldAs v → Answered s (Q.verdict n) r
   unfolding Q.query Q.shown outcome unless shown valueTold
   verdict-told h low v w r q b sound e =
-      q ∙ ap toldAs (w ∙ ap (λ i. getD (s .verdicts) i bareVerdict) (index-low at low) ∙ verdict-as s b e n at k (below-stands b e h) index)
+      q ∙ ap toldAs (w ∙ ap (λ i. getD (s .verdicts) i bareVerdict) (index-low at low) ∙ verdict-as s b e n at k (below-stands b sound e h) (index b sound e))
       ∙ told-as (C.verdictAmong (C.judgements b) n) (among-numbered b n)
-      ∙ sym (ap (λ o. shown (unless o (Q.shown b (Q.verdict n)))) (no-row b e h))
+      ∙ sym (ap (λ o. shown (unless o (Q.shown b (Q.verdict n)))) (no-row b sound e h))

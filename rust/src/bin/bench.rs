@@ -188,7 +188,7 @@ fn time(case: &mut Case) {
         gate = gate.min((case.gate)());
         model = model.min((case.model)());
     }
-    println!("| {:<46} | {gate:>10.3} | {model:>10.4} | {:>7.1} |", case.name, gate / model);
+    println!("| {:<46} | {gate:>10.4} | {model:>10.4} | {:>7.1} |", case.name, gate / model);
 }
 
 fn main() {

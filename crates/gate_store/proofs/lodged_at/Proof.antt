@@ -12,16 +12,17 @@ use Rattle.gate_store.proofs.ArrayLaws.{vals, long-vals, val-at}
 use Rattle.gate_store.proofs.Owed.{known}
 use Rattle.gate_store.proofs.Cell.{element-field-read}
 use Rattle.gate_store.proofs.SessionCell.{standing, lodgements, good-at}
-use Rattle.gate_store.proofs.Searched as law
+use Rattle.gate_store.proofs.Searched.{Searched, Laws}
+use Rattle.gate_store.proofs.Halved as law
 use Rattle.gate_store.proofs.lodged_at.Key.{name as #entry}
 use Rattle.gate_store.proofs.lodged_at as f
 use Rattle.gate_store.proofs.lodged_at.Statement as stated
 use Rattle.gate_store.proofs.lodged_at.Code as code
 
-abbrev searched : law.Searched
+abbrev searched : Searched
 searched = record { array = lodgements; counter = standing; blank = noLodgement; number-of = λ x. x .number; numbered = 1 }
 
-laws : law.Laws searched
+laws : Laws searched
 laws = record {
   many-fits = tt;
   wide-fits = tt;

@@ -1,32 +1,8 @@
--- `bad_form` meets its contract: each way out is the next test of the definition.
-use Prim.Native.Nat.{_*_, _+_, _<_, _≤_}
-use mathlib.Core.Path.{_≡_, refl, sym, _∙_}
-use native.Mathlib.Omega.{arith}
-use lib.Dec.{lit<, lit≤}
-use lib.ListN.{length}
-use Rattle.rules.specs.Message.{form1, bitsOf, field, formOf, wrongForm}
-use Rattle.message.proofs.FormLaws.{Long, ends-in, form-short, form-length, form-form, form-kind, form-filling, length-read, filling-read}
-use Rattle.message_bits.proofs.WordLaws.{head-part}
+-- `bad_form` meets its contract: a message without a head is too short.
+use Rattle.rules.specs.Message.{form1, formOf, wrongForm}
+use Rattle.message.proofs.FormLaws.{form-short}
 use Rattle.message_reader.proofs.bad_form.Statement.{statement}
 use Rattle.message_reader.proofs.bad_form.Tie as tie
-
--- the kind, the map and the form
-kind : (c : tie.After-part) → c .part .result ≡ field 4 2 (bitsOf (c .before .before .before .before .args .s .now))
-kind c = head-part 4 2 58 _ (c .before .before .if1 .left) refl (c .before .head-word .ensures) (c .part .ensures .0)
-
-map : (c : tie.After-part2) → c .part2 .result ≡ field 39 25 (bitsOf (c .before .before .before .before .before .args .s .now))
-map c = head-part 39 25 0 _ (c .before .before .before .if1 .left) refl (c .before .before .head-word .ensures) (c .part2 .ensures .0)
-
-form : (c : tie.After-part3) → c .part3 .result ≡ field 0 4 (bitsOf (c .before .before .before .before .before .before .before .before .args .s .now))
-form c = head-part 0 4 60 _ (c .before .before .before .before .before .before .if1 .left) refl (c .before .before .before .before .before .head-word .ensures) (c .part3 .ensures .0)
-
--- what is known where the length was found right, and where the slots end
-long : (c : tie.Else2) → Long form1 (c .before .before .before .before .before .before .before .args .s .now)
-long c = c .if2 .left ∙ length-read form1 _ (kind (c .before .before .before)) (map (c .before .before)) (c .before .length-for .ensures)
-
-room : (c : tie.After-slots-end)
-    → (c .slots-end .result ≤ length (c .before .before .before .before .before .before .before .before .before .before .before .args .s .now) * 8) × (length (c .before .before .before .before .before .before .before .before .before .before .before .args .s .now) * 8 < c .slots-end .result + 8)
-room c = ends-in form1 _ _ (c .before .before .before .before .if2 .left ∙ c .before .before .before .before .before .length-for .ensures) (c .slots-end .ensures .0)
 
 returns : tie.Need-returns
 unfolding wrongForm formOf
@@ -35,67 +11,11 @@ returns c = form-short form1 _ (c .if1 .taken)
 head-word-requires : tie.Need-head-word-requires
 head-word-requires c κs = c .if1 .left
 
-part-requires : tie.Need-part-requires
-part-requires c κs = (lit< tt, lit≤ tt)
-
-part-requires-2 : tie.Need-part-requires-2
-part-requires-2 c κs = (lit< tt, lit≤ tt)
-
-length-for-requires : tie.Need-length-for-requires
-length-for-requires c κs = tt
+bad-head-requires : tie.Need-bad-head-requires
+bad-head-requires c κs = (c .before .if1 .left, c .head-word .ensures)
 
 returns-2 : tie.Need-returns-2
-unfolding wrongForm formOf
-returns-2 c =
-    let l = length-read form1 _ (kind (c .before .before .before)) (map (c .before .before)) (c .before .length-for .ensures) in
-    form-length form1 _ (c .before .before .before .before .before .if1 .left) (λ q. c .if2 .taken (q ∙ sym l))
-
-part-requires-3 : tie.Need-part-requires-3
-part-requires-3 c κs = (lit< tt, lit≤ tt)
-
-returns-3 : tie.Need-returns-3
-unfolding wrongForm formOf
-returns-3 c = form-form form1 _ (c .before .before .before .before .before .before .before .if1 .left) (long (c .before .before)) (λ q. c .if3 .taken (form (c .before) ∙ q))
-
-returns-4 : tie.Need-returns-4
-unfolding wrongForm formOf
-returns-4 c = form-kind form1 _ (c .before .before .before .before .before .before .before .before .if1 .left) (long (c .before .before .before)) (sym (form (c .before .before)) ∙ c .before .if3 .left) (omega (arith, c .if4 .taken, kind (c .before .before .before .before .before .before)))
-
-slots-end-requires : tie.Need-slots-end-requires
-slots-end-requires c κs = tt
-
-mul-slot-at : tie.Need-mul-slot-at
-mul-slot-at c = omega (arith, room c)
-
-sub-slot-at : tie.Need-sub-slot-at
-sub-slot-at c = room c .0
-
-slot-at-requires : tie.Need-slot-at-requires
-slot-at-requires c κs = omega (arith, room c)
-
-returns-5 : tie.Need-returns-5
-unfolding wrongForm formOf
-returns-5 c =
-    let l = long (c .before .before .before .before .before) in
-    rw (c .slot-at .ensures .0)
-    (filling-read form1 _ (kind (c .before .before .before .before .before .before .before .before)) (map (c .before .before .before .before .before .before .before)) l (c .before .slots-end .ensures .0)
-    ∙ form-filling form1 _ (c .before .before .before .before .before .before .before .before .before .before .if1 .left) l (sym (form (c .before .before .before .before)) ∙ c .before .before .before .if3 .left) (omega (arith, c .before .before .if4 .left, kind (c .before .before .before .before .before .before .before .before))))
+returns-2 c = c .bad-head .ensures
 
 pub bad-form-spec : {M : Type 1} → statement M
-bad-form-spec =
-    tie.close
-    (tie.spec
-    returns
-    head-word-requires
-    part-requires
-    part-requires-2
-    length-for-requires
-    returns-2
-    part-requires-3
-    returns-3
-    returns-4
-    slots-end-requires
-    mul-slot-at
-    sub-slot-at
-    slot-at-requires
-    returns-5)
+bad-form-spec = tie.close (tie.spec returns head-word-requires bad-head-requires returns-2)
