@@ -1,7 +1,7 @@
 /*
  * What include/gate.h says of the layout, against the running archive: a session that the calls filled to its last places holds, field by
- * field, what was passed and what the queries answer; no call writes beside the session, the message or the buffer; a
- * refused call leaves the session as it was; a day leaves the same bytes whatever the memory and the reserved fields that were passed
+ * field, what was passed and what the queries answer; a struct that is given back is written to its last byte and not beyond; no call
+ * writes beside the session, the message or the buffer; a refused call leaves the session as it was; a day leaves the same bytes whatever the memory and the reserved fields that were passed
  * held; a call keeps to GATE_STACK bytes of stack.
  */
 #define _POSIX_C_SOURCE 200809L /* pthread_attr_setstack */
@@ -158,6 +158,37 @@ static void verdicts_agree(void) {
         if (v->accepted) CHECK(accepted(r));
         else if (v->limit == 0) CHECK(is(r, GATE_HIDDEN, 0, 0, 0, 0));
         else CHECK(is(r, GATE_LIMIT, v->limit, v->hour, 0, 0));
+    }
+}
+
+/* ---- sizes */
+
+/* How many bytes were written: from the first on, over memory of zeros and of ones; 0 if it is not so. */
+static size_t written(const uint8_t *zeros, const uint8_t *ones, size_t room) {
+    size_t n = 0;
+    while (n < room && zeros[n] == ones[n]) n++;
+    return all(zeros + n, room - n, 0x00) && all(ones + n, room - n, 0xFF) ? n : 0;
+}
+
+/* A struct above 16 bytes is given back through a pointer that goes before the arguments (System V): it is passed by hand here. */
+typedef void *IntoForDate(void *, GateDate);
+typedef void *IntoForMessage(void *, const uint8_t *, size_t);
+
+static void sizes(void) {
+    _Alignas(16) static uint8_t into[2][sizeof(GateOpening) + CANARY];
+    IntoForDate *opened = (IntoForDate *)(void (*)(void))gate_open;
+    IntoForDate *answered = (IntoForDate *)(void (*)(void))gate_hours;
+    IntoForMessage *read = (IntoForMessage *)(void (*)(void))gate_read;
+    const uint8_t none[1] = {0};
+    for (int of = 0; of < 3; of++) {
+        for (int i = 0; i < 2; i++) {
+            memset(into[i], i == 0 ? 0x00 : 0xFF, sizeof into[i]);
+            if (of == 0) opened(into[i], LONG_DAY);
+            if (of == 1) answered(into[i], LONG_DAY);
+            if (of == 2) read(into[i], none, 0);
+        }
+        const size_t size[] = {sizeof(GateOpening), sizeof(GateResponse), sizeof(GateReading)};
+        CHECK(written(into[0], into[1], sizeof into[0]) == size[of]);
     }
 }
 
@@ -388,6 +419,7 @@ static void any_bytes(void) {
 /* ---- all of it on a stack that was painted before */
 
 static void *all_days(void *unused) {
+    sizes();
     dates();
     full_day();
     static GateSession first;
