@@ -98,3 +98,15 @@ module _ {M : Type 1} {𝓤 : URA M} {H : Heap 𝓤} {A : Atoms 𝓤} {K : Type 
       (sub t j f
       (subst (λ (v : Val). Part K W (‵ (fat q (tyStruct ν τs) b o (vstruct vs))) q (tyStruct μ σs) b (i * size (tyStruct μ σs) + (o + d)) v (λ u. ‵ (fat q (tyStruct ν τs) b o (vstruct (setV vs k (arrayVal (set us i u)))))))
       a (element-of t us k i e g lt len (whole t)))))
+
+  -- an element of an array that is a field of one in the first entry is read
+  pub element-element-read : K → {q : Share} {ν μ : Sym} {τs σs : Tys} {b o : ℕ} {vs ws : Vals} {τ : Ty} {n m d c : ℕ} {v : Val} (us ys : List Val) (k i j l : ℕ)
+      → fieldAt zero τs k ≡ some (tyArray (tyStruct μ σs) n, d) → getV vs k ≡ arrayVal us → i < n → length us ≡ n → getD us i vunit ≡ vstruct ws
+      → fieldAt zero σs j ≡ some (tyArray τ m, c) → getV ws j ≡ arrayVal ys → l < m → length ys ≡ m → getD ys l vunit ≡ v
+      → Reads K W (‵ (fat q (tyStruct ν τs) b o (vstruct vs)) ∷ Γ) τ b (l * size τ + (i * size (tyStruct μ σs) + (o + d) + c)) v
+  element-element-read t {q} {ν} {μ} {τs} {σs} {b} {o} {vs} {ws} {τ} {n} {m} {d} {c} us ys k i j l e g lt len a f h less long w =
+      subst (λ (v : Val). Reads K W (‵ (fat q (tyStruct ν τs) b o (vstruct vs)) ∷ Γ) τ b (l * size τ + (i * size (tyStruct μ σs) + (o + d) + c)) v) w
+      (look-in t 0
+      (element-of t ys j l f h less long
+      (subst (λ (v : Val). Part K W (‵ (fat q (tyStruct ν τs) b o (vstruct vs))) q (tyStruct μ σs) b (i * size (tyStruct μ σs) + (o + d)) v (λ u. ‵ (fat q (tyStruct ν τs) b o (vstruct (setV vs k (arrayVal (set us i u)))))))
+      a (element-of t us k i e g lt len (whole t)))))
