@@ -267,11 +267,11 @@ typedef struct GateSession {
     uint32_t hours;                            /* 23, 24 or 25 */
     size_t enrolled;                           /* units */
     GateUnit units[GATE_UNITS];                /* in the order of registering */
-    GateNotice notices[GATE_UNITS];            /* unavailability, in the units' indices */
+    GateNotice notices[GATE_UNITS];            /* unavailability, at the units' indices */
     GateNotice capacities[GATE_DIRECTIONS];    /* by gate_direction */
     size_t standing;                           /* lodgements */
     GateLodgement lodgements[GATE_LODGEMENTS]; /* in the order of their numbers */
-    GateEnergies energies[GATE_LODGEMENTS];    /* in the lodgements' indices */
+    GateEnergies energies[GATE_LODGEMENTS];    /* at the lodgements' indices */
     uint32_t last;                             /* the last lodging number, 0 before the first */
     bool closed;
     bool cleared;

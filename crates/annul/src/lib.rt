@@ -51,7 +51,7 @@ fn judge_annul(s: Session, at: usize, key: Key) -> Ruling
     Ruling::Clear
 }
 
-// "annulling drops the key's lodgement": those behind its index go forward, and the last index is empty.
+// "annulling drops the key's lodgement": those after it go forward, and the last index is empty.
 fn strike(s: Session, at: usize) -> StandingEffect
     ensures { λ r. ⌜ r ≡ struckAt s at ⌝ }
 {

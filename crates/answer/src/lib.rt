@@ -1,4 +1,4 @@
-// What the gate says, as the plain struct that C is handed: the one answer of every call, query and question about a date.
+// The gate's one answer to every call, query and question about a date: a plain struct, which C is handed.
 ghost use mathlib.Core.Path.{_≡_};
 ghost use lib.IntN.{pos};
 ghost use Rattle.answer.specs.Told as T;

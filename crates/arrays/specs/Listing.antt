@@ -9,12 +9,12 @@ pub record Gap (a : List ℕ) (i j : ℕ) : Type 0 where
   pub forward : i ≤ j
   pub empty : (m : ℕ) → i ≤ m → m < j → getD a m 0 ≡ 0
 
--- the index behind the first k of a list
+-- the index after the first k of a list
 unfoldable pub behind : List ℕ → ℕ → ℕ
 behind at zero = 0
 behind at (suc k) = getD at k 0 + 1
 
--- a list has the indices below n at which the array is not 0, by rising index: before, between and behind them it is 0
+-- a list has the indices below n at which the array is not 0, by rising index: everywhere else it is 0
 pub record Listed (a : List ℕ) (n : ℕ) (at : List ℕ) : Type 0 where
   pub few : length at ≤ n
   pub inside : (k : ℕ) → k < length at → getD at k 0 < n

@@ -18,7 +18,7 @@ use session::Key;
 use session::Published;
 use session::Unit;
 
-// The kinds of records. 1 to 100 are kept for them: other lines of a rehearsal have kinds from 101 on (crates/wording).
+// The kinds of records. 1 to 100 are kept for them: other lines of a rehearsal have kinds from 101 on (crates/rehearse_words).
 pub const REGISTER: u8 = 1;
 
 pub const CAPACITY: u8 = 2;

@@ -30,7 +30,7 @@ pub struct HourEnd {
     pub figures: HourFigures,
 }
 
-// The day's: "The count of withdrawal steps, summed over the hours", and the figures in the hours' indices.
+// The day's: "The count of withdrawal steps, summed over the hours", and the figures at the hours' indices.
 pub struct DayEnd {
     pub steps: u64,
     pub figures: [HourFigures; HOURS],

@@ -53,7 +53,7 @@ pub struct HourCapacities {
     pub energies: [u32; 10],
 }
 
-// For each standing lodgement the index of its unit among those registered, behind the last where it is not registered.
+// For each standing lodgement the index of its unit among those registered, the count where it is not registered.
 fn unit_indices(s: Session) -> [u32; LODGEMENTS]
     requires { ⌜ Within s ⌝ }
     ensures { λ r. ⌜ UnitIndices s r ⌝ }

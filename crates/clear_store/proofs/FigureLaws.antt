@@ -135,7 +135,7 @@ unit-executions : (x : Executions) (e : List ℕ) (u : ℕ) → unitEnergy (x .u
 unfolding unitEnergy addsTo executionsOf
 unit-executions x e u = kept-sum (λ (y : Execution). y .energy) (λ y. eqb (y .holder .unit) u) (executionAt x e) (from 0 (x .count))
 
--- of each unit, in its index
+-- of each unit, at its index
 units-said : (us : List Unit) (unit energy : List ℕ) (n m : ℕ) (r : List ℕ) (g : Unit → ℕ) → Column (energyAtIndex us unit energy n) 0 m 64 r → m ≤ 64 → m ≤ length us
     → ((u : Unit) → unitEnergy unit energy n (u .number) ≡ g u) → r ≡ pad 64 0 (map g (take m us))
 unfolding energyAtIndex

@@ -14,7 +14,7 @@ use rules::LODGEMENTS;
 use rules::UNITS;
 use session::HourFigures;
 
-// "a unit's matched [..] and executed energy in an hour": of each of the first `enrolled` units, in its index, `index` being the
+// "a unit's matched [..] and executed energy in an hour": of each of the first `enrolled` units, at its index, `index` being the
 // indices of the holders' units.
 fn by_unit(
     enrolled: usize,

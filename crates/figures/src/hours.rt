@@ -20,7 +20,7 @@ pub fn is_part(kind: u8) -> bool {
 // What no session has, as number, border, price or energy.
 const NONE: u32 = 4294967295;
 
-// An hour with nothing in it. What stands behind its counts, and where nothing is published, must not matter.
+// An hour with nothing in it. What stands after its counts, and where nothing is published, must not matter.
 pub fn no_hour() -> Hour {
     Hour {
         offers: Offers {

@@ -1,5 +1,5 @@
 -- Demand 3, of the session that C and Rust programs lend: what holds after every list of calls of this crate, of their responses and of
--- what its queries then respond. A call lent is a call by value, so the claim is the session's (`Demanded` of crates/daybook), whose
+-- what its queries then respond. A call lent is a call by value, so the claim is the session's (`Demanded` of crates/book), whose
 -- premises are of the session that a call found and the one that it left. That each is the promise of a function of this crate, which asks for
 -- nothing in return, is part of the claim here: both are read off the function's own contract, so that neither moves without the other.
 use mathlib.Core.Path.{_≡_}

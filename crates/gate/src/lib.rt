@@ -1,5 +1,5 @@
 // The C interface (include/gate.h). "The session is lent to each call and changed in place": thin entries that apply the
-// by-value steps of the calls (lodging first that of `pending`), storing what these change (`lent`), and of the queries. The numbers at
+// by-value steps of the calls (lodging first that of `lodge_pending`), store what these change (`gate_store`), and apply those of the queries. The numbers at
 // each are the rows of the refusal table that it can answer with.
 ghost use mathlib.Core.Path.{_≡_};
 ghost use lib.ListN.{length};

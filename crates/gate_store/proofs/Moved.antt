@@ -1,4 +1,4 @@
--- Elements of two arrays of the lent session moved one place forward, side by side, then one put at an index of each, with their count and the last number, whichever arrays they
+-- Elements of two arrays of the lent session moved one index forward, side by side, then one put at an index of each, with their count and the last number, whichever arrays they
 -- are: a walk of its MIR, by hand. The borrow is opened; a loop moves them, which keeps the session that `moved` says; then an element of both arrays and two fields are stored,
 -- and the borrow is closed at the session with them.
 -- Assumes nothing.

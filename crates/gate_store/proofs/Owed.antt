@@ -1,4 +1,4 @@
--- What is owed of a struct, by the number of a part: what is known of the k-th, and what is owed once another stands in its index.
+-- What is owed of a struct, by the number of a part: what is known of the k-th, and what is owed once another stands at its index.
 use mathlib.Core.Path.{_≡_, subst}
 use Prim.Native.Nat.{ℕ, zero, suc}
 use mathlib.Core.List.{List, [], _∷_}

@@ -39,7 +39,7 @@ pub fn settle_capacities(s: &mut Session, t: CapacityEffect) -> Response
     t.answer
 }
 
-// Standing lodgements: some go one place forward, one is put at an index.
+// Standing lodgements: some go one index forward, one is put at an index.
 pub fn settle_standing(s: &mut Session, t: StandingEffect) -> Response
     requires { ⌜ Indexed (t .change) ⌝ }
     ensures { λ r. ⌜ (now (s .exit) ≡ standingWith (now (s .entry)) (t .change)) × (r ≡ t .answer) ⌝ }

@@ -40,7 +40,7 @@ pub record ExecutionReady (x : Execution) : Type 0 where
   pub energy : Between 1 maxEnergy (x .energy)
 
 -- An hour that a session can hold: what holds of every hour gathered from one (`hour-ready` of crates/gathering/proofs/ReadyLaws.antt), as far
--- as one pass over the hour can tell. What stands behind the counts, and as capacity where none is published, is not looked at, and
+-- as one pass over the hour can tell. What stands after the counts, and as capacity where none is published, is not looked at, and
 -- no figure depends on it.
 -- Not asked, though every session's hour has it, since no figure of the hour depends on it either:
 -- that no number is both an offer's and an execution's (Match looks at numbers of offers only, Share at the order of one kind);

@@ -19,7 +19,7 @@ hourIn h = record {
   executions = executionsOf (h .executions) (h .energy);
 }
 
--- the rules' figures as clearing gives them: of offers and executions in their indices, 0 behind them; by direction, those of border 0
+-- the rules' figures as clearing gives them: of offers and executions at their indices, 0 after them; by direction, those of border 0
 -- too, where a flow is domestic energy; a maximum that is not published, as those of border 0, is 0
 unfoldable pub figuresAs : C.Figures → Figures
 figuresAs x = record {

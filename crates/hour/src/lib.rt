@@ -1,4 +1,4 @@
-// An hour as it is cleared and what clearing gives (document 01, "Clearing, hour by hour"): the crate `clearhour` clears it.
+// An hour as it is cleared and what clearing gives (document 01, "Clearing, hour by hour"): the crate `hour_clear` clears it.
 pub mod readiness;
 
 use hour_borders::Executions;
@@ -9,7 +9,7 @@ ghost use mathlib.Core.Path.{_≡_};
 ghost use Rattle.hour.specs.Ready.{isReady};
 
 // An hour as it is cleared: its accepted offers and executions, each kind by rising lodging number, with their energies, and its
-// published capacities by direction (`hour_borders::way`; none of border 0). Behind the counts, and where nothing is published, anything may
+// published capacities by direction (`hour_borders::way`; none of border 0). After the counts, and where nothing is published, anything may
 // stand.
 pub struct Hour {
     pub offers: Offers,
@@ -20,7 +20,7 @@ pub struct Hour {
     pub capacity: [u32; 10],
 }
 
-// What clearing gives: what is still offered and what is matched of each offer, what is executed of each execution, 0 behind them; by
+// What clearing gives: what is still offered and what is matched of each offer, what is executed of each execution, 0 after them; by
 // direction the market maximum, 0 where none is published, and the energy of matched offers and of executions at the end, border 0
 // being domestic; the count of withdrawal steps and the price.
 pub struct Figures {

@@ -1,4 +1,4 @@
-// Whether the parts of an hour are such as a session's hours have: what `hour_clear::clear` tests first. Nothing behind the count
+// Whether the parts of an hour are such as a session's hours have: what `hour_clear::clear` tests first. Nothing after the count
 // of the lodgements is looked at, and no capacity that is not published.
 use rules::LODGEMENTS;
 use rules::MAX_ENERGY;

@@ -19,7 +19,7 @@ pub struct Clearance {
     pub figures: Figures,
 }
 
-// The first n energies, and 0 behind them, where anything may stand.
+// The first n energies, and 0 after them, where anything may stand.
 fn front(a: &[u32; LODGEMENTS], n: usize) -> [u32; LODGEMENTS]
     requires { ⌜ n ≤ 128 ⌝ }
     ensures { λ r. ⌜ r ≡ pad 128 0 (vals (now (a .entry)) 0 n) ⌝ }

@@ -24,7 +24,7 @@ unfoldable pub tenths : List ℕ → List ℕ → List ℕ → List Place
 tenths price e [] = []
 tenths price e (x ∷ xs) = replicate (getD e x 0) (tenthOf price x) ++ tenths price e xs
 
--- what the offers that the keys from i to below n name lay out
+-- the tenths of the offers named by the keys from i to below n
 unfoldable pub laid : List ℕ → List ℕ → List ℕ → ℕ → ℕ → List Place
 laid price e keys i n = tenths price e (indices keys i n)
 

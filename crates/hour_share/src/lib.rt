@@ -87,7 +87,7 @@ fn share_first(deductions: &mut [u32], amounts: &[u32], n: usize, r: u32, g: u32
     share_all(&mut deductions[..n], &amounts[..n], r, g)
 }
 
-// To take r from the first n amounts, whose sum is g: what each of them loses. The deductions behind them stay as they were.
+// To take r from the first n amounts, whose sum is g: what each of them loses. The deductions after them stay as they were.
 pub fn share(
     deductions: &mut [u32; LODGEMENTS],
     amounts: &[u32; LODGEMENTS],

@@ -23,7 +23,7 @@ noticeIn n = cond (n .given) (some (n .energies)) none
 abbrev pub registeredIn : Unit → Notice → Registered
 registeredIn u n = record { unit = unitIn u; available = noticeIn n }
 
--- what the capacities that the session keeps say of the lines
+-- the lines, by the session's capacities
 abbrev pub linesIn : List Notice → Lines
 linesIn cs = record { capacities = map noticeIn cs }
 

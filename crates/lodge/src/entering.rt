@@ -15,8 +15,8 @@ use session::Session;
 use session_changes::StandingChange;
 use session_changes::StandingEffect;
 
-// "A lodgement replaces the one with its key, and takes and answers the next lodging number": those behind the replaced one's
-// index go forward, and the new one stands behind them.
+// "A lodgement replaces the one with its key, and takes and answers the next lodging number": those after the replaced one
+// go forward, and the new one stands at the end.
 pub fn enter(s: Session, m: Fields, from: usize) -> StandingEffect
     requires { ⌜ Room s (keyFor m) × (from ≡ keyIndex s (keyFor m)) × (from ≤ s .standing) ⌝ }
     ensures { λ r. ⌜ EnteredFields s m (standingEffect s r) × Indexed (r .change) ⌝ }

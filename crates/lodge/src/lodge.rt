@@ -21,7 +21,7 @@ use session_changes::StandingEffect;
 use session_changes::standing_refused;
 use session_changes::with_standing;
 
-// What lodging a message that is read changes.
+// The change that lodging a message makes, once the message is read.
 pub fn lodge_pending(s: Session, p: Pending, x: Excerpt) -> StandingEffect
     requires { ⌜ Prepared s p × (x ≡ excerptAt s p) ⌝ }
     ensures { λ r. ⌜ ((bytes : List ℕ) → Pends s bytes p → Met s (lodge bytes) (standingEffect s r)) × Indexed (r .change) ⌝ }

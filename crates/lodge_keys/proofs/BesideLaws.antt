@@ -1,4 +1,4 @@
--- The lodgements that one is judged with: marks in their indices, and the energy that they sum to.
+-- The lodgements that one is judged with: marks at their indices, and the energy that they sum to.
 use Prim.Native.Nat.{ℕ, zero, suc, _+_, _-_, _<_, _≤_}
 use mathlib.Core.Path.{_≡_, refl, sym, ap, _∙_}
 use mathlib.Core.Bool.{Bool, true, false, cond, not, _&&_, Bool·beq}

@@ -23,7 +23,7 @@ ofKey k l = sameKey (keyIn (l .key)) (keyIn k)
 abbrev pub hiding : Key → Lodgement → Bool
 hiding k l = hides (keyIn (l .key)) (keyIn k)
 
--- the index of the key's lodgement among those that stand, or behind the last
+-- the index of the key's lodgement among those that stand, or their count
 abbrev pub keyIndex : Session → Key → ℕ
 keyIndex s k = indexOf (ofKey k) (take (s .standing) (s .lodgements))
 

@@ -19,7 +19,7 @@ use Rattle.lodge_keys.specs.Beside.{marksFor}
 use Rattle.lodge_pending.specs.declared.Excerpt.{Excerpt}
 use Rattle.lodge_pending.specs.declared.Pending.{Pending}
 
--- what is found for a message that is refused before it is read further
+-- a message refused before it is read further
 abbrev pub notPending : ℕ → Pending
 notPending row = record {
   row = row;
@@ -55,7 +55,7 @@ pub record Located (p : Pending) : Type 0 where
   pub third : Nth (p .beside) 2 (p .third)
   pub fourth : Nth (p .beside) 3 (p .fourth)
 
--- what judging asks of a message that is read
+-- judging asks this of a message once it is read
 abbrev pub Prepared : Session → Pending → Type 0
 Prepared s p = (p .row ≡ 0 → Awaits s p) × Located p
 

@@ -88,7 +88,7 @@ fn not_pending(row: u32) -> Pending
     }
 }
 
-// The index of the lodgement of a key, behind the last where there is none: found once, for judging and entering.
+// The index of the lodgement of a key, the count where there is none: found once, for judging and entering.
 fn replaced_index(s: Session, key: Key) -> usize
     requires { ⌜ Within s ⌝ }
     ensures { λ r. ⌜ (r ≡ keyIndex s key) × (r ≤ s .standing) ⌝ }
@@ -97,7 +97,7 @@ fn replaced_index(s: Session, key: Key) -> usize
     key_index(lodgements, s.standing, key)
 }
 
-// A unit's index, also where it is behind the last.
+// A unit's index, also where it is the count.
 fn unit_index(at: usize) -> usize
     ensures { λ r. ⌜ (r < 64) × (at < 64 → r ≡ at) ⌝ }
 {

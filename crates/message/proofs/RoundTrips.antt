@@ -1,4 +1,4 @@
--- Both round trips, as what the contracts of `reader::read` and `writer::write` say together.
+-- Both round trips, as what the contracts of `message_reader::read` and `message_writer::write` say together.
 use Prim.Native.Nat.{ℕ, _<_, _≤_}
 use mathlib.Core.Path.{_≡_, _∙_, ap}
 use mathlib.Core.Bool.{Bool, true, false}

@@ -16,7 +16,7 @@ use Rattle.notify_unavailability.specs.declared.Availability.{Availabili
 abbrev pub availableIn : Availability → D.Call
 availableIn n = D.available (n .unit) (counted (n .count) (n .energies))
 
--- energies that are kept: those of the count, 0 behind
+-- energies that are kept: those of the count, then 0
 unfoldable pub storedAs : ℕ → List ℕ → Notice
 storedAs count es = record { given = true; reserved = 0; reserved2 = 0; energies = pad 25 0 (take count es) }
 

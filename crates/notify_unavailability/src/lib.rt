@@ -50,7 +50,7 @@ pub fn bad_energies(count: usize, energies: [u32; HOURS]) -> bool
     false
 }
 
-// The first `count` energies, 0 behind them.
+// The first `count` energies, 0 after them.
 fn front(count: usize, energies: [u32; HOURS]) -> [u32; HOURS]
     ensures { λ r. ⌜ r ≡ pad 25 0 (take count energies) ⌝ }
 {
@@ -128,7 +128,7 @@ fn note_available(
     RegistryEffect { change, answer }
 }
 
-// What an unavailability notice changes: that of one place.
+// An unavailability notice changes the notice at one index.
 pub fn available_change(s: Session, notice: Availability) -> RegistryEffect
     ensures { λ r. ⌜ Met s (availableIn notice) (registryEffect s r) × (r .change .at < 64) ⌝ }
 {

@@ -1,4 +1,4 @@
--- The figures in the hours' indices.
+-- The figures at the hours' indices.
 use Prim.Native.Nat.{ℕ, zero, suc, _+_, _-_, _≤_, _<_}
 use mathlib.Core.Path.{_≡_, refl, ap, _∙_}
 use mathlib.Core.Bool.{true}

@@ -1,5 +1,5 @@
-// Queries, by value: what all of them share, and the price. Verdicts are asked in `verdicts`, a unit's energies in `energies`,
-// a border's balances in `balances` and its maxima in `maxima`.
+// Queries, by value: what all of them share, and the price. Verdicts are asked in `query_verdict`, a unit's energies in `query_unit`,
+// a border's balances in `query_balance` and its maxima in `query_maximum`.
 ghost use mathlib.Core.Path.{_≡_};
 ghost use Prim.Native.Nat.{_<_};
 ghost use Rattle.rules.specs.Queries as Q;

@@ -24,7 +24,7 @@ asked kind of export hour =
     (cond (eqb kind 108) (some (bilateralMax of export hour))
     none)))))))
 
--- the reply: the query's own promise; where there is no query, refused as 3, as `daybook::run` refuses what is no call
+-- the reply: the query's own promise; where there is no query, refused as 3, as `book::run` refuses what is no call
 abbrev pub Replied : Session → Option Query → Response → Type 0
 Replied s (some q) r = Answered s q r
 Replied s none r = r ≡ refused 3 0

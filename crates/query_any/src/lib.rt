@@ -5,7 +5,7 @@ use rules::row::FORM;
 use session::Session;
 
 // The numbers of the queries are 101 to 200: those below are the log's records, those above a rehearsal's other lines
-// (crates/wording).
+// (crates/rehearse_words).
 pub const VERDICT: u8 = 101;
 
 pub const MATCHED: u8 = 102;

@@ -1,4 +1,4 @@
--- What the balances' queries read in the directions' indices is what they are to show.
+-- What the balances' queries read at the directions' indices is what they are to show.
 use Prim.Native.Nat.{ℕ, _+_, _/_, _%_, _≤_}
 use mathlib.Core.Path.{_≡_, ap, ap₂, _∙_}
 use mathlib.Core.Bool.{Bool, true, false}

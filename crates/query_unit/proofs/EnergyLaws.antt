@@ -1,4 +1,4 @@
--- What the energies' queries read in the units' indices is what they are to show.
+-- What the energies' queries read at the units' indices is what they are to show.
 use Prim.Native.Nat.{ℕ}
 use mathlib.Core.Path.{_≡_, ap, sym, _∙_}
 use mathlib.Core.Bool.{true}

@@ -1,4 +1,4 @@
--- Verdicts in the lodgements' indices, and what they are told as.
+-- Verdicts at the lodgements' indices, and what they are told as.
 use Prim.Native.Nat.{ℕ, zero, suc, _≤_, _<_}
 use mathlib.Core.Path.{_≡_, refl, ap, sym, _∙_}
 use mathlib.Core.Bool.{Bool, true, false, cond, not}

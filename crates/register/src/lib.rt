@@ -141,7 +141,7 @@ fn stored(u: Unit) -> Unit
     }
 }
 
-// "registering adds the unit", behind the others.
+// "registering adds the unit", after the others.
 fn enrol(s: Session, u: Unit) -> RegistryEffect
     requires { ⌜ s .enrolled < 64 ⌝ }
     ensures { λ r. ⌜ Entered s (register (unitIn u)) (registryEffect s r) × (r .change .at < 64) ⌝ }

@@ -1,4 +1,4 @@
-// What a line of a rehearsal is answered with, and how that is written.
+// A rehearsal line's answer, and how it is written.
 use answer::REFUSED;
 use answer::Response;
 use rehearse_report::replies::put_response;

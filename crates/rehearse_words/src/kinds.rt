@@ -1,5 +1,5 @@
-// What a line asks for, by its first word: a kind. The kinds of the log's records are 1 to 100 (crates/log), those of the queries
-// 101 to 200 (crates/asking), and what is neither stands from 201 on: each has room for more, and its hundred says which it is.
+// What a line asks for, by its first word: a kind. The kinds of the log's records are 1 to 100 (crates/book_log), those of the queries
+// 101 to 200 (crates/query_any), and what is neither stands from 201 on: each has room for more, and its hundred says which it is.
 use crate::words::Word;
 use crate::words::is_word;
 use book_log::ANNUL;

@@ -1,4 +1,4 @@
-// A line as the record of a call (crates/log), which `book::run` runs. There is room for as many bytes as a line's
+// A line as the record of a call (crates/book_log), which `book::run` runs. There is room for as many bytes as a line's
 // hexadecimal digits can give. Indices here are counted from BASE on.
 use crate::hex::byte_in;
 use crate::hex::bytes_in;

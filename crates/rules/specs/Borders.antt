@@ -30,7 +30,7 @@ atBorder x e = e
 unfoldable pub keeps : Holder → ℕ → ℕ → ℕ
 keeps x e k = e - k
 
--- what the energies of a list that run at a border in a direction count for there
+-- the sum at a border, in a direction, of a list's energies as they count there
 unfoldable pub flow : {A : Type 0} → (A → Holder) → (A → ℕ) → ℕ → Bool → List A → ℕ
 flow holder energy border export xs = sumOf (λ x. atBorder (holder x) (energy x)) (keep (λ x. runs border export (holder x)) xs)
 

@@ -1,4 +1,4 @@
--- The session that stands for a book: its lists laid into arrays, blanks behind.
+-- The session that stands for a book: its lists laid into arrays, blanks after them.
 use Prim.Native.Nat.{ℕ, _/_, _%_}
 use mathlib.Core.Path.{_≡_}
 use mathlib.Core.Bool.{Bool, true, false, cond, _&&_, Bool·beq}
@@ -87,7 +87,7 @@ unfoldable pub energyOf : List Directed → ℕ → Bool → ℕ
 energyOf [] border export = 0
 energyOf (d ∷ ds) border export = cond (eqb (d .border) border && Bool·beq (d .export) export) (d .energy) (energyOf ds border export)
 
--- an energy of each unit, in its index
+-- an energy of each unit, at its index
 unfoldable pub byUnit : (ℕ → ℕ) → List U.Registered → List ℕ
 byUnit f us = pad 64 0 (map (λ r. f (r .unit .number)) us)
 

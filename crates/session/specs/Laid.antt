@@ -3,7 +3,7 @@ use Prim.Native.Nat.{ℕ, _-_}
 use mathlib.Core.List.{List, _++_}
 use lib.ListN.{length, replicate, take}
 
--- the list, and d in every index behind it
+-- the list, and d at every index after it
 unfoldable pub pad : {A : Type 0} → ℕ → A → List A → List A
 pad n d l = l ++ replicate (n - length l) d
 

@@ -32,7 +32,7 @@ judgement (some r) = No (r .number) (r .hour)
 abbrev pub Judges : Session → D.Call → Ruling → Type 0
 Judges s c j = (b : Book) → s ≡ image b → j ≡ judgement (firstRow (D.rowsOf b c))
 
--- what a call that no row refuses makes of a session
+-- a call's effect on a session, where no row refuses it
 pub record Entered (s : Session) (c : D.Call) (r : Effect) : Type 0 where
   pub book : (b : Book) → Sound b → firstRow (D.rowsOf b c) ≡ none → s ≡ image b → As (record { book = D.applied b c; answer = D.reply b c }) (r .answer) (r .session)
   pub fine : isRefusal (r .answer) ≡ false
@@ -50,7 +50,7 @@ within s = leb (s .hours) 25 && (leb (s .enrolled) 64 && (leb (s .standing) 128 
 
 -- Searches among units
 
--- the index of the first that passes a test, or behind the last
+-- the index of the first that passes a test, or the count of all
 unfoldable pub indexOf : {A : Type 0} → (A → Bool) → List A → ℕ
 indexOf p [] = 0
 indexOf p (x ∷ xs) = cond (p x) 0 (suc (indexOf p xs))
@@ -62,7 +62,7 @@ numberIs n u = eqb (u .number) n
 abbrev pub unitIndex : Session → ℕ → ℕ
 unitIndex s unit = indexOf (numberIs unit) (take (s .enrolled) (s .units))
 
--- the unit of a number among the first n: its index, or behind the last, and what stands there
+-- the unit of a number among the first n: its index, or n, and what stands there
 pub record Holds (units : List Unit) (n number : ℕ) (h : Holder) : Type 0 where
   pub index : h .at ≡ indexOf (numberIs number) (take n units)
   pub most : h .at ≤ n

@@ -11,7 +11,7 @@ use Rattle.session.specs.declared.Session.{Session}
 use Rattle.session.specs.declared.Effect.{Effect}
 use Rattle.session.specs.declared.Opened.{Opened}
 
--- answer and session are those of a effect of the book
+-- answer and session are those of an effect on the book
 pub record As (t : D.Effect) (a : Response) (s : Session) : Type 0 where
   pub answer : a ≡ told (t .answer)
   pub session : s ≡ image (t .book)

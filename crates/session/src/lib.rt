@@ -31,7 +31,7 @@ pub struct Unit {
     pub reserved: u16,
 }
 
-// A notice that the session keeps: energies by hour, 0 behind the last hour.
+// A notice that the session keeps: energies by hour, 0 after the last hour.
 #[repr(C)]
 pub struct Notice {
     pub given: bool,
@@ -94,8 +94,8 @@ pub struct HourFigures {
 }
 
 // `enrolled` units stand in front of their array, and `standing` lodgements of theirs, in the order of their numbers.
-// `capacities` are export and import of border 1, of 2, of 3, of 4. Verdicts stand in the lodgements' indices once closed,
-// figures in the hours' indices once cleared.
+// `capacities` are export and import of border 1, of 2, of 3, of 4. Verdicts stand at the lodgements' indices once closed,
+// figures at the hours' indices once cleared.
 #[repr(C)]
 pub struct Session {
     pub date: Date,
@@ -116,7 +116,7 @@ pub struct Session {
     pub reserved2: u32,
 }
 
-// The unit of a number, found once for all that ask about it: its index and itself; behind the last and blank where there is none.
+// The unit of a number, found once for all that ask about it: its index and itself; where there is none, the count and a blank unit.
 pub struct Holder {
     pub at: usize,
     pub unit: Unit,
@@ -141,7 +141,7 @@ pub struct Opened {
     pub session: Session,
 }
 
-// What stands in an empty index.
+// What stands at an index that is not used.
 pub fn no_unit() -> Unit
     ensures { λ r. ⌜ r ≡ noUnit ⌝ }
 {

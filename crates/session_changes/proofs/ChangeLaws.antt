@@ -1,4 +1,4 @@
--- What calls change: elements moved forward, and a session with or without what a effect changes.
+-- What calls change: elements moved forward, and a session with or without what an effect changes.
 use Prim.Native.Nat.{ℕ, zero, suc, _+_, _≤_, _<_}
 use mathlib.Core.Path.{_≡_, refl, ap, _∙_}
 use mathlib.Core.Bool.{true, false}

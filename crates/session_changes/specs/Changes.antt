@@ -143,7 +143,7 @@ capacityEffect s t = record { session = capacitiesWith s (t .change); answer = t
 
 -- Standing lodgements
 
--- the elements behind index `from`, up to index `to`, each one place forward
+-- the elements after index `from`, up to index `to`, each one index forward
 unfoldable pub moved : {A : Type 0} → ℕ → ℕ → List A → List A
 moved zero zero l = l
 moved zero (suc to) [] = []

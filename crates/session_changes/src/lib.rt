@@ -49,7 +49,7 @@ pub struct CapacityEffect {
     pub answer: Response,
 }
 
-// Standing lodgements: those behind index `from`, up to index `to`, go one place forward; then one is put at an index.
+// Standing lodgements: those after index `from`, up to index `to`, go one index forward; then one is put at an index.
 pub struct StandingChange {
     pub from: usize,
     pub to: usize,
@@ -208,7 +208,7 @@ pub fn with_capacities(s: Session, t: CapacityEffect) -> Effect
     }
 }
 
-// Lodgements and their energies from index `from` on, each one place forward, up to index `to`.
+// Lodgements and their energies from index `from` on, each one index forward, up to index `to`.
 fn moved_forward(s: Session, from: usize, to: usize) -> Session
     requires { ⌜ (from ≤ to) × (to < 128) ⌝ }
     ensures { λ r. ⌜ r ≡ movedIn s from to ⌝ }

@@ -17,7 +17,7 @@ pub record Energies (n : ℕ) (offered matched : List ℕ) : Type 0 where
   pub part : Ranged matched
   -- no more matched than offered
   pub within : (i : ℕ) → i < n → getD matched i 0 ≤ getD offered i 0
-  -- nothing behind the offers
+  -- nothing after the offers
   pub offered-behind : (i : ℕ) → n ≤ i → getD offered i 0 ≡ 0
   pub matched-behind : (i : ℕ) → n ≤ i → getD matched i 0 ≡ 0
   -- arrays of 128
@@ -38,6 +38,6 @@ pub record Stepped (h : Offers) (over offered matched offered′ matched′ : Li
   -- none offers more than before, and no more is matched than offered
   pub lower : (i : ℕ) → getD offered′ i 0 ≤ getD offered i 0
   pub within : (i : ℕ) → i < h .count → getD matched′ i 0 ≤ getD offered′ i 0
-  -- nothing is written behind the offers
+  -- nothing is written after the offers
   pub offered-written : Written (h .count) offered offered′
   pub matched-written : Written (h .count) matched matched′

@@ -33,7 +33,7 @@ pub record GivenIn (h : Offers) (over : List ℕ) (g : Group) (ways : List ℕ) 
   pub each : (i : ℕ) → i < h .count
       → getD ways i 0 ≡ givenOf over g (getD (h .border) i 0) (getD (h .purchase) i false) (getD (h .legacy) i false) (getD (h .price) i 0)
 
--- what is offered behind the first n is as before, and none of them offers more, where no more is matched than offered
+-- what is offered after the first n is as before, and none of them offers more, where no more is matched than offered
 pub record Lower (n : ℕ) (e m after : List ℕ) : Type 0 where
   pub lower : (i : ℕ) → i < n → getD m i 0 ≤ getD e i 0 → getD after i 0 ≤ getD e i 0
   pub beyond : (i : ℕ) → n ≤ i → getD after i 0 ≡ getD e i 0

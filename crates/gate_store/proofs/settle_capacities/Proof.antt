@@ -1,4 +1,4 @@
--- `lent::settle_capacities` meets its contract: a walk of its MIR, by hand. The borrow is opened, a field is stored, if anything changes, and the borrow is closed at the session with it.
+-- `gate_store::settle_capacities` meets its contract: a walk of its MIR, by hand. The borrow is opened, a field is stored, if anything changes, and the borrow is closed at the session with it.
 -- Assumes nothing.
 use mathlib.Core.Path.{_≡_, refl}
 use Prim.Native.Nat.{ℕ}

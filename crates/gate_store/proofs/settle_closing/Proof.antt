@@ -1,4 +1,4 @@
--- `lent::settle_closing` meets its contract, by the law of its shape.
+-- `gate_store::settle_closing` meets its contract, by the law of its shape.
 use mathlib.Core.Path.{refl}
 use contract.Running.{givenOf, tables, tablesOf}
 use denote.Triple.Spec.{tripleOf}

@@ -1,4 +1,4 @@
--- `lent::settle_registry` meets its contract: a walk of its MIR, by hand. The borrow is opened, a field and an element of two arrays are stored, and the borrow is closed at the session with them.
+-- `gate_store::settle_registry` meets its contract: a walk of its MIR, by hand. The borrow is opened, a field and an element of two arrays are stored, and the borrow is closed at the session with them.
 -- Assumes nothing.
 use mathlib.Core.Path.{_≡_, refl}
 use Prim.Native.Nat.{ℕ, _<_}

@@ -1,4 +1,4 @@
--- `lent::settle_standing` meets its contract, by the law of its shape: lodgements and their energies.
+-- `gate_store::settle_standing` meets its contract, by the law of its shape: lodgements and their energies.
 use mathlib.Core.Path.{_≡_, refl, sym, subst, _∙_}
 use native.Mathlib.Omega.{arith}
 use contract.Running.{givenOf, tables, tablesOf}

@@ -1,4 +1,4 @@
--- `share::hand_out` meets its contract. The measure is the number left.
+-- `hand_out` meets its contract. The measure is the number left.
 use Prim.Native.Nat.{ℕ, _+_, _<_}
 use mathlib.Core.Path.{_∙_}
 use native.Mathlib.Omega.{arith}

@@ -1,4 +1,4 @@
--- `bits::bits_at` meets its contract: a field is that of its bits that are there.
+-- `message_bits::bits_at` meets its contract: a field is that of its bits that are there.
 use mathlib.Core.Path.{sym}
 use native.Mathlib.Omega.{arith}
 use Rattle.message_bits.proofs.WordLaws.{field-there, field-none}

@@ -1,4 +1,4 @@
--- `bits::field_at` meets its contract: the five bytes from the first bit's byte on hold the field.
+-- `message_bits::field_at` meets its contract: the five bytes from the first bit's byte on hold the field.
 use mathlib.Core.Path.{_∙_}
 use native.Mathlib.Omega.{arith}
 use Rattle.rules.proofs.ListLaws.{Under, all-of}

@@ -1,4 +1,4 @@
--- `bits::has_at` meets its contract: the bytes up to the last bit's are there exactly when the bit is.
+-- `message_bits::has_at` meets its contract: the bytes up to the last bit's are there exactly when the bit is.
 use native.Mathlib.Omega.{arith}
 use Rattle.message_bits.proofs.WordLaws.{has-all, has-not}
 use Rattle.message_bits.proofs.has_at.Statement.{statement}

@@ -1,4 +1,4 @@
--- `bits::part` meets its contract: a mask of ones leaves a remainder.
+-- `message_bits::part` meets its contract: a mask of ones leaves a remainder.
 use Prim.Native.Nat.{_/_, _^_}
 use mathlib.Core.Path.{refl}
 use native.Mathlib.Omega.{arith}

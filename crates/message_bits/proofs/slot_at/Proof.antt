@@ -1,4 +1,4 @@
--- `bits::slot_at` meets its contract: the four bytes up to the field's end hold it.
+-- `message_bits::slot_at` meets its contract: the four bytes up to the field's end hold it.
 use Prim.Native.Nat.{_+_, _*_, _-_, _/_, _^_, _<_}
 use mathlib.Core.Path.{_∙_}
 use native.Mathlib.Omega.{arith}

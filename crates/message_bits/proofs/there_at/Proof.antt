@@ -1,4 +1,4 @@
--- `bits::there_at` meets its contract.
+-- `message_bits::there_at` meets its contract.
 use Prim.Native.Nat.{_+_, _*_, _<_}
 use mathlib.Core.Path.{sym, _∙_}
 use native.Mathlib.Omega.{arith}
