@@ -2,7 +2,7 @@
 use Prim.Native.Nat.{ℕ, suc, _+_, _-_, _*_, _≤_, _<_}
 use mathlib.Core.Path.{_≡_, refl, sym, ap, subst, _∙_}
 use mathlib.Core.Bool.{Bool, true, false, not}
-use mathlib.Core.List.{List, [], _∷_, map}
+use mathlib.Core.List.{List, map}
 use mathlib.Core.Logic.{⊎-elim}
 use native.Mathlib.Nat.{eq-or-lt-of-le}
 use native.Mathlib.Omega.{arith}
@@ -17,9 +17,8 @@ use Rattle.rules.proofs.BoolLaws.{by-bool}
 use Rattle.rules.proofs.ListLaws.{hourly-suc}
 use Rattle.session.specs.Bare.{bareNotice, bareEnergies}
 use Rattle.session.specs.Image.{image, Sound, noUnit, noVerdict, noLodgement}
-use Rattle.session.specs.Parts.{Within, numberIs, indexOf, unitIndex}
+use Rattle.session.specs.Parts.{Within, unitIndex}
 use Rattle.session.specs.declared.Lodgement.{Lodgement}
-use Rattle.session.specs.declared.Unit.{Unit}
 use Rattle.session.specs.declared.Energies.{Energies}
 use Rattle.session.specs.declared.Verdict.{Verdict}
 use Rattle.session.specs.declared.Ruling.{Ruling}

@@ -1,9 +1,9 @@
 -- The classes of a closing: what each is handed and hands on.
-use Prim.Native.Nat.{ℕ, suc, _+_, _*_, _≤_, _<_}
+use Prim.Native.Nat.{ℕ, suc, _+_, _*_, _<_}
 use mathlib.Core.Path.{_≡_}
 use mathlib.Core.Bool.{Bool, true, false, cond}
 use mathlib.Core.List.{List, map}
-use lib.ListN.{length, getD, take}
+use lib.ListN.{getD, take}
 use Rattle.rules.specs.Lists.{from, sumOf}
 use Rattle.rules.specs.Book.{Book}
 use Rattle.session.specs.Image.{image, verdictAs, noVerdict}
