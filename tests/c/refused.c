@@ -339,7 +339,7 @@ static void read_answers(size_t length, uint32_t row, int line) {
         armed = 1;
         GateReading r = gate_read(message, length);
         armed = 0;
-        if (r.refusal != row) say(line, "gate_read", "another answer");
+        if (r.row != row) say(line, "gate_read", "another answer");
     } else {
         armed = 0;
         say(line, "gate_read", "a lent byte was written");

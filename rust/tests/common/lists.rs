@@ -400,7 +400,7 @@ impl Maker {
             0..=639 => self.lodge(),
             640..=719 => self.annul(),
             720..=799 => self.capacity(),
-            800..=869 => self.unavailability(),
+            800..=869 => self.available(),
             870..=899 => self.register(),
             900..=979 => {
                 let query = self.query();
