@@ -1,2 +1,4 @@
 pub mod FitLaws
 pub mod RoomLaws
+mod TakeLaws
+mod PassLaws

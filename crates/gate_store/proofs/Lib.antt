@@ -8,3 +8,6 @@ pub mod SessionCell
 pub mod Searched
 pub mod Settled
 pub mod Moved
+pub mod Numbers
+pub mod Gathered
+pub mod Gatherings

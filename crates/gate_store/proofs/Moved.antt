@@ -17,7 +17,7 @@ use base.Fml.{GName, Lft, Share, ftrue, fat, froom, fdies, flft, fobs, fauth, fb
 use lib.Dec.{T as Tᵇ, ltb, ltb→lt, nltb→le}
 use lib.ListN.{getD}
 use lib.WfN.{Nat·lt-wfRel}
-use prog.Wp.{Heap, Env, Out, Wp, afterSeq, afterBlock, afterLap, atReturn, Calls, Loops, WpFn, Tables}
+use prog.Wp.{Heap, Env, Out, Wp, afterSeq, afterBlock, afterTurn, atReturn, Calls, Loops, WpFn, Tables}
 use ghost.Atoms.{Atoms}
 use types.Kit.{Given, Item, ‵, runs, anyQ, atRet, Sq, _⊛_, _$_, _∵_, !, qed, by, move, keep, drop, use1, split, join, fsplit, fsplit3, fjoin, fjoin3, feqI, rewrite, suffices, frame, done}
 use types.Run.{look, store, init, forget, stop, hop, from, load, of-opd, lit, bin, addr, assigns, assigns-last, first, stays, leaves-loop, skips, branches, blocks, exec, Below, again, loops, returns, enter, alloc1, alloc0, params1, pass1, pass0, free1, free0}
@@ -362,10 +362,10 @@ module _ (g : Moved) (law : Laws g) {M : Type 1} (𝓤 : URA M) (H : Heap 𝓤) 
       At u = ‵ (fat fullShare T′.mir b o (sv (state (u .0)))) ∷ ‵ (fobor κ q (Lent (mem T.the-row) b o γ)) ∷ ‵ (fobs γ (T.the-row .coded .code h)) ∷ ‵ (fauth γ (T.the-row .coded .code h)) ∷ ‵ (froom tyPtr l₂₄ 0) ∷ ‵ (fdies tyPtr l₂₄) ∷ ‵ (froom tyPtr l₂₃ 0) ∷ ‵ (fdies tyPtr l₂₃) ∷ ‵ (froom tyPtr l₂₂ 0) ∷ ‵ (fdies tyPtr l₂₂) ∷ ‵ (froom tyPtr l₂₁ 0) ∷ ‵ (fdies tyPtr l₂₁) ∷ ‵ (froom (tyInt w64) l₂₀ 0) ∷ ‵ (fdies (tyInt w64) l₂₀) ∷ ‵ (froom tyBool l₁₉ 0) ∷ ‵ (fdies tyBool l₁₉) ∷ ‵ (froom tyPtr l₁₈ 0) ∷ ‵ (fdies tyPtr l₁₈) ∷ ‵ (froom tyPtr l₁₇ 0) ∷ ‵ (fdies tyPtr l₁₇) ∷ ‵ (froom (type (g .other .element)) l₁₆ 0) ∷ ‵ (fdies (type (g .other .element)) l₁₆) ∷ ‵ (froom tyPtr l₁₅ 0) ∷ ‵ (fdies tyPtr l₁₅) ∷ ‵ (froom tyPtr l₁₄ 0) ∷ ‵ (fdies tyPtr l₁₄) ∷ ‵ (froom tyPtr l₁₃ 0) ∷ ‵ (fdies tyPtr l₁₃) ∷ ‵ (froom tyPtr l₁₂ 0) ∷ ‵ (fdies tyPtr l₁₂) ∷ ‵ (froom (tyInt w64) l₁₁ 0) ∷ ‵ (fdies (tyInt w64) l₁₁) ∷ ‵ (froom (type (g .one .element)) l₁₀ 0) ∷ ‵ (fdies (type (g .one .element)) l₁₀) ∷ ‵ (froom tyPtr l₉ 0) ∷ ‵ (fdies tyPtr l₉) ∷ ‵ (froom tyPtr l₈ 0) ∷ ‵ (fdies tyPtr l₈) ∷ ‵ (froom (tyInt w64) l₇ 0) ∷ ‵ (fdies (tyInt w64) l₇) ∷ ‵ (froom tyBool l₆ 0) ∷ ‵ (fdies tyBool l₆) ∷ ‵ (froom (tyInt w64) l₅ 0) ∷ ‵ (fdies (tyInt w64) l₅) ∷ ‵ (froom (tyInt w64) l₄ 0) ∷ ‵ (fdies (tyInt w64) l₄) ∷ ‵ (fat fullShare (tyInt w64) l₃ 0 (vint w64 (u .0))) ∷ ‵ (fdies (tyInt w64) l₃) ∷ ‵ (fat fullShare (struct (g .returned)) l₂ 0 tv) ∷ ‵ (fdies (struct (g .returned)) l₂) ∷ ‵ (fat fullShare refTy l₁ 0 (vptr b o)) ∷ ‵ (fdies refTy l₁) ∷ ‵ (froom N′.mir l₀ 0) ∷ ‵ (fdies N′.mir l₀) ∷ []
 
       abbrev Lapped : Upto → Out → SProp 𝓤
-      Lapped u = afterLap 𝓤 H (Below 𝓤 H A Nearer At u) (afterBlock 𝓤 H (afterSeq 𝓤 H (Wp 𝓤 H C Λ En (after g) (atReturn 𝓤 H En Post)) (atReturn 𝓤 H En Post)))
+      Lapped u = afterTurn 𝓤 H (Below 𝓤 H A Nearer At u) (afterBlock 𝓤 H (afterSeq 𝓤 H (Wp 𝓤 H C Λ En (after g) (atReturn 𝓤 H En Post)) (atReturn 𝓤 H En Post)))
 
       laps : (u : Upto) → Sq W (At u) (runs C Λ En (lap g) (anyQ (Lapped u)))
-      unfolding afterLap
+      unfolding afterTurn
       laps u =
           assigns ! (bin ! (load ! (from ! (stop !)) (look ! 46 refl)) (load ! (from ! (at-inner ! (g .the-change) (g .upper))) (get-inner ! (g .the-change) (g .upper) t 48 refl)) tt) (from ! (stop !)) (init ! 40 refl (tt, tt)) $
           decide (ltb (u .0) (g .upper .get c))

@@ -21,7 +21,7 @@ use lib.Dec.{T as Tᵇ, eqb, ltb, ltb→lt, nltb→le}
 use lib.ListN.{length, getD, take}
 use lib.WfN.{Nat·lt-wfRel}
 use prog.Memory.{size, fieldOf}
-use prog.Wp.{Heap, Env, Out, Wp, afterSeq, afterBlock, afterLap, atReturn, Calls, Loops, WpFn, Tables}
+use prog.Wp.{Heap, Env, Out, Wp, afterSeq, afterBlock, afterTurn, atReturn, Calls, Loops, WpFn, Tables}
 use prog.Wp.{returns as returned}
 use ghost.Atoms.{Atoms}
 use contract.Monad.{fact}
@@ -235,10 +235,10 @@ module _ (g : Searched) (law : Laws g) {M : Type 1} (𝓤 : URA M) (H : Heap �
       At u = ‵ (fat q′ T′.mir b o (sv h)) ∷ ‵ (T.the-row .own h (sv h ∷ [])) ∷ ‵ (fobor κ q (partAt T.the-row q′ h b o)) ∷ ‵ (fshr-bor κ (λ s. partAt T.the-row s h b o)) ∷ ‵ (froom (tyInt w32) l₁₀ 0) ∷ ‵ (fdies (tyInt w32) l₁₀) ∷ ‵ (froom tyPtr l₉ 0) ∷ ‵ (fdies tyPtr l₉) ∷ ‵ (froom tyPtr l₈ 0) ∷ ‵ (fdies tyPtr l₈) ∷ ‵ (froom (tyInt w64) l₇ 0) ∷ ‵ (fdies (tyInt w64) l₇) ∷ ‵ (froom tyBool l₆ 0) ∷ ‵ (fdies tyBool l₆) ∷ ‵ (froom tyBool l₅ 0) ∷ ‵ (fdies tyBool l₅) ∷ ‵ (fat fullShare (tyInt w64) l₄ 0 (vint w64 (u .0))) ∷ ‵ (fdies (tyInt w64) l₄) ∷ ‵ (fat fullShare (tyInt w64) l₃ 0 (vint w64 (count g h))) ∷ ‵ (fdies (tyInt w64) l₃) ∷ ‵ (fat fullShare (tyInt w32) l₂ 0 (vint w32 t)) ∷ ‵ (fdies (tyInt w32) l₂) ∷ ‵ (fat fullShare refTy l₁ 0 (vptr b o)) ∷ ‵ (fdies refTy l₁) ∷ ‵ (froom (tyInt w64) l₀ 0) ∷ ‵ (fdies (tyInt w64) l₀) ∷ ‵ (fres γ (T.the-row .coded .code h)) ∷ []
 
       abbrev Lapped : Upto → Out → SProp 𝓤
-      Lapped u = afterLap 𝓤 H (Below 𝓤 H A Nearer At u) (afterBlock 𝓤 H (afterSeq 𝓤 H (Wp 𝓤 H C Λ En after (atReturn 𝓤 H En Ends)) (atReturn 𝓤 H En Ends)))
+      Lapped u = afterTurn 𝓤 H (Below 𝓤 H A Nearer At u) (afterBlock 𝓤 H (afterSeq 𝓤 H (Wp 𝓤 H C Λ En after (atReturn 𝓤 H En Ends)) (atReturn 𝓤 H En Ends)))
 
       laps : (u : Upto) → Sq W (At u) (runs C Λ En (lap g) (anyQ (Lapped u)))
-      unfolding afterLap
+      unfolding afterTurn
       laps u =
           assigns ! (bin ! (load ! (from ! (stop !)) (look ! 16 refl)) (load ! (from ! (stop !)) (look ! 18 refl)) tt) (from ! (stop !)) (init ! 12 refl (tt, tt)) $
           decide (ltb (u .0) (count g h))

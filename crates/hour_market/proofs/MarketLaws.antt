@@ -18,7 +18,7 @@ use Rattle.hour_match.proofs.ViewLaws.{matched-small}
 use Rattle.hour_borders.specs.Ways.{publishedIn}
 use Rattle.withdraw.specs.declared.Ended.{Ended}
 use Rattle.withdraw.specs.Steps.{Energies}
-use Rattle.withdraw.specs.Turns.{Withdrew}
+use Rattle.withdraw.specs.Rounds.{Withdrew}
 use Rattle.hour_market.specs.Parts.{MarketCleared}
 
 -- the energies after the first match

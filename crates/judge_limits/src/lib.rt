@@ -25,7 +25,7 @@ pub struct BorderLimit {
 }
 
 // Limit 10 by hour: the unit's maximum in each.
-fn maximum_energies(maximum: u32) -> [u64; HOURS]
+pub fn maximum_energies(maximum: u32) -> [u64; HOURS]
     ensures { λ r. ⌜ r ≡ replicate 25 maximum ⌝ }
 {
     let most = arrays::wide(maximum);
@@ -44,7 +44,7 @@ fn widened(energies: [u32; HOURS]) -> [u64; HOURS]
 }
 
 // Limit 11 by hour: "without one, the maximum is available".
-fn available_energies(maximum: u32, notice: Notice) -> [u64; HOURS]
+pub fn available_energies(maximum: u32, notice: Notice) -> [u64; HOURS]
     ensures { λ r. ⌜ r ≡ cond (notice .given) (notice .energies) (replicate 25 maximum) ⌝ }
 {
     if notice.given {
