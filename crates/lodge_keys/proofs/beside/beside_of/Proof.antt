@@ -10,8 +10,8 @@ use Rattle.judge_loads.proofs.LoadLaws.{index-start, index-noted, index-passed,
 use Rattle.lodge_keys.specs.Beside.{besideMarks}
 use Rattle.lodge_keys.proofs.BesideLaws.{none-noted, mark-at}
 use borrow.Author.Needs.{needs}
-use Rattle.lodge_keys.proofs.beside.beside_indices.Statement.{statement}
-use Rattle.lodge_keys.proofs.beside.beside_indices.Tie as tie
+use Rattle.lodge_keys.proofs.beside.beside_of.Statement.{statement}
+use Rattle.lodge_keys.proofs.beside.beside_of.Tie as tie
 
 abbrev Inv-loop : tie.InvT-loop
 Inv-loop n key lodgements at₀ count₀ i₀ at count i =
@@ -48,8 +48,8 @@ loop-again c =
     let mark = mark-at (a .key) (a .t1) (a .n) noLodgement (s .i) (c .before .before .before .before .before .if1 .left) (omega arith) (omega arith) ∙ sym (c .before .is-beside .ensures) ∙ not-true _ (c .if2 .taken) in
     (omega arith, omega arith, s .inv .2, index-passed _ (s .at) (s .i) (s .count) mark (s .inv .3), s .inv .4)
 
-mul-at : tie.Need-mul-at Inv-loop μ-loop
-mul-at c = search needs
+cast-at : tie.Need-cast-at Inv-loop μ-loop
+cast-at c = search needs
 
 array-write-at : tie.Need-array-write-at Inv-loop μ-loop
 array-write-at c = search needs
@@ -81,8 +81,8 @@ returns-2 c =
     let e : s .i ≡ c .before .before .before .args .n = omega arith in
     record { most = omega arith; indices = rw e at (s .inv .3); long = s .inv .2; below = s .inv .4 }
 
-pub beside-indices-spec : {M : Type 1} → statement M
-beside-indices-spec =
+pub beside-of-spec : {M : Type 1} → statement M
+beside-of-spec =
     tie.close
     (tie.spec
     Inv-loop
@@ -95,7 +95,7 @@ beside-indices-spec =
     add-i
     loop-less
     loop-again
-    mul-at
+    cast-at
     array-write-at
     add-count
     add-i-2
