@@ -134,27 +134,15 @@ pub extern "C" fn gate_capacity(s: &mut Session, notice: Capacities) -> Response
     settle_capacities(s, t)
 }
 
-// Lodges a message: 2, 3, 4, 5, 6, 9, 10, 11, 12. What its judgement looks at of the long arrays is read here, through the
-// reference: a step by value would copy them.
+// Lodges a message: 2, 3, 4, 5, 6, 9, 10, 11, 12. The energies that it is judged with are read through the reference: a step by
+// value would copy them all.
 #[no_mangle]
 pub extern "C" fn gate_lodge(s: &mut Session, message: &[u8]) -> Response
     ensures { λ r. ⌜ Met (now (s .entry)) (lodge (now (message .entry))) (record { session = now (s .exit); answer = r }) ⌝ }
 {
     let p = lodge_pending::pend(*s, message);
-    let notice = p.notice;
-    let first = p.first;
-    let second = p.second;
-    let third = p.third;
-    let fourth = p.fourth;
-    let t = lodge::lodge::lodge_change(
-        *s,
-        p,
-        s.notices[notice],
-        s.energies[first],
-        s.energies[second],
-        s.energies[third],
-        s.energies[fourth],
-    );
+    let j = gate_store::judge(s, p);
+    let t = lodge::lodge::lodge_change(*s, p, j);
     settle_standing(s, t)
 }
 

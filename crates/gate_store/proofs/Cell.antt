@@ -73,6 +73,11 @@ module _ {M : Type 1} {𝓤 : URA M} {H : Heap 𝓤} {A : Atoms 𝓤} {K : Type 
   nested-read t {q} {ν} {μ} {τs} {σs} {b} {o} {vs} {us} {τ} {d} {c} n k j at e g f i =
       entry-read t n at (sub t j f (subst (λ (v : Val). Part K W (‵ (fat q (tyStruct ν τs) b o (vstruct vs))) q (tyStruct μ σs) b (o + d) v (λ u. ‵ (fat q (tyStruct ν τs) b o (vstruct (setV vs k u))))) g (sub t k e (whole t)))) i
 
+  -- an element of a field that is an array, of a struct in entry n
+  pub element-in : K → {q : Share} {ν : Sym} {τs : Tys} {b o : ℕ} {vs : Vals} {τ : Ty} {m d : ℕ} {v : Val} (n : ℕ) (us : List Val) (k i : ℕ) → nth 𝓤 H A n Γ ≡ ‵ (fat q (tyStruct ν τs) b o (vstruct vs))
+      → fieldAt zero τs k ≡ some (tyArray τ m, d) → getV vs k ≡ arrayVal us → i < m → length us ≡ m → getD us i vunit ≡ v → Reads K W Γ τ b (i * size τ + (o + d)) v
+  element-in t n us k i at e g lt len a = entry-read t n at (element-of t us k i e g lt len (whole t)) a
+
   -- one in the first entry is stored, and the struct is then w
   pub element-stored : K → {ν : Sym} {τs : Tys} {b o : ℕ} {vs : Vals} {τ : Ty} {n d : ℕ} {v w : Val} {us′ : List Val} (us : List Val) (k i : ℕ)
       → fieldAt zero τs k ≡ some (tyArray τ n, d) → getV vs k ≡ arrayVal us → i < n → length us ≡ n → set us i v ≡ us′ → vstruct (setV vs k (arrayVal us′)) ≡ w → Tᵇ (hasTy τ v) × WT v

@@ -9,3 +9,6 @@ pub mod Searched
 pub mod Halved
 pub mod Settled
 pub mod Moved
+pub mod Numbers
+pub mod Gathered
+pub mod Gatherings

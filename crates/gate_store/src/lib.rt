@@ -1,13 +1,26 @@
 // "The session is lent to each call and changed in place": what a step changes, stored in the lent session; and what a query looks
-// for, found there, so that no array is copied.
+// for and a lodgement is judged by, found there, so that no array is copied.
 ghost use mathlib.Core.Path.{_≡_};
 ghost use Prim.Native.Nat.{_<_};
 ghost use Rattle.session_changes.specs.Changes.{Indexed, registryWith, capacitiesWith, standingWith, closedWith, clearedWith};
 ghost use Rattle.query_verdict.specs.Parts.{LodgedFound};
 ghost use Rattle.query_unit.specs.Parts.{UnitFound};
+ghost use Rattle.lodge_keys.specs.Beside.{Indices};
+ghost use Rattle.lodge_keys.specs.Sums.{Below, SumsOf, RowsOf};
+ghost use Rattle.lodge_pending.specs.Awaiting.{Prepared};
+ghost use Rattle.lodge_limits.specs.Judging.{judgedFor};
 use answer::Response;
+use judge_loads::put;
+use lodge_keys::beside::Counted;
+use lodge_keys::beside::add;
+use lodge_limits::clear;
+use lodge_limits::judge_limits;
+use lodge_limits::keeps_limits;
+use lodge_pending::Pending;
+use rules::HOURS;
 use rules::LODGEMENTS;
 use rules::UNITS;
+use session::Ruling;
 use session::Session;
 use session_changes::CapacityEffect;
 use session_changes::ClearingEffect;
@@ -125,4 +138,48 @@ pub fn lodged_at(s: &Session, number: u32) -> usize
         }
     }
     n
+}
+
+// The energies by hour of the lodgements that are counted, added up.
+pub fn sums_at(s: &Session, c: Counted) -> [u64; HOURS]
+    requires { ⌜ Indices c ⌝ }
+    ensures { λ r. ⌜ SumsOf (now (s .entry) .energies) c r × Below 128 r ⌝ }
+{
+    let mut all = [0u64; HOURS];
+    let mut i = 0;
+    while i < c.count {
+        let at = c.at[i] as usize;
+        add(&mut all, i, s.energies[at].energies);
+        i = i + 1;
+    }
+    all
+}
+
+// The same, one after the other.
+pub fn rows_at(s: &Session, c: Counted) -> [u32; LODGEMENTS * HOURS]
+    requires { ⌜ Indices c ⌝ }
+    ensures { λ r. ⌜ RowsOf (now (s .entry) .energies) c r ⌝ }
+{
+    let mut all = [0u32; LODGEMENTS * HOURS];
+    let mut i = 0;
+    while i < c.count {
+        let at = c.at[i] as usize;
+        put(&mut all, i, s.energies[at].energies);
+        i = i + 1;
+    }
+    all
+}
+
+// The judgement by the limits of a message that no earlier row refuses. The rows are gathered only where a limit is passed.
+pub fn judge(s: &Session, p: Pending) -> Ruling
+    requires { ⌜ Prepared (now s) p ⌝ }
+    ensures { λ r. ⌜ (p .row ≡ 0 → r ≡ judgedFor (now (s .entry)) p) ⌝ }
+{
+    let at = p.holder.at;
+    let sums = sums_at(s, p.beside);
+    if keeps_limits(*s, p, s.notices[at], sums) {
+        return clear();
+    }
+    let rows = rows_at(s, p.beside);
+    judge_limits(*s, p, s.notices[at], rows)
 }

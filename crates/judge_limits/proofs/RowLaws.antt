@@ -76,20 +76,20 @@ module _ (H : ℕ) (own : List ℕ) (load : ℕ → ℕ) where
     abbrev pub eleven : ℕ
     eleven = lowest (passedAt own load (laid (cond (n .given) (n .energies) (replicate 25 (u .maximum))))) H
 
-    abbrev l10 : Limit
+    abbrev pub l10 : Limit
     l10 = maximumLimit (registeredIn u n)
 
-    abbrev l11 : Limit
+    abbrev pub l11 : Limit
     l11 = availableLimit (registeredIn u n)
 
-    abbrev l12 : Limit
+    abbrev pub l12 : Limit
     l12 = borderLimit (linesIn cs) (registeredIn u n)
 
     maximum-hourly : (m h : ℕ) → 1 ≤ h → h ≤ H → m ≡ hourly (replicate 25 m) h
     unfolding hourly
     maximum-hourly m h a b = sym (getD-replicate 25 (h - 1) m 0 (omega arith))
 
-    ten-as : lowest (passedAt own load l10) H ≡ ten
+    pub ten-as : lowest (passedAt own load l10) H ≡ ten
     unfolding maximumLimit
     ten-as = limit-same l10 (laid (replicate 25 (u .maximum))) (λ h a b. ap some (maximum-hourly (u .maximum) h a b))
 
@@ -98,16 +98,16 @@ module _ (H : ℕ) (own : List ℕ) (load : ℕ → ℕ) where
     available-hourly true es m h a b = refl
     available-hourly false es m h a b = maximum-hourly m h a b
 
-    eleven-as : lowest (passedAt own load l11) H ≡ eleven
+    pub eleven-as : lowest (passedAt own load l11) H ≡ eleven
     unfolding availableLimit availableAt noticeIn
     eleven-as = limit-same l11 (laid (cond (n .given) (n .energies) (replicate 25 (u .maximum)))) (λ h a b. ap some (available-hourly (n .given) (n .energies) (u .maximum) h a b))
 
     -- a default lodgement: "against 10 only"
-    judged-default : judgedIn u n cs true H own load ≡ lowestRow (lowest (passedAt own load l10) H) 0 0
+    pub judged-default : judgedIn u n cs true H own load ≡ lowestRow (lowest (passedAt own load l10) H) 0 0
     unfolding judgedIn judgedBy limitRows limitRow maximumLimit lowestRow firstRow
     judged-default = refl
 
-    judged-normal : judgedIn u n cs false H own load ≡ lowestRow (lowest (passedAt own load l10) H) (lowest (passedAt own load l11) H) (lowest (passedAt own load l12) H)
+    pub judged-normal : judgedIn u n cs false H own load ≡ lowestRow (lowest (passedAt own load l10) H) (lowest (passedAt own load l11) H) (lowest (passedAt own load l12) H)
     unfolding judgedIn judgedBy limits ownLimits borderLimits limitRows limitRow maximumLimit availableLimit borderLimit lowestRow
     judged-normal = refl
 
@@ -126,11 +126,11 @@ module _ (H : ℕ) (own : List ℕ) (load : ℕ → ℕ) where
       judge-twelve {z} g = rw (judged-normal, ten-as, eleven-as, ← e, ← f, ← g)
 
     module _ (b : BorderLimit) (is : (h : ℕ) → borderAt b h ≡ borderSum (map noticeIn cs) (u .border) h) where
-      twelve-off : not (b .applies) ≡ true → lowest (passedAt own load l12) H ≡ 0
+      pub twelve-off : not (b .applies) ≡ true → lowest (passedAt own load l12) H ≡ 0
       unfolding borderAt borderLimit
       twelve-off t = limit-absent l12 (λ h. sym (is h) ∙ rw (not-true (b .applies) t))
 
-      twelve-on : not (b .applies) ≡ false → lowest (passedAt own load l12) H ≡ lowest (passedAt own load (laid (b .energies))) H
+      pub twelve-on : not (b .applies) ≡ false → lowest (passedAt own load l12) H ≡ lowest (passedAt own load (laid (b .energies))) H
       unfolding borderAt borderLimit
       twelve-on t = limit-same l12 (laid (b .energies)) (λ h x y. sym (is h) ∙ rw (not-false (b .applies) t))
 

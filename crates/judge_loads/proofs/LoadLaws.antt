@@ -7,7 +7,7 @@ use mathlib.Core.List.{List, [], _∷_, _++_, append-nil}
 use native.Mathlib.Nat.{eq-or-lt-of-le}
 use native.Mathlib.Numerals.{add-one}
 use native.Mathlib.Omega.{arith}
-use lib.ListN.{length, getD, take, drop, set, length-set, drop-of-length-le}
+use lib.ListN.{length, getD, take, drop, set, drop-of-length-le}
 use lib.Seq.{drop-cons, getD-take, length-take-le, take-suc-set, getD-set-same, getD-set-other}
 use lib.Dec.{eqb}
 use borrow.Author.Tests.{lt-ltb, le-ltb, eq-eqb, ne-eqb}
@@ -114,55 +114,6 @@ put-start l es before = (λ k i. absurd (omega arith), λ i k. refl, λ i k. ref
 pub put-end : (l h : ℕ) (es before after : List ℕ) → h ≡ 25 → PutTo l es before after h → PutAt l es before after
 unfolding PutTo PutAt RowAt
 put-end l h es before after e p = rw e at p
-
--- the first h of an index's 25 numbers are these
-unfoldable pub RowTo : ℕ → List ℕ → List ℕ → ℕ → Type 0
-RowTo l es loads h = (k : ℕ) → k < h → getD loads (l * 25 + k) 0 ≡ getD es k 0
-
-module _ (l : ℕ) (es : List ℕ) where
-  pub row-start : (loads : List ℕ) → RowTo l es loads 0
-  unfolding RowTo
-  row-start loads k i = absurd (omega arith)
-
-  -- the next of them is written
-  pub row-next : (loads : List ℕ) (h i : ℕ) → i ≡ l * 25 + h → i < length loads → RowTo l es loads h → RowTo l es (set loads i (getD es h 0)) (h + 1)
-  unfolding RowTo
-  row-next loads h i e b f k m =
-      ⊎-elim (λ (q : k ≡ h). rw (q, ← e, getD-set-same loads i (getD es h 0) 0 b)) (λ n. getD-set-other loads i (l * 25 + k) (getD es h 0) 0 (λ q. absurd (omega arith)) ∙ f k n) (eq-or-lt-of-le (below k h m))
-
-  -- one of another index is written
-  pub row-kept : (loads : List ℕ) (h i v : ℕ) → h ≤ 25 → ((k : ℕ) → k < 25 → l * 25 + k ≡ i → ⊥) → RowTo l es loads h → RowTo l es (set loads i v) h
-  unfolding RowTo
-  row-kept loads h i v b o f k m = getD-set-other loads i (l * 25 + k) v 0 (o k (omega arith)) ∙ f k m
-
-  pub row-end : (loads : List ℕ) (h : ℕ) → h ≡ 25 → RowTo l es loads h → RowAt l es loads
-  unfolding RowTo RowAt
-  row-end loads h e f = rw e at f
-
--- four indices, side by side
-module _ (a b c d : List ℕ) where
-  abbrev pub RowsTo : List ℕ → ℕ → Type 0
-  RowsTo rows h = RowTo 0 a rows h × RowTo 1 b rows h × RowTo 2 c rows h × RowTo 3 d rows h
-
-  pub rows-next : (r : List ℕ) (h : ℕ) → h < 25 → length r ≡ 100 → RowsTo r h
-      → RowsTo (set (set (set (set r h (getD a h 0)) (25 + h) (getD b h 0)) (50 + h) (getD c h 0)) (75 + h) (getD d h 0)) (h + 1)
-  rows-next r h i n f =
-      let r₁ = set r h (getD a h 0) in
-      let r₂ = set r₁ (25 + h) (getD b h 0) in
-      let r₃ = set r₂ (50 + h) (getD c h 0) in
-      let n₁ : length r₁ ≡ 100 = (simp length-set) ∙ n in
-      let n₂ : length r₂ ≡ 100 = (simp length-set) ∙ n₁ in
-      let n₃ : length r₃ ≡ 100 = (simp length-set) ∙ n₂ in
-      let x = getD a h 0 in
-      let y = getD b h 0 in
-      let z = getD c h 0 in
-      let w = getD d h 0 in
-      let last : h + 1 ≤ 25 = omega arith in (
-        row-kept 0 a r₃ (h + 1) (75 + h) w last (λ k m q. absurd (omega arith)) (row-kept 0 a r₂ (h + 1) (50 + h) z last (λ k m q. absurd (omega arith)) (row-kept 0 a r₁ (h + 1) (25 + h) y last (λ k m q. absurd (omega arith)) (row-next 0 a r h h (omega arith) (omega arith) (f .0)))),
-        row-kept 1 b r₃ (h + 1) (75 + h) w last (λ k m q. absurd (omega arith)) (row-kept 1 b r₂ (h + 1) (50 + h) z last (λ k m q. absurd (omega arith)) (row-next 1 b r₁ h (25 + h) (omega arith) (omega (arith, n₁)) (row-kept 1 b r h h x (omega arith) (λ k m q. absurd (omega arith)) (f .1)))),
-        row-kept 2 c r₃ (h + 1) (75 + h) w last (λ k m q. absurd (omega arith)) (row-next 2 c r₂ h (50 + h) (omega arith) (omega (arith, n₂)) (row-kept 2 c r₁ h (25 + h) y (omega arith) (λ k m q. absurd (omega arith)) (row-kept 2 c r h h x (omega arith) (λ k m q. absurd (omega arith)) (f .2)))),
-        row-next 3 d r₃ h (75 + h) (omega arith) (omega (arith, n₃)) (row-kept 3 d r₂ h (50 + h) z (omega arith) (λ k m q. absurd (omega arith)) (row-kept 3 d r₁ h (25 + h) y (omega arith) (λ k m q. absurd (omega arith)) (row-kept 3 d r h h x (omega arith) (λ k m q. absurd (omega arith)) (f .3)))),
-      )
 
 module _ (es : List Energies) (l : ℕ) (in-list : l < length es) where
   -- an index of one more

@@ -4,7 +4,7 @@ ghost use Prim.Native.Nat.{_+_, _*_, _<_, _≤_};
 ghost use lib.ListN.{take, length};
 ghost use Rattle.rules.specs.Lists.{lowest};
 ghost use Rattle.rules.specs.Lodging.{passedAt};
-ghost use Rattle.judge_loads.specs.Loads.{RowAt, PutAt, LoadsOf, RowsAt, loadBy, laid};
+ghost use Rattle.judge_loads.specs.Loads.{PutAt, LoadsOf, RowsAt, loadBy, laid};
 use rules::HOURS;
 use rules::LODGEMENTS;
 use session::Energies;
@@ -32,25 +32,6 @@ pub fn loads_of(n: usize, energies: [Energies; LODGEMENTS]) -> [u32; LODGEMENTS 
         put(&mut loads, l, row);
     }
     loads
-}
-
-// Four lodgements' energies by hour, one after the other.
-pub fn rows_of(
-    first: [u32; HOURS],
-    second: [u32; HOURS],
-    third: [u32; HOURS],
-    fourth: [u32; HOURS],
-) -> [u32; 100]
-    ensures { λ r. ⌜ RowAt 0 first r × RowAt 1 second r × RowAt 2 third r × RowAt 3 fourth r ⌝ }
-{
-    let mut rows = [0u32; 100];
-    for h in 0..HOURS {
-        rows[h] = first[h];
-        rows[HOURS + h] = second[h];
-        rows[50 + h] = third[h];
-        rows[75 + h] = fourth[h];
-    }
-    rows
 }
 
 // "the lowest hour in which that limit is passed", 0 where there is none: in an hour that is named, by a lodgement's own

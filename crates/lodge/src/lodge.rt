@@ -5,31 +5,27 @@ ghost use Prim.Native.Nat.{ℕ};
 ghost use Rattle.rules.specs.DayBook.{lodge};
 ghost use Rattle.session_changes.specs.Changes.{Indexed, standingEffect};
 ghost use Rattle.session.specs.Steps.{Met};
-ghost use Rattle.lodge_pending.specs.Awaiting.{Prepared, Pends, excerptAt};
+ghost use Rattle.lodge_pending.specs.Awaiting.{Prepared, Pends};
+ghost use Rattle.lodge_limits.specs.Judging.{judgedFor};
 use crate::entering::enter;
-use lodge_judge::judge_fields;
-use lodge_pending::Excerpt;
+use lodge_limits::judge;
 use lodge_pending::Pending;
-use lodge_pending::excerpt_of;
 use lodge_pending::pend;
 use session::Effect;
-use session::Energies;
-use session::Notice;
 use session::Ruling;
 use session::Session;
 use session_changes::StandingEffect;
 use session_changes::standing_refused;
 use session_changes::with_standing;
 
-// The change that lodging a message makes, once the message is read.
-pub fn lodge_pending(s: Session, p: Pending, x: Excerpt) -> StandingEffect
-    requires { ⌜ Prepared s p × (x ≡ excerptAt s p) ⌝ }
+// What lodging a message that is read changes, by its judgement.
+pub fn lodge_change(s: Session, p: Pending, j: Ruling) -> StandingEffect
+    requires { ⌜ Prepared s p × (p .row ≡ 0 → j ≡ judgedFor s p) ⌝ }
     ensures { λ r. ⌜ ((bytes : List ℕ) → Pends s bytes p → Met s (lodge bytes) (standingEffect s r)) × Indexed (r .change) ⌝ }
 {
     if p.row != 0 {
         return standing_refused(s, p.row, 0);
     }
-    let j = judge_fields(s, p, x);
     let m = p.fields;
     match j {
         Ruling::No(row, hour) => standing_refused(s, row, hour),
@@ -37,35 +33,12 @@ pub fn lodge_pending(s: Session, p: Pending, x: Excerpt) -> StandingEffect
     }
 }
 
-// The same, with what its judgement reads of the session element by element, as whoever lends the session reads it there.
-pub fn lodge_change(
-    s: Session,
-    p: Pending,
-    notice: Notice,
-    first: Energies,
-    second: Energies,
-    third: Energies,
-    fourth: Energies,
-) -> StandingEffect
-    requires { ⌜ Prepared s p × (record { notice = notice; first = first; second = second; third = third; fourth = fourth } ≡ excerptAt s p) ⌝ }
-    ensures { λ r. ⌜ ((bytes : List ℕ) → Pends s bytes p → Met s (lodge bytes) (standingEffect s r)) × Indexed (r .change) ⌝ }
-{
-    let x = Excerpt {
-        notice: notice,
-        first: first,
-        second: second,
-        third: third,
-        fourth: fourth,
-    };
-    lodge_pending(s, p, x)
-}
-
 // Lodges a message: 2, 3, 4, 5, 6, 9, 10, 11, 12.
 pub fn lodge(s: Session, message: &[u8]) -> Effect
     ensures { λ r. ⌜ Met s (lodge (now (message .entry))) r ⌝ }
 {
     let p = pend(s, message);
-    let x = excerpt_of(s, p);
-    let t = lodge_pending(s, p, x);
+    let j = judge(s, p);
+    let t = lodge_change(s, p, j);
     with_standing(s, t)
 }

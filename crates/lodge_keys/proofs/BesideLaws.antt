@@ -7,12 +7,12 @@ use native.Mathlib.Omega.{arith}
 use lib.Dec.{eqb}
 use lib.ListN.{take, length, getD, replicate, length-map, List·getD-append}
 use lib.Seq.{length-take-le, getD-take}
-use borrow.Author.Tests.{eq-eqb, ne-eqb}
+use borrow.Author.Tests.{eq-eqb, ne-eqb, not-true}
 use Rattle.rules.specs.Lists.{keep, any, sum, sumOf, from}
 use Rattle.rules.specs.Lodging as L
 use Rattle.rules.specs.Book.{Book}
 use Rattle.rules.proofs.BoolLaws.{by-bool}
-use Rattle.rules.proofs.ListLaws.{keep-keep, keep-same}
+use Rattle.rules.proofs.ListLaws.{keep-keep, keep-same, of-any-false}
 use Rattle.rules.proofs.ElementLaws.{all-every}
 use Rattle.session.specs.Laid.{pad}
 use Rattle.session.specs.Image.{image, keyIn, keyAs, lodgementAs, energiesAs}
@@ -56,6 +56,16 @@ marked-keep p g f (x ∷ xs) = by-bool (p (g x)) (λ e. rw (e, marked-keep p g f
 
 -- Whether one is counted: each way out
 
+-- nothing hides a normal one
+unhidden : (m : Lodgement) (k : Key) → not (k .default) ≡ true → hiding k m ≡ false
+unfolding L.hides
+unhidden m k d = and-none (L.sameButDefault (keyIn (m .key)) (keyIn k)) (not (m .key .default)) (k .default) (not-true (k .default) d)
+  where
+    and-none : (a b c : Bool) → c ≡ false → (a && b && c) ≡ false
+    and-none true true c e = e
+    and-none true false c e = refl
+    and-none false b c e = refl
+
 module _ (ls : List Lodgement) (k : Key) (l : Lodgement) where
   pub other-unit : (l .key .unit ≡ k .unit → ⊥) → false ≡ counts ls k l
   unfolding counts
@@ -64,6 +74,11 @@ module _ (ls : List Lodgement) (k : Key) (l : Lodgement) where
   pub same-kind : l .key .unit ≡ k .unit → Bool·beq (l .key .execution) (k .execution) ≡ true → false ≡ counts ls k l
   unfolding counts
   same-kind h e = rw (eq-eqb (l .key .unit) (k .unit) h, e)
+
+  -- a normal one is not hidden
+  pub normal : l .key .unit ≡ k .unit → Bool·beq (l .key .execution) (k .execution) ≡ false → not (l .key .default) ≡ true → true ≡ counts ls k l
+  unfolding counts
+  normal h e d = rw (eq-eqb (l .key .unit) (k .unit) h, e, of-any-false (hiding (l .key)) (all-every (λ m. unhidden m (l .key) d) ls))
 
   pub other-kind : (t : Bool) → l .key .unit ≡ k .unit → Bool·beq (l .key .execution) (k .execution) ≡ false → t ≡ any (hiding (l .key)) ls → not t ≡ counts ls k l
   unfolding counts

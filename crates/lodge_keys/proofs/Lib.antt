@@ -1,3 +1,4 @@
 pub mod BesideLaws
+pub mod SumLaws
 pub mod KeyLaws
 pub mod TakenLaws

@@ -1,2 +1,3 @@
 pub mod Beside
+pub mod Sums
 pub mod Keys

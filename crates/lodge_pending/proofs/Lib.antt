@@ -1,2 +1,1 @@
 pub mod FormLaws
-pub mod ExcerptLaws

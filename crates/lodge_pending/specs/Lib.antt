@@ -1,2 +1,1 @@
-pub mod Excerpts
 pub mod Awaiting

@@ -1,13 +1,12 @@
-// A message that is read, before it is judged: whether its form refuses it, and the indices of the session that its judgement
-// reads. A lent session's arrays are read there, by the entry that has the reference, and not copied.
+// A message that is read, before its energy is judged: the row that refuses it, or what its judgement by the limits looks at.
 ghost use mathlib.Core.Path.{_≡_};
-ghost use Prim.Native.Nat.{ℕ, _≤_, _<_};
-ghost use lib.ListN.{getD};
+ghost use Prim.Native.Nat.{_≤_};
 ghost use Rattle.session.specs.Parts.{Within};
 ghost use Rattle.lodge_keys.specs.Keys.{keyIndex};
-ghost use Rattle.lodge_pending.specs.Awaiting.{Awaits, Located, Pends, notPending, excerptAt};
-use arrays::Indices;
-use lodge_keys::beside::beside_indices;
+ghost use Rattle.lodge_pending.specs.Awaiting.{Found, Pends, notPending};
+use lodge_judge::judge_fields;
+use lodge_keys::beside::Counted;
+use lodge_keys::beside::beside_of;
 use lodge_keys::key_index;
 use lodge_keys::key_of;
 use message::Fields;
@@ -16,45 +15,25 @@ use message_reader::fields_of;
 use message_reader::top_of;
 use rules::HOURS;
 use rules::LODGEMENTS;
-use rules::UNITS;
 use rules::row::FORM;
 use rules::row::GATE;
-use session::Energies;
 use session::Holder;
 use session::Key;
-use session::Notice;
 use session::Session;
 use session::no_unit;
 use session::units::holder_of;
 
-// What judging a message reads of the session's long arrays: its unit's notice, and the energies of the first four lodgements
-// that are counted beside it. A lent session is read at these indices only; where more are counted, the array is copied.
-pub struct Excerpt {
-    pub notice: Notice,
-    pub first: Energies,
-    pub second: Energies,
-    pub third: Energies,
-    pub fourth: Energies,
-}
-
-// A message that is read: the row that refuses it, 0 for none; its fields, the index of the lodgement that it replaces, its unit, the
-// indices of those that are counted beside it; then the indices of its unit's notice and of the first four of those, and the largest
-// energy that its form may say.
+// The row that refuses it, 0 for none: 2, 3, 4, 5, 6, 9. Then its fields, the index of the lodgement that it replaces, its unit, and those that are
+// counted beside it.
 pub struct Pending {
     pub row: u32,
     pub fields: Fields,
     pub replaces: usize,
     pub holder: Holder,
-    pub beside: Indices,
-    pub notice: usize,
-    pub first: usize,
-    pub second: usize,
-    pub third: usize,
-    pub fourth: usize,
-    pub top: u32,
+    pub beside: Counted,
 }
 
-// A message that this row refuses, the rest 0: "after a 3 nothing further is read".
+// A message that this row refuses, the rest 0.
 fn not_pending(row: u32) -> Pending
     ensures { λ r. ⌜ r ≡ notPending row ⌝ }
 {
@@ -71,20 +50,14 @@ fn not_pending(row: u32) -> Pending
     };
     let unit = no_unit();
     let holder = Holder { at: 0, unit: unit };
-    let at = [0usize; LODGEMENTS];
-    let beside = Indices { count: 0, at: at };
+    let at = [0u8; LODGEMENTS];
+    let beside = Counted { count: 0, at: at };
     Pending {
         row,
         fields: fields,
         replaces: 0,
         holder: holder,
         beside: beside,
-        notice: 0,
-        first: 0,
-        second: 0,
-        third: 0,
-        fourth: 0,
-        top: 0,
     }
 }
 
@@ -97,60 +70,31 @@ fn replaced_index(s: Session, key: Key) -> usize
     key_index(lodgements, s.standing, key)
 }
 
-// A unit's index, also where it is the count.
-fn unit_index(at: usize) -> usize
-    ensures { λ r. ⌜ (r < 64) × (at < 64 → r ≡ at) ⌝ }
-{
-    if at < UNITS {
-        return at;
-    }
-    0
-}
-
-// The j-th of some indices, also where there are fewer.
-fn nth_index(at: &[usize; LODGEMENTS], count: usize, j: usize) -> usize
-    requires { ⌜ (count ≤ 128) × ((l : ℕ) → l < count → getD (now at) l 0 < 128) ⌝ }
-    ensures { λ r. ⌜ (r < 128) × (j < count → r ≡ getD (now (at .entry)) j 0) ⌝ }
-{
-    if count <= j {
-        return 0;
-    }
-    at[j]
-}
-
-// What is found for a message of the right form.
-fn awaiting(s: Session, m: Fields, top: u32) -> Pending
+// What is found for a message of the right form, or the row from 4 to 9 that refuses it.
+fn found(s: Session, m: Fields, top: u32) -> Pending
     requires { ⌜ Within s ⌝ }
-    ensures { λ r. ⌜ (r .row ≡ 0) × (r .fields ≡ m) × Awaits s r × Located r × (r .top ≡ top) ⌝ }
+    ensures { λ r. ⌜ Found s top m r ⌝ }
 {
     let key = key_of(m);
     let replaces = replaced_index(s, key);
     let units = s.units;
     let holder = holder_of(units, s.enrolled, m.unit);
+    let row = judge_fields(s, m, top, key, holder, replaces);
+    if row != 0 {
+        return not_pending(row);
+    }
     let lodgements = s.lodgements;
-    let beside = beside_indices(lodgements, s.standing, key);
-    let count = beside.count;
-    let notice = unit_index(holder.at);
-    let first = nth_index(&beside.at, count, 0);
-    let second = nth_index(&beside.at, count, 1);
-    let third = nth_index(&beside.at, count, 2);
-    let fourth = nth_index(&beside.at, count, 3);
+    let beside = beside_of(lodgements, s.standing, key);
     Pending {
         row: 0,
         fields: m,
         replaces,
         holder,
         beside,
-        notice,
-        first,
-        second,
-        third,
-        fourth,
-        top,
     }
 }
 
-// Reads a message: it is refused as 2 or 3, or what its judgement looks at is found.
+// Reads a message: "after a 3 nothing further is read".
 pub fn pend(s: Session, message: &[u8]) -> Pending
     ensures { λ r. ⌜ Pends s (now (message .entry)) r ⌝ }
 {
@@ -165,31 +109,5 @@ pub fn pend(s: Session, message: &[u8]) -> Pending
     }
     let m = fields_of(message);
     let top = top_of(message);
-    awaiting(s, m, top)
-}
-
-// What a message's judgement reads, of a session by value.
-pub fn excerpt_of(s: Session, p: Pending) -> Excerpt
-    requires { ⌜ Located p ⌝ }
-    ensures { λ r. ⌜ r ≡ excerptAt s p ⌝ }
-{
-    let notices = s.notices;
-    let energies = s.energies;
-    let at = p.notice;
-    let a = p.first;
-    let b = p.second;
-    let c = p.third;
-    let d = p.fourth;
-    let notice = notices[at];
-    let first = energies[a];
-    let second = energies[b];
-    let third = energies[c];
-    let fourth = energies[d];
-    Excerpt {
-        notice: notice,
-        first: first,
-        second: second,
-        third: third,
-        fourth: fourth,
-    }
+    found(s, m, top)
 }

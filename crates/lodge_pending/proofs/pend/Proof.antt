@@ -38,11 +38,11 @@ fields-of-requires c κs = sym (c .before .bad-form .ensures) ∙ c .if3 .left
 top-of-requires : tie.Need-top-of-requires
 top-of-requires c κs = search needs
 
-awaiting-requires : tie.Need-awaiting-requires
-awaiting-requires c κs = guarded _ (sym (c .before .before .before .before .before .before .sound .ensures) ∙ not-false _ (c .before .before .before .before .before .if1 .left))
+found-requires : tie.Need-found-requires
+found-requires c κs = guarded _ (sym (c .before .before .before .before .before .before .sound .ensures) ∙ not-false _ (c .before .before .before .before .before .if1 .left))
 
 returns-4 : tie.Need-returns-4
-returns-4 c = pends-read _ _ _ _ _ (c .awaiting .ensures) (c .before .before .before .before .before .if2 .left) (sym (c .before .before .before .before .bad-form .ensures) ∙ c .before .before .before .if3 .left) (c .before .before .fields-of .ensures) (c .before .top-of .ensures)
+returns-4 c = pends-read _ _ _ _ (c .before .before .before .before .before .if2 .left) (sym (c .before .before .before .before .bad-form .ensures) ∙ c .before .before .before .if3 .left) (c .before .before .fields-of .ensures) (c .before .top-of .ensures) _ (c .found .ensures)
 
 pub pend-spec : {M : Type 1} → statement M
 pend-spec =
@@ -58,5 +58,5 @@ pend-spec =
     returns-3
     fields-of-requires
     top-of-requires
-    awaiting-requires
+    found-requires
     returns-4)
