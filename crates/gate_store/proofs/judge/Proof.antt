@@ -64,8 +64,8 @@ use Rattle.session.proofs.Holder as H₁
 use Rattle.session.proofs.Holder.Laws as H₁′
 use Rattle.session.proofs.Ruling as J
 use Rattle.session.proofs.Ruling.Laws as J′
-use Rattle.lodge_keys.proofs.Counted as C
-use Rattle.lodge_keys.proofs.Counted.Laws as C′
+use Rattle.lodge_keys.proofs.beside.Counted as C
+use Rattle.lodge_keys.proofs.beside.Counted.Laws as C′
 use Rattle.lodge_pending.proofs.Pending as P
 use Rattle.lodge_pending.proofs.Pending.Laws as P′
 use Rattle.lodge_limits.proofs.keeps_limits as test
