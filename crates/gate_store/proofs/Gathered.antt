@@ -408,7 +408,7 @@ module _ (g : Gathered) {M : Type 1} (𝓤 : URA M) (H : Heap 𝓤) (A : Atoms �
   gather-says xs = exE 𝓤 _ (λ ws. snd∗ 𝓤 (sem 𝓤 H A (lasts (ended g) (κ, tt) lent-with ws)) (fact 𝓤 (g .Promised h c xs)))
 
   -- the call, from [the borrow; the token; res; …] to [the token; res; the borrow; …], where the array lands
-  pub gathers : Indices c → Whole C.the-type C′.the-laws c → {Γ : List (Item 𝓤)} {C₀ : Calls 𝓤 H} {Λ : Loops 𝓤 H} {E : Env 𝓤 H} {f : Name} {os : List Operand} {d : Index} {rest : Body} {p : Post 𝓤 H}
+  pub gathers : Indices c → Whole C.the-type C′.the-laws c → {Γ : List (Item 𝓤)} {C₀ : Calls 𝓤 H} {Λ : Loops 𝓤 H} {E : Env 𝓤 H} {f : Name} {os : List Operand} {d : Place} {rest : Body} {p : Post 𝓤 H}
       → FmC 𝓤 H (W .laws) C₀ → Triple 𝓤 (C₀ f) (Gathering g 𝓤 H A)
       → Opds (Go {0}) W (raw (Gathering g 𝓤 H A .pre to-gather) ∷ ‵ (fres γ (T.the-row .coded .code h)) ∷ ‵ (fshr-bor κ (λ s. partAt T.the-row s h b o)) ∷ Γ) E os (vptr b o ∷ cv c ∷ [])
       → ((xs : List ℕ) (v : Val) → g .Promised h c xs → Is (Numbers (g .width) (g .many)) xs (v ∷ []) → Sq W (‵ (flft κ q) ∷ ‵ (fres γ (T.the-row .coded .code h)) ∷ ‵ (fshr-bor κ (λ s. partAt T.the-row s h b o)) ∷ Γ) (lands C₀ Λ E d v rest p))
