@@ -1,4 +1,6 @@
 // Annulling: "names a key and removes it".
+#![tactic(auto)]
+
 ghost use Rattle.std.specs.Prelude.{◌≡◌, ◌<◌};
 ghost use Rattle.rules.specs.DayBook.{annul};
 ghost use Rattle.session.specs.Image.{key_in};

@@ -1,11 +1,13 @@
 // The gate's one answer to every call, query and question about a date: a plain struct, which C is handed.
+#![tactic(auto)]
+
 ghost use Rattle.std.specs.Prelude.{◌≡◌, pos};
 ghost use Rattle.answer.specs.Told as T;
 
 // An answer. Its kind says which of the other fields hold something; those that do not are 0, and so is what is reserved, which leaves
 // no padding for C.
 #[repr(C)]
-#[derive(Drop)]
+#[derive(Clone, Copy)]
 pub struct Response {
     pub kind: u32,
     // The refusal table's number of a refusal or of a limit.
@@ -21,7 +23,7 @@ pub struct Response {
 
 // An hour's clock name and mark with row 0, or the refusal table's number with name 0 and no mark.
 #[repr(C)]
-#[derive(Drop)]
+#[derive(Clone, Copy)]
 pub struct ClockName {
     pub row: u32,
     pub name: u32,

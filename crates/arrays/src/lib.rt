@@ -1,4 +1,6 @@
 // Numbers, and arrays by index: what many crates use, with no word of the market.
+#![tactic(auto)]
+
 ghost use Rattle.std.specs.Prelude.{◌≡◌, ℕ, ◌+◌, ◌-◌, ◌*◌, ◌/◌, ◌≤◌, ◌<◌, min, max, List, ◌∷◌, ltb, get_or, take, length};
 ghost use Rattle.rules.specs.Lists.{sum, any};
 ghost use Rattle.rules.specs.Units.{max_energy};
@@ -9,7 +11,7 @@ ghost use Rattle.arrays.specs.Listing.{Listed};
 use rules::LODGEMENTS;
 
 // Indices of an array, `count` of them in front of `at`.
-#[derive(Drop)]
+#[derive(Clone, Copy)]
 pub struct Indices {
     pub count: usize,
     pub at: [usize; LODGEMENTS],

@@ -1,6 +1,8 @@
 // Demand 3: specs/Demand3.antt states it over every list of calls, proofs/DemandLaws.antt proves it. `replay` runs a log of
 // calls, `replay_on` from a session: every answer and the session at its end are the day book's, so that a recovery and a
 // rehearsal can run on it.
+#![tactic(auto)]
+
 ghost use Rattle.std.specs.Prelude.{◌≡◌, true, ◌+◌, ◌*◌, ◌≤◌, length, drop, get_or};
 ghost use Rattle.calendar.specs.View.{date_in};
 ghost use Rattle.session.specs.Steps.{Met};
@@ -18,7 +20,7 @@ use session::{Effect, Session};
 
 // A log run: the session at its end, how many calls were run and the bytes of their records. Fewer bytes than the log has: there
 // was room for no more answers, or what follows is no call.
-#[derive(Drop)]
+#[derive(Clone, Copy)]
 pub struct Reached {
     pub session: Session,
     pub calls: usize,
@@ -26,7 +28,7 @@ pub struct Reached {
 }
 
 // The same from a fresh session, with the date's answer.
-#[derive(Drop)]
+#[derive(Clone, Copy)]
 pub struct Replayed {
     pub opened: Response,
     pub session: Session,
@@ -35,7 +37,7 @@ pub struct Replayed {
 }
 
 // The head of a record: whether all of a call's record is there, its kind and the bytes that follow.
-#[derive(Drop)]
+#[derive(Clone, Copy)]
 struct Head {
     whole: bool,
     kind: u8,

@@ -1,5 +1,7 @@
 // The call log: calls on a session as bytes, so that a day can be kept, sent and run again (the record of a call is ours, not
 // document 01's; docs/LOG.md says it byte by byte).
+#![tactic(auto)]
+
 ghost use Rattle.std.specs.Prelude.{◌≡◌, ◌≤◌, min};
 ghost use Rattle.rules.specs.Borders.{positive};
 ghost use Rattle.message_bits.specs.Bits.{word_at};

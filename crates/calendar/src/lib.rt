@@ -1,4 +1,6 @@
 // Dates, the hours of a day and their clock names (document 01, "Hours of the day").
+#![tactic(auto)]
+
 ghost use Rattle.std.specs.Prelude.{◌≡◌, true, ◌≤◌};
 ghost use Rattle.rules.specs.Hours.{is_date, hours_of, clock_name, clock_of, hour_of, hours_at, clock_at, hour_at};
 ghost use Rattle.answer.specs.Told.{counted, clock_told, named};
@@ -11,7 +13,7 @@ use rules::row::{DATE, HOUR};
 use rules::{LONG_DAY, SHORT_DAY};
 
 #[repr(C)]
-#[derive(Drop)]
+#[derive(Clone, Copy)]
 pub struct Date {
     pub year: u32,
     pub month: u32,
@@ -20,7 +22,7 @@ pub struct Date {
 
 // A clock name with its mark: the starting local hour, and whether it is marked "second". Reserved fields leave no padding for C.
 #[repr(C)]
-#[derive(Drop)]
+#[derive(Clone, Copy)]
 pub struct Clock {
     pub name: u32,
     pub second: bool,

@@ -1,4 +1,6 @@
 // Clearing a session's day, hour by hour (document 01, "Clearing, hour by hour").
+#![tactic(auto)]
+
 ghost use Rattle.std.specs.Prelude.{◌<◌};
 ghost use Rattle.rules.specs.DayBook.{clear};
 ghost use Rattle.session.specs.Steps.{Met};
@@ -18,14 +20,14 @@ use session::{Effect, HourFigures, Ruling, Session};
 use session_changes::{ClearingChange, ClearingEffect, clearing_refused, with_clearing};
 
 // An hour's withdrawal steps and figures.
-#[derive(Drop)]
+#[derive(Clone, Copy)]
 pub struct HourEnd {
     pub steps: u32,
     pub figures: HourFigures,
 }
 
 // The day's: "The count of withdrawal steps, summed over the hours", and the figures at the hours' indices.
-#[derive(Drop)]
+#[derive(Clone, Copy)]
 pub struct DayEnd {
     pub steps: u64,
     pub figures: [HourFigures; HOURS],

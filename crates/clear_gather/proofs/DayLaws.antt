@@ -20,7 +20,7 @@ use Rattle.session.specs.declared.Unit.{Unit}
 use Rattle.session.specs.Laid.{pad}
 use Rattle.session.specs.Image as I
 use Rattle.session.specs.Parts.{number_is}
-use Rattle.session.proofs.IndexLaws.{get_d_map}
+use Rattle.session.proofs.IndexLaws.{get_or-map}
 use Rattle.session.proofs.ImageLaws.{units-as, standing-as}
 use Rattle.arrays.specs.declared.Indices.{Indices}
 use Rattle.clear_gather.specs.Built.{unit_among, holder_in, Holders, counts, counts_at, energy_on, Chosen}
@@ -106,7 +106,7 @@ module _ (s : Session) (b : B.Book) (e : s ≡ I.image b) where
       ap (λ (vs : List C.Verdict). (get_or (pad 128 I.no_verdict (map I.verdict_as vs)) i I.no_verdict).accepted) (verdicts-in c)
       ∙ (ap (λ v. v.accepted) (laid-at C.hidden I.verdict_as 128 I.no_verdict I.no_verdict (map judged b.standing) i (omega (arith, length-map b.standing judged)))
       ∙ (accepted-as (get_or (map judged b.standing) i C.hidden)
-      ∙ ap C.is_accepted (get_d_map judged blank C.hidden b.standing i h)))
+      ∙ ap C.is_accepted (get_or-map judged blank C.hidden b.standing i h)))
       )
 
   -- the unit of a lodgement

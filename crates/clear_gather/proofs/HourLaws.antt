@@ -32,7 +32,7 @@ use Rattle.session.specs.declared.Lodgement.{Lodgement}
 use Rattle.session.specs.declared.Energies.{Energies}
 use Rattle.session.specs.Laid.{pad}
 use Rattle.session.specs.Image as I
-use Rattle.session.proofs.IndexLaws.{get_d_map}
+use Rattle.session.proofs.IndexLaws.{get_or-map}
 use Rattle.session.proofs.ImageLaws.{capacities-as}
 use Rattle.arrays.specs.declared.Indices.{Indices}
 use Rattle.clear_gather.specs.declared.HourCapacities.{HourCapacities}
@@ -74,7 +74,7 @@ module _ (s : Session) (b : B.Book) (e : s ≡ I.image b) (eight-long : length b
   pub notice-as : (w : ℕ) → 2 ≤ w → w < 10 → notice_at s.capacities w ≡ I.notice_as (get_or b.capacities (w - 2) nothing)
   unfolding notice_at
   notice-as w h l =
-      rw (le-ltb w 2 h, capacities-as s b e) (get_d_map I.notice_as nothing bare_notice b.capacities (w - 2) (omega arith))
+      rw (le-ltb w 2 h, capacities-as s b e) (get_or-map I.notice_as nothing bare_notice b.capacities (w - 2) (omega arith))
 
   module _ (r : HourCapacities) (c : Given s.capacities k r) where
     way_as : (w : ℕ) → 2 ≤ w → w < 10

@@ -9,7 +9,7 @@ use lib.Seq.{drop-cons, take_all}
 use Rattle.rules.specs.Lists.{All, none, more, keep, first, from}
 use Rattle.rules.proofs.BoolLaws.{by_bool}
 use Rattle.session.specs.Laid.{pad}
-use Rattle.session.proofs.IndexLaws.{get_d_map}
+use Rattle.session.proofs.IndexLaws.{get_or-map}
 
 module _ {A : Type 0} (d : A) where
   by-indices : (a : List A) (i n : ℕ) → i + n ≤ length a → map (λ j. get_or a j d) (from i n) ≡ take n (drop i a)
@@ -28,7 +28,7 @@ module _ {A : Type 0} (d : A) where
   -- what stands in an array that a list is laid into
   pub laid-at : {B : Type 0} (f : A → B) (n : ℕ) (b e : B) (xs : List A) (i : ℕ) → i < length xs → get_or (pad n b (map f xs)) i e ≡ f (get_or xs i d)
   unfolding pad
-  laid-at f n b e xs i h = get_or-append (map f xs) _ e i (omega (arith, length-map xs f)) ∙ get_d_map f d e xs i h
+  laid-at f n b e xs i h = get_or-append (map f xs) _ e i (omega (arith, length-map xs f)) ∙ get_or-map f d e xs i h
 
   -- a mapped list by index
   pub first-map : {B : Type 0} (f : A → B) (p : B → Bool) (xs : List A) → first p (f d) (map f xs) ≡ f (first (λ x. p (f x)) d xs)

@@ -20,7 +20,7 @@ use Rattle.session.specs.declared.Unit.{Unit}
 use Rattle.session.specs.declared.Lodgement.{Lodgement}
 use Rattle.session.specs.Image as I
 use Rattle.session.specs.Parts.{number_is, index_of}
-use Rattle.session.proofs.IndexLaws.{indexed, index-first, index-map, get_d_map}
+use Rattle.session.proofs.IndexLaws.{indexed, index-first, index-map, get_or-map}
 use Rattle.session.proofs.ImageLaws.{units-as, standing-as, enrolled-as}
 use Rattle.clear_gather.specs.Built.{UnitIndices, Holders}
 use Rattle.close_holders.specs.Holders.{holder_at}
@@ -65,7 +65,7 @@ module _ (s : Session) (b : B.Book) (e : s ≡ I.image b) (sound : I.Sound b) wh
   unit-at : (p : ℕ) → p < length b.units → (get_or s.units p I.no_unit).number ≡ (get_or b.units p U.nobody).unit.number
   unit-at p h =
       let l : length (take s.enrolled s.units) ≡ length b.units = ap length (units-as s b e) ∙ length-map b.units I.unit_of in
-      ap (λ (u : Unit). u.number) (sym (get_or-take s.enrolled s.units p I.no_unit (omega (arith, l, length-take s.enrolled s.units))) ∙ (ap (λ (us : List Unit). get_or us p I.no_unit) (units-as s b e) ∙ get_d_map I.unit_of U.nobody I.no_unit b.units p h))
+      ap (λ (u : Unit). u.number) (sym (get_or-take s.enrolled s.units p I.no_unit (omega (arith, l, length-take s.enrolled s.units))) ∙ (ap (λ (us : List Unit). get_or us p I.no_unit) (units-as s b e) ∙ get_or-map I.unit_of U.nobody I.no_unit b.units p h))
 
   pub unit-indexed : (index : List ℕ) (hs : List Unit) → UnitIndices s index → Holders s hs → (i p : ℕ) → i < s.standing → p < s.enrolled
       → eqb (get_or index i 0) p ≡ eqb (get_or hs i I.no_unit).number (get_or s.units p I.no_unit).number

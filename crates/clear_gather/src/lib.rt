@@ -1,4 +1,6 @@
 // An hour of the day, from the lodgements accepted at closing that name it.
+#![tactic(auto)]
+
 ghost use Rattle.std.specs.Prelude.{◌≡◌, false, ◌&&◌, List, ◌≤◌, ◌<◌, ltb};
 ghost use Rattle.session.specs.declared.Session.{Session};
 ghost use Rattle.session.specs.declared.Unit.{Unit};
@@ -14,7 +16,7 @@ use rules::{DIRECTIONS, HOURS, LODGEMENTS};
 use session::{Energies, Lodgement, Notice, Session, Unit, Verdict};
 
 // What the standing lodgements have in all hours, 25 for each index.
-#[derive(Drop)]
+#[derive(Clone, Copy)]
 pub struct Slots {
     pub energy: [u32; LODGEMENTS * HOURS],
     pub price: [u32; LODGEMENTS * HOURS],
@@ -22,7 +24,7 @@ pub struct Slots {
 
 // What the day's hours read of the standing lodgements, by index: their holders, the indices of the holders' units, which are accepted
 // offers or executions, and what they have. The arrays are plain numbers, which can be lent, so that no hour copies them.
-#[derive(Drop)]
+#[derive(Clone, Copy)]
 pub struct Day {
     pub holders: Executions,
     pub index: [u32; LODGEMENTS],
@@ -33,7 +35,7 @@ pub struct Day {
 }
 
 // An hour, and the indices of the units of its offers and executions.
-#[derive(Drop)]
+#[derive(Clone, Copy)]
 pub struct Gathered {
     pub hour: Hour,
     pub offering: [u32; LODGEMENTS],
@@ -41,7 +43,7 @@ pub struct Gathered {
 }
 
 // Capacities of an hour by direction (`hour_borders::way`): whether published, and the energy.
-#[derive(Drop)]
+#[derive(Clone, Copy)]
 pub struct HourCapacities {
     pub flags: [bool; 10],
     pub energies: [u32; 10],

@@ -1,4 +1,6 @@
 // The figures of an hour as the session keeps them.
+#![tactic(auto)]
+
 ghost use Rattle.std.specs.Prelude.{◌≡◌, List, ℕ, ◌≤◌, get_or, take, length};
 ghost use Rattle.session.specs.declared.Unit.{Unit};
 ghost use Rattle.rules.specs.Units.{max_energy};

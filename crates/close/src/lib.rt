@@ -1,4 +1,6 @@
 // Closing: "closing gives each standing one its verdict".
+#![tactic(auto)]
+
 ghost use Rattle.rules.specs.DayBook.{close};
 ghost use Rattle.session.specs.Steps.{Met};
 ghost use Rattle.session.specs.Parts.{Within, Entered};

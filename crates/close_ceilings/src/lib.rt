@@ -1,4 +1,6 @@
 // The ceilings of units by hour: "the ceiling of a unit in an hour is the least of" its limits.
+#![tactic(auto)]
+
 ghost use Rattle.std.specs.Prelude.{◌≡◌, List, ℕ, ◌+◌, ◌*◌, ◌<◌, ◌≤◌, get_or, length};
 ghost use Rattle.session.specs.declared.Notice.{Notice};
 ghost use Rattle.close_ceilings.specs.Ceilings.{most, line_by, line_in, line_at, LinesOf, line_row, ceiling_by, ceiling_in, ceiling_at, RowAt};

@@ -1,4 +1,6 @@
 // The holders of lodgements: the index of each one's unit.
+#![tactic(auto)]
+
 ghost use Rattle.std.specs.Prelude.{◌≡◌, map, ℕ, ◌<◌, ◌≤◌, get_or, take, length};
 ghost use Rattle.session.specs.Parts.{index_of};
 ghost use Rattle.close_holders.specs.Holders.{number_of, is_number, ends_in, holder_at};

@@ -21,7 +21,7 @@ use Rattle.rules.proofs.ClosingLaws.{class-is, closing-exactly}
 use Rattle.session.specs.Laid.{pad}
 use Rattle.session.specs.Image.{verdict_as, no_verdict}
 use Rattle.session.specs.declared.Verdict.{Verdict}
-use Rattle.session.proofs.IndexLaws.{get_d_map}
+use Rattle.session.proofs.IndexLaws.{get_or-map}
 use Rattle.close_judge.specs.Classes.{beyond, standing_at, verdict_at, class_at, is_taken, has_passed, Reached}
 use Rattle.close_judge.proofs.IndexLaws.{passed-before, by-past, by-taken, by_first, by_next, by_last}
 
@@ -57,7 +57,7 @@ module _ (b : Book) where
 
   pub verdict-at : (j : ℕ) → j < length b.standing → verdict_at b j ≡ verdict_of b (standing_at b j)
   unfolding C.verdicts verdict_of
-  verdict-at j h = get_d_map (verdict_of b) beyond C.hidden b.standing j h
+  verdict-at j h = get_or-map (verdict_of b) beyond C.hidden b.standing j h
 
   verdict-beyond : (j : ℕ) → length b.standing ≤ j → verdict_at b j ≡ C.hidden
   unfolding C.verdicts
@@ -100,7 +100,7 @@ module _ (b : Book) where
   -- in the array
   verdict-laid : (j : ℕ) → get_or (pad 128 no_verdict (map verdict_as (C.verdicts b))) j no_verdict ≡ verdict_as (verdict_at b j)
   unfolding pad verdict_as
-  verdict-laid j = get_or-blank no_verdict (map verdict_as (C.verdicts b)) (128 - length (map verdict_as (C.verdicts b))) j ∙ ListN.get_d_map verdict_as (C.verdicts b) j C.hidden
+  verdict-laid j = get_or-blank no_verdict (map verdict_as (C.verdicts b)) (128 - length (map verdict_as (C.verdicts b))) j ∙ ListN.get_or-map verdict_as (C.verdicts b) j C.hidden
 
   -- "closing gives each standing one its verdict"
   pub reached-end : (vs : List Verdict) → length vs ≡ 128 → length b.standing ≤ 128 → Reached b 2 0 vs → vs ≡ pad 128 no_verdict (map verdict_as (C.verdicts b))

@@ -18,7 +18,7 @@ use Rattle.session.specs.declared.Verdict.{Verdict}
 use Rattle.judge_loads.specs.Loads.{marked}
 use Rattle.judge_loads.proofs.LoadLaws.{and-false}
 use Rattle.close_judge.specs.Classes.{Marks, held_at}
-use Rattle.session.proofs.IndexLaws.{get_d_map}
+use Rattle.session.proofs.IndexLaws.{get_or-map}
 
 -- Numbers in a row
 
@@ -41,7 +41,7 @@ module _ {A : Type 0} (f : ℕ → A) (n : ℕ) where
 
   -- what stands at an index of it
   pub indices-at : (d : A) (j : ℕ) → j < n → get_or (map f (from 0 n)) j d ≡ f j
-  indices-at d j h = let m = length_from 0 n in get_d_map f 0 d (from 0 n) j (omega arith) ∙ ap f (here j h)
+  indices-at d j h = let m = length_from 0 n in get_or-map f 0 d (from 0 n) j (omega arith) ∙ ap f (here j h)
 
 -- an index counts if it is passed, accepted and of the unit
 pub counted-as : (passed : Bool) (v : C.Verdict) (unit : Bool) → ((cond passed (verdict_as v) no_verdict).accepted && unit) ≡ (C.is_accepted v && (unit && passed))

@@ -30,7 +30,7 @@ use Rattle.session.specs.declared.Energies.{Energies}
 use Rattle.session.specs.declared.Verdict.{Verdict}
 use Rattle.session.specs.declared.Ruling.{Ruling}
 use Rattle.session.proofs.ImageLaws.{standing-as, hours-as, enrolled-as, units-as, capacities-as, energies-as, registered-as, unit-as, notice-as}
-use Rattle.session.proofs.IndexLaws.{indexed, get_d_map}
+use Rattle.session.proofs.IndexLaws.{indexed, get_or-map}
 use Rattle.judge_loads.specs.Loads.{marked, energy_in, load_in, load_by}
 use Rattle.close_holders.specs.Holders.{holder_at}
 use Rattle.judge_limits.specs.Limits.{judged_in}
@@ -83,7 +83,7 @@ module _ (s : Session) (b : Book) (sound : Sound b) (e : s ≡ image b) (vs : Li
       (λ j k.
       let in_list : j < length b.standing = omega (arith, length-take (length b.standing) marks) in
       get_or-take (length b.standing) marks j false in_list ∙ indices-at (counts_at l.key.unit vs s.lodgements) 128 false j (omega arith) ∙ counts-before j in_list
-      ∙ sym (get_d_map before beyond false b.standing j in_list))
+      ∙ sym (get_or-map before beyond false b.standing j in_list))
 
   accepted-before : keep before b.standing ≡ accepted_before b l
   unfolding accepted_before C.accepted_at verdict_of

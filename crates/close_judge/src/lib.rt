@@ -1,4 +1,6 @@
 // One lodgement's verdict at closing (document 01, "Closing").
+#![tactic(auto)]
+
 ghost use Rattle.std.specs.Prelude.{◌≡◌, false, List, map, ℕ, ◌+◌, ◌*◌, ◌<◌, ◌≤◌, get_or, take, length};
 ghost use Rattle.rules.specs.Lists.{from};
 ghost use Rattle.judge_loads.specs.Loads.{IndicesOf, RowsAt, load_by};

@@ -1,4 +1,6 @@
 // The order of closing: its three classes, and within each the latest number first.
+#![tactic(auto)]
+
 ghost use Rattle.std.specs.Prelude.{◌≡◌, ℕ, ◌<◌, get_or, length};
 ghost use Rattle.rules.specs.Book.{Book};
 ghost use Rattle.session.specs.Image.{image, Sound, no_lodgement};

@@ -15,6 +15,8 @@
 //     h                              the hour so given, cleared; the next begins
 //
 // Any other line is written as it stands. tests/figures makes the input and, from the independent model, what is expected.
+#![tactic(auto)]
+
 pub mod questions;
 
 ghost use Rattle.std.specs.Prelude.{◌≤◌, ◌<◌, length};

@@ -8,7 +8,7 @@ use message::{Fields, Reading};
 pub const STDOUT: i32 = 1;
 
 // The numbers of a line so far, and the one that is being read.
-#[derive(Drop)]
+#[derive(Clone, Copy)]
 pub struct Numbers {
     pub count: usize,
     pub values: [u32; 128],

@@ -1,6 +1,8 @@
 // The C interface (include/gate.h). "The session is lent to each call and changed in place": thin entries that apply the
 // by-value steps of the calls (lodging first that of `lodge_pending`), store what these change (`gate_store`), and apply those of the queries. The numbers at
 // each are the rows of the refusal table that it can answer with.
+#![tactic(auto)]
+
 ghost use Rattle.std.specs.Prelude.{◌≡◌, length};
 ghost use Rattle.rules.specs.Hours.{hours_at, clock_at, hour_at};
 ghost use Rattle.rules.specs.Message.{read as reading, write as writing, buffer_after};

@@ -1,5 +1,7 @@
 // "The session is lent to each call and changed in place": what a step changes, stored in the lent session; and what a query looks
 // for and a lodgement is judged by, found there, so that no array is copied.
+#![tactic(auto)]
+
 ghost use Rattle.std.specs.Prelude.{◌≡◌, ◌<◌};
 ghost use Rattle.session_changes.specs.Changes.{Indexed, registry_with, capacities_with, standing_with, closed_with, cleared_with};
 ghost use Rattle.query_verdict.specs.Parts.{LodgedFound};

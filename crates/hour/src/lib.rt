@@ -1,4 +1,6 @@
 // An hour as it is cleared and what clearing gives (document 01, "Clearing, hour by hour"): the crate `hour_clear` clears it.
+#![tactic(auto)]
+
 pub mod readiness;
 
 ghost use Rattle.std.specs.Prelude.{◌≡◌};
@@ -11,7 +13,7 @@ use rules::{LODGEMENTS, UNITS};
 // An hour as it is cleared: its accepted offers and executions, each kind by rising lodging number, with their energies, and its
 // published capacities by direction (`hour_borders::way`; none of border 0). After the counts, and where nothing is published, anything may
 // stand.
-#[derive(Drop)]
+#[derive(Clone, Copy)]
 pub struct Hour {
     pub offers: Offers,
     pub offered: [u32; LODGEMENTS],
@@ -24,7 +26,7 @@ pub struct Hour {
 // What clearing gives: what is still offered and what is matched of each offer, what is executed of each execution, 0 after them; by
 // direction the market maximum, 0 where none is published, and the energy of matched offers and of executions at the end, border 0
 // being domestic; the count of withdrawal steps and the price.
-#[derive(Drop)]
+#[derive(Clone, Copy)]
 pub struct Figures {
     pub offered: [u32; LODGEMENTS],
     pub matched: [u32; LODGEMENTS],

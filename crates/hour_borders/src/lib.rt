@@ -1,4 +1,6 @@
 // Energy at the borders in one hour: directions, flows, maxima, excesses (document 01, "Split" and "Withdrawal step").
+#![tactic(auto)]
+
 ghost use Rattle.std.specs.Prelude.{◌≡◌, Bool, List, map, ℕ, ◌≤◌, ◌<◌, get_or};
 ghost use Rattle.rules.specs.Match.{Offer};
 ghost use Rattle.rules.specs.Borders.{Execution};
@@ -26,7 +28,7 @@ pub fn way(border: u32, export: bool) -> usize
 
 // An hour's accepted executions by rising lodging number: what never changes in the hour. Their energies are an array of
 // their own.
-#[derive(Drop)]
+#[derive(Clone, Copy)]
 pub struct Executions {
     pub count: usize,
     pub number: [u32; LODGEMENTS],

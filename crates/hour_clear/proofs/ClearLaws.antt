@@ -34,7 +34,7 @@ use Rattle.hour_borders.proofs.LimitLaws.{Filled}
 use Rattle.session.specs.Laid.{pad}
 use Rattle.session.specs.Image.{by_way, energy_of}
 use Rattle.session.proofs.LaidLaws.{map_last, set-pad}
-use Rattle.session.proofs.IndexLaws.{get_d_map}
+use Rattle.session.proofs.IndexLaws.{get_or-map}
 use Rattle.hour.specs.declared.Hour.{Hour}
 use Rattle.hour_market.specs.declared.Market.{Market}
 use Rattle.hour.specs.Ready.{Ready, is_ready, figures_of}
@@ -69,7 +69,7 @@ module _ (a : List ℕ) where
     unfolding vals
     vals_at i l =
         let z : 0 + i ≡ i = omega arith in
-        rw (none-off n) (get_d_map (λ j. get_or a j 0) 0 0 (from 0 n) i (omega (arith, length_from 0 n)) ∙ ap (λ j. get_or a j 0) (from_at 0 n i l ∙ z))
+        rw (none-off n) (get_or-map (λ j. get_or a j 0) 0 0 (from 0 n) i (omega (arith, length_from 0 n)) ∙ ap (λ j. get_or a j 0) (from_at 0 n i l ∙ z))
 
     pub front_at : (i : ℕ) → i < n → get_or (pad 128 0 (vals a 0 n)) i 0 ≡ get_or a i 0
     unfolding pad

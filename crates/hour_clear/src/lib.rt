@@ -1,4 +1,6 @@
 // One hour's clearing (document 01, "Clearing, hour by hour").
+#![tactic(auto)]
+
 ghost use Rattle.std.specs.Prelude.{◌≡◌, cond, ◌≤◌};
 ghost use Rattle.rules.specs.Clearing.{clear_hour};
 ghost use Rattle.arrays.specs.Indices.{vals};
@@ -12,7 +14,7 @@ use hour::{Figures, Hour};
 use rules::LODGEMENTS;
 
 // An hour's answer: whether it is one that a session can hold, and its figures, all of them 0 where it is not.
-#[derive(Drop)]
+#[derive(Clone, Copy)]
 pub struct Clearance {
     pub ready: bool,
     pub figures: Figures,

@@ -1,4 +1,6 @@
 // Executions cut back to what the borders leave them (document 01, "Executions").
+#![tactic(auto)]
+
 ghost use Rattle.std.specs.Prelude.{◌≡◌, List, ℕ, ◌≤◌, get_or, length, replicate};
 ghost use Rattle.rules.specs.Lists.{All};
 ghost use Rattle.rules.specs.Match.{Offer};

@@ -1,4 +1,6 @@
 // The market of one hour: first match, Split, withdrawal (document 01, "Clearing, hour by hour").
+#![tactic(auto)]
+
 ghost use Rattle.std.specs.Prelude.{◌≡◌, Bool, List, map, ℕ, ◌≤◌, length, get_or};
 ghost use Rattle.rules.specs.Borders.{Execution};
 ghost use Rattle.rules.specs.Split.{maximum_of};
@@ -13,7 +15,7 @@ use hour_match::{Offers, Order};
 use rules::LODGEMENTS;
 
 // The first match: the order of either side, what is matched, and the volume.
-#[derive(Drop)]
+#[derive(Clone, Copy)]
 struct First {
     sales: Order,
     purchases: Order,
@@ -22,7 +24,7 @@ struct First {
 }
 
 // The market's part of an hour: energies, maxima, the flows of the last match, steps and price.
-#[derive(Drop)]
+#[derive(Clone, Copy)]
 pub struct Market {
     pub offered: [u32; LODGEMENTS],
     pub matched: [u32; LODGEMENTS],

@@ -1,4 +1,6 @@
 // Share: taking an energy from several amounts pro rata.
+#![tactic(auto)]
+
 ghost use Rattle.std.specs.Prelude.{◌≡◌, map, ◌++◌, ℕ, ◌≤◌, ◌<◌, length, get_or, take, drop};
 ghost use Rattle.rules.specs.Lists.{sum, add_each};
 ghost use Rattle.rules.specs.Units.{max_energy};

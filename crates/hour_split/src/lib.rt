@@ -1,4 +1,6 @@
 // Split: the market maximum of a border's direction, after the first match.
+#![tactic(auto)]
+
 ghost use Rattle.std.specs.Prelude.{◌≡◌, ◌+◌, ◌≤◌, ◌<◌, pos};
 ghost use Rattle.std.proofs.Math.IntN.{sub_ℕ};
 ghost use Rattle.rules.specs.Split.{bilateral_part, market_maximum};

@@ -1,4 +1,6 @@
 // The energy of a lodgement by hour, with that of others that are counted, against limits 10, 11 and 12.
+#![tactic(auto)]
+
 ghost use Rattle.std.specs.Prelude.{◌≡◌, cond, map, ℕ, ◌+◌, ◌*◌, ◌<◌, ◌≤◌, take, replicate};
 ghost use Rattle.rules.specs.Lists.{add_each};
 ghost use Rattle.rules.specs.Units.{border_sum};
@@ -11,7 +13,7 @@ use rules::{DIRECTIONS, HOURS};
 use session::{Notice, Ruling, Unit};
 
 // Limit 12 by hour, where it applies.
-#[derive(Drop)]
+#[derive(Clone, Copy)]
 pub struct BorderLimit {
     pub applies: bool,
     pub energies: [u64; HOURS],

@@ -1,4 +1,6 @@
 // The energies of the lodgements that are counted beside one, and the lowest hour in which its energy with theirs passes a limit.
+#![tactic(auto)]
+
 ghost use Rattle.std.specs.Prelude.{◌≡◌, ◌+◌, ◌*◌, ◌<◌, ◌≤◌, take, length};
 ghost use Rattle.rules.specs.Lists.{lowest};
 ghost use Rattle.rules.specs.Lodging.{passed_at};

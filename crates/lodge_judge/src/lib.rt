@@ -1,4 +1,6 @@
 // What a message of the right form is refused for before its energy is judged: 4, 5, 6, 9.
+#![tactic(auto)]
+
 ghost use Rattle.std.specs.Prelude.{◌≡◌, ◌||◌, ◌≤◌};
 ghost use Rattle.rules.specs.Message.{bad_map};
 ghost use Rattle.rules.specs.Lodging.{names_beyond};

@@ -17,7 +17,7 @@ use Rattle.rules.proofs.ElementLaws.{all-every}
 use Rattle.session.specs.Laid.{pad}
 use Rattle.session.specs.Image.{image, key_in, key_as, lodgement_as, energies_as}
 use Rattle.session.proofs.LaidLaws.{any-map}
-use Rattle.session.proofs.IndexLaws.{get_d_map}
+use Rattle.session.proofs.IndexLaws.{get_or-map}
 use Rattle.session.proofs.ImageLaws.{lodgements-as, energies-as}
 use Rattle.session.specs.declared.Key.{Key}
 use Rattle.session.specs.declared.Lodgement.{Lodgement}
@@ -88,7 +88,7 @@ module _ (ls : List Lodgement) (k : Key) (l : Lodgement) where
 
 tested_at : {A : Type 0} (c : A → Bool) (d : A) (xs : List A) (i : ℕ) → i < length xs → get_or (pad 128 false (map c xs)) i false ≡ c (get_or xs i d)
 unfolding pad
-tested_at c d xs i h = get_or-append (map c xs) (replicate (128 - length (map c xs)) false) false i (omega (arith, length-map xs c)) ∙ get_d_map c d false xs i h
+tested_at c d xs i h = get_or-append (map c xs) (replicate (128 - length (map c xs)) false) false i (omega (arith, length-map xs c)) ∙ get_or-map c d false xs i h
 
 module _ (k : Key) (l : List Lodgement) (n : ℕ) where
   -- beside a default lodgement there are none

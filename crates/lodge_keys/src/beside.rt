@@ -9,7 +9,7 @@ use session::{Key, Lodgement};
 
 // Those that are counted: how many, and the index of each. An index is a byte, since a message that awaits its judgement is handed
 // on by value.
-#[derive(Drop)]
+#[derive(Clone, Copy)]
 pub struct Counted {
     pub count: usize,
     pub at: [u8; LODGEMENTS],

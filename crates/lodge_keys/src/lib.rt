@@ -1,4 +1,6 @@
 // Keys: a message's key, which lodgements are of a key, which hide those of it, and what a key is refused for.
+#![tactic(auto)]
+
 ghost use Rattle.std.specs.Prelude.{◌≡◌, false, ◌≤◌, ◌<◌, take};
 ghost use Rattle.rules.specs.Lists.{any};
 ghost use Rattle.rules.specs.Message.{bad_key};

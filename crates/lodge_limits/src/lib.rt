@@ -1,5 +1,7 @@
 // A message's energy, with that of the lodgements counted beside it, against limits 10, 11 and 12. First it is tested whether one is passed at
 // all, by sums; only then the limit and its lowest hour are looked for, among the lodgements.
+#![tactic(auto)]
+
 ghost use Rattle.std.specs.Prelude.{◌≡◌, true, cond, ◌≤◌, eqb, length, replicate};
 ghost use Rattle.rules.specs.Lists.{from};
 ghost use Rattle.session.specs.declared.Ruling.TheVariants.{Clear};

@@ -1,4 +1,6 @@
 // A message that is read, before its energy is judged: the row that refuses it, or what its judgement by the limits looks at.
+#![tactic(auto)]
+
 ghost use Rattle.std.specs.Prelude.{◌≡◌, ◌≤◌};
 ghost use Rattle.session.specs.Parts.{Within};
 ghost use Rattle.lodge_keys.specs.Keys.{key_index};
@@ -16,7 +18,7 @@ use session::{Holder, Key, Session, no_unit};
 
 // The row that refuses it, 0 for none: 2, 3, 4, 5, 6, 9. Then its fields, the index of the lodgement that it replaces, its unit, and those that are
 // counted beside it.
-#[derive(Drop)]
+#[derive(Clone, Copy)]
 pub struct Pending {
     pub row: u32,
     pub fields: Fields,

@@ -1,4 +1,6 @@
 // The lodging message: its fields, its length, and what its fields are refused for (document 01, "The lodging message").
+#![tactic(auto)]
+
 pub mod form;
 pub mod judge;
 
@@ -7,7 +9,7 @@ use rules::HOURS;
 // What a message says, and what a writer is given. Energies and prices are by hour, hour 1 first. What is reserved, here and below,
 // leaves no padding for C.
 #[repr(C)]
-#[derive(Drop)]
+#[derive(Clone, Copy)]
 pub struct Fields {
     pub execution: bool,
     pub default: bool,
@@ -22,7 +24,7 @@ pub struct Fields {
 
 // A message read: row 0 and its fields, or the table's number and fields that are all 0.
 #[repr(C)]
-#[derive(Drop)]
+#[derive(Clone, Copy)]
 pub struct Reading {
     pub row: u32,
     pub fields: Fields,
@@ -30,7 +32,7 @@ pub struct Reading {
 
 // A message written: row 0 and the count of its bytes, or the table's number and 0.
 #[repr(C)]
-#[derive(Drop)]
+#[derive(Clone, Copy)]
 pub struct Written {
     pub row: u32,
     pub reserved: u32,

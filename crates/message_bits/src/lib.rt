@@ -1,4 +1,6 @@
 // Bytes and bits of a message as numbers.
+#![tactic(auto)]
+
 ghost use Rattle.std.specs.Prelude.{◌≡◌, ◌+◌, ◌*◌, ◌-◌, ◌/◌, ◌%◌, ◌^◌, ◌<◌, ◌≤◌, min, leb, length, get_or};
 ghost use Rattle.rules.specs.Message.{bits_of, field};
 ghost use Rattle.message_bits.specs.Bits.{word_at};
@@ -142,7 +144,7 @@ fn onward(at: usize, n: usize) -> usize
     at + n
 }
 
-#[derive(Drop)]
+#[derive(Clone, Copy)]
 pub struct Taken {
     pub value: u32,
     pub next: usize,

@@ -1,18 +1,18 @@
 -- What a reader takes one after the other is what the rules read.
-use Prim.Native.Nat.{ℕ, suc, ◌+◌, ◌*◌, ◌-◌, ◌^◌, ◌≤◌, ◌<◌, min}
+use Prim.Native.Nat.{ℕ, suc, ◌+◌, ◌*◌, ◌^◌, ◌≤◌, ◌<◌, min}
 use mathlib.Core.Path.{◌≡◌, refl, ap, sym, ◌∙◌}
 use mathlib.Core.Bool.{Bool, true, false}
-use mathlib.Core.List.{List, [], ◌∷◌}
+use mathlib.Core.List.{List, ◌∷◌}
 use native.Mathlib.Omega.{arith}
 use native.Mathlib.Nat.{add-zero, zero-mul, suc-mul}
 use lib.Dec.{eqb}
 use lib.ListN.{length, drop}
 use lib.Seq.{drop-drop}
 use Rattle.rules.specs.Lists.{sum, more as cons}
-use Rattle.rules.specs.Message.{Form, field, price_width, slot_width, hour_bits, set_bits, read_slots, is_execution, map_of, fields_of}
+use Rattle.rules.specs.Message.{field, price_width, slot_width, hour_bits, set_bits, read_slots, is_execution, map_of, fields_of}
 use Rattle.rules.proofs.ListLaws.{Under}
 use Rattle.rules.proofs.BitLaws.{length-bits, bits-under, field-drop}
-use Rattle.message_cursor.specs.Taking.{Takes, SlotTaken, unset, set, SlotsTaken, none, more, MessageTaken, taken, FieldsTaken}
+use Rattle.message_cursor.specs.Taking.{Takes, unset, set, SlotsTaken, none, more, taken, FieldsTaken}
 
 -- at most 32 bits, to a position that a machine word holds
 takes : (bs : List ℕ) (at w : ℕ) {v next : ℕ} → Takes bs at w v next → w ≤ 32 → at + w < 2 ^ 64 → (v ≡ field at w bs) × (next ≡ at + w)

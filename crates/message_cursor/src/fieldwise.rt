@@ -15,7 +15,7 @@ use rules::HOURS;
 use rules::row::{FORM, HOUR, RANGE};
 
 // An hour's energy and price, and the position after them.
-#[derive(Drop)]
+#[derive(Clone, Copy)]
 struct Slot {
     energy: u32,
     price: u32,

@@ -1,4 +1,6 @@
 // "A reader set over the message moves on through its bits": the message and the position of its next bit.
+#![tactic(auto)]
+
 pub mod fieldwise;
 
 ghost use Rattle.std.specs.Prelude.{◌≡◌, ◌+◌, ◌-◌, ◌^◌, min, leb, length};
@@ -7,7 +9,7 @@ ghost use Rattle.message_cursor.specs.Taking.{Takes};
 
 use message_bits::{Taken, has_at, take_at};
 
-#[derive(Drop)]
+#[derive(Clone, Copy)]
 pub struct Reader<'a> {
     pub message: &'a [u8],
     pub at: usize,

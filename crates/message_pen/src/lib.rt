@@ -1,4 +1,6 @@
 // Writing bits into the caller's buffer, and the numbers that a message's head and slots are (document 01, "The lodging message").
+#![tactic(auto)]
+
 ghost use Rattle.std.specs.Prelude.{◌≡◌, [], ◌++◌, ℕ, ◌+◌, ◌^◌, ◌≤◌, ◌<◌, length};
 ghost use Rattle.rules.specs.Message.{form1, bit, bits, head_bits, hour_bits};
 ghost use Rattle.message.specs.View.{fields_in};
@@ -7,7 +9,7 @@ ghost use Rattle.message_pen.specs.Pens.{Appended, FirstHour, InRanges, Room, Sl
 use message::Fields;
 
 // How far a message is written: `pos` bits, of which the last pos % 8 are no whole byte yet and wait in the low bits of `acc`.
-#[derive(Drop)]
+#[derive(Clone, Copy)]
 pub struct Pen {
     pub pos: usize,
     pub acc: u64,
@@ -103,7 +105,7 @@ pub fn slot_word(execution: bool, energy: u32, price: u32) -> u64
 }
 
 // The first hour that a map names, counted from 0, and the map of the hours after it.
-#[derive(Drop)]
+#[derive(Clone, Copy)]
 pub struct Next {
     pub hour: usize,
     pub rest: u32,

@@ -1,4 +1,6 @@
 // What single values of a message are refused for: 4 and 5 of the table (document 01, "The lodging message").
+#![tactic(auto)]
+
 ghost use Rattle.std.specs.Prelude.{◌≡◌, ◌||◌};
 ghost use Rattle.rules.specs.Units.{bad_number};
 ghost use Rattle.rules.specs.Message.{bad_map, bad_contract, top_price};

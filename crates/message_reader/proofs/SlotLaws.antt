@@ -68,12 +68,12 @@ module _ (f : Form) (x : Bool) where
       rw (first-unset map (energies map bs) (prices map bs))
       (any-later (tested f.top x (0 ∷ map) (0 ∷ energies map bs) (0 ∷ prices map bs)) (tested f.top x map (energies map bs) (prices map bs)) (tested-later f.top x 0 0 0 map (energies map bs) (prices map bs)) 1 (length map) (omega arith)
       ∙ all_tested q bs)
-  all_tested (more {x = suc b} {xs = map} p q) bs =
-      let one : suc b ≡ 1 = omega arith in
+  all_tested (more {x = suc (suc b)} p q) bs = absurd (omega arith)
+  all_tested (more {x = suc zero} {xs = map} p q) bs =
       let rest = drop (slot_width f.width x) bs in
       let e = field 0 f.width bs in
       let r = field f.width (price_width x) bs in
-      rw (one, first-set map (energies map rest) (prices map rest) e r)
+      rw (first-set map (energies map rest) (prices map rest) e r)
       (ap (λ t. bad_slot f.top x true e r || t)
       (any-later (tested f.top x (1 ∷ map) (e ∷ energies map rest) (r ∷ prices map rest)) (tested f.top x map (energies map rest) (prices map rest)) (tested-later f.top x 1 e r map (energies map rest) (prices map rest)) 1 (length map) (omega arith)
       ∙ all_tested q rest))

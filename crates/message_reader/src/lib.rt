@@ -1,4 +1,6 @@
 // Reading a lodging message.
+#![tactic(auto)]
+
 ghost use Rattle.std.specs.Prelude.{◌≡◌, false, ◌||◌, List, ℕ, ◌^◌, ◌<◌, ◌≤◌, length, replicate};
 ghost use Rattle.std.specs.Int.Count.{count_leading_zeros};
 ghost use Rattle.rules.specs.Message.{form1, form_of, bits_of, field, message_of, wrong_form, read as reading};
@@ -120,7 +122,7 @@ fn fill_by_kind(
 }
 
 // The fields before the hours' slots.
-#[derive(Drop)]
+#[derive(Clone, Copy)]
 struct Head {
     execution: bool,
     default: bool,
@@ -171,7 +173,7 @@ pub fn top_of(s: &[u8]) -> u32
 }
 
 // What is read of a message beside its energies and prices: row 0 and the head, or the table's number and a head that is all 0.
-#[derive(Drop)]
+#[derive(Clone, Copy)]
 struct HeadRead {
     row: u32,
     head: Head,

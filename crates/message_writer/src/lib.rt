@@ -1,4 +1,6 @@
 // Writing the lodging message: judged first, then written bit after bit into the caller's buffer.
+#![tactic(auto)]
+
 ghost use Rattle.std.specs.Prelude.{◌≡◌, ◌≤◌, length};
 ghost use Rattle.rules.specs.Message.{form1, head_bits, message_length, write as writing};
 ghost use Rattle.rules.specs.Message.{buffer_after};

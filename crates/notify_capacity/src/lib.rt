@@ -1,4 +1,6 @@
 // Capacity notices: the borders' 4 times 2 directions, each absent or its energies.
+#![tactic(auto)]
+
 ghost use Rattle.std.specs.Prelude.{◌≡◌, map};
 ghost use Rattle.rules.specs.Lists.{any};
 ghost use Rattle.rules.specs.Units.{not_of_hours, bad_published};
@@ -18,7 +20,7 @@ use session_changes::{CapacityChange, CapacityEffect, capacity_refused, with_cap
 
 // A capacity notice: export and import of border 1, of 2, of 3, of 4.
 #[repr(C)]
-#[derive(Drop)]
+#[derive(Clone, Copy)]
 pub struct Capacities {
     pub directions: [Published; DIRECTIONS],
 }

@@ -1,4 +1,6 @@
 // Unavailability notices: what a unit has available.
+#![tactic(auto)]
+
 ghost use Rattle.std.specs.Prelude.{◌≡◌, ◌<◌, take};
 ghost use Rattle.rules.specs.Units.{bad_energies};
 ghost use Rattle.rules.specs.DayBook.{available};
@@ -17,7 +19,7 @@ use session_changes::{RegistryChange, RegistryEffect, registry_refused, with_reg
 
 // An unavailability notice: `count` available energies of a unit.
 #[repr(C)]
-#[derive(Drop)]
+#[derive(Clone, Copy)]
 pub struct Availability {
     pub count: usize,
     pub unit: u32,

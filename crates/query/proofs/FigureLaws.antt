@@ -15,7 +15,7 @@ use Rattle.session.specs.Laid.{pad}
 use Rattle.session.specs.Image.{image, Sound, hours_in, figures_as, no_figures}
 use Rattle.session.specs.declared.Session.{Session}
 use Rattle.session.specs.declared.HourFigures.{HourFigures}
-use Rattle.session.proofs.IndexLaws.{get_d_map}
+use Rattle.session.proofs.IndexLaws.{get_or-map}
 use Rattle.session.proofs.ImageLaws.{hours-as, cleared-as}
 use Rattle.answer.specs.Told.{value_told, figure}
 use Rattle.query.specs.Parts.{index_in, figures_in, HourFits}
@@ -39,7 +39,7 @@ from_at i (suc n) (suc k) h = from_at (suc i) n k (omega arith) ∙ omega arith
 
 -- an element of what is made of the numbers from i on
 pub made_at : {A : Type 0} (f : ℕ → A) (e : A) (i n k : ℕ) → k < n → get_or (map f (from i n)) k e ≡ f (i + k)
-made_at f e i n k h = get_d_map f 0 e (from i n) k (omega (arith, length_from i n)) ∙ ap f (from_at i n k h)
+made_at f e i n k h = get_or-map f 0 e (from i n) k (omega (arith, length_from i n)) ∙ ap f (from_at i n k h)
 
 -- an hour's index is the one before its number
 pub index-as : (hour : ℕ) → hour ≤ 25 → index_in hour ≡ hour - 1

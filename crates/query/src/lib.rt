@@ -1,5 +1,7 @@
 // Queries, by value: what all of them share, and the price. Verdicts are asked in `query_verdict`, a unit's energies in `query_unit`,
 // a border's balances in `query_balance` and its maxima in `query_maximum`.
+#![tactic(auto)]
+
 ghost use Rattle.std.specs.Prelude.{◌≡◌, ◌<◌};
 ghost use Rattle.rules.specs.Queries as Q;
 ghost use Rattle.query.specs.Replies.{Answered};

@@ -1,4 +1,6 @@
 // The session's queries, each by a number.
+#![tactic(auto)]
+
 ghost use Rattle.query_any.specs.Asked.{asked, Replied};
 
 use answer::Response;

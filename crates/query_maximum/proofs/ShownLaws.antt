@@ -22,7 +22,7 @@ use Rattle.session.specs.Image.{image, Sound, notice_as, energy_of, figures_as}
 use Rattle.session.specs.declared.Session.{Session}
 use Rattle.session.specs.declared.Notice.{Notice}
 use Rattle.session.specs.declared.HourFigures.{HourFigures}
-use Rattle.session.proofs.IndexLaws.{get_d_map}
+use Rattle.session.proofs.IndexLaws.{get_or-map}
 use Rattle.session.proofs.ImageLaws.{capacities-as}
 use Rattle.answer.specs.Told as T
 use Rattle.answer.specs.Told.{value_told, figure}
@@ -95,7 +95,7 @@ module _ (s : Session) (border : ℕ) (export : Bool) (hour : ℕ) (p : Asked) (
     the-notice =
         ap (λ i. get_or s.capacities i bare_notice) f.of
         ∙ ap (λ (l : List Notice). get_or l (U.direction border export) bare_notice) (capacities-as s b e)
-        ∙ get_d_map notice_as none bare_notice b.capacities (U.direction border export) (omega (arith, sound.directions, direction-small border export fits.high))
+        ∙ get_or-map notice_as none bare_notice b.capacities (U.direction border export) (omega (arith, sound.directions, direction-small border export fits.high))
 
     flow-at : (x : Bool) → get_or figures.market (way_of border x) 0 ≡ market_flow border x (figures_at b hour).offers
     flow-at = market-at s hour figures the-figures b sound e border fits

@@ -1,4 +1,6 @@
 // The queries of a border's maxima, after clearing.
+#![tactic(auto)]
+
 ghost use Rattle.std.specs.Prelude.{◌≡◌, ◌+◌, ◌<◌, get_or};
 ghost use Rattle.std.proofs.Math.IntN.{sub_ℕ};
 ghost use Rattle.rules.specs.Queries as Q;
@@ -13,7 +15,7 @@ use session::{HourFigures, Notice, Ruling, Session};
 
 // What a query of a direction is refused with; or, if it is not, where it finds what it asks for: the index of the hour's figures, of
 // the direction's capacity, and among the energies at the borders of the direction and of the other one at its border.
-#[derive(Drop)]
+#[derive(Clone, Copy)]
 pub struct Asked {
     pub refused: bool,
     pub row: u32,

@@ -16,7 +16,7 @@ use Rattle.session.specs.Image.{image, Sound, by_unit, figures_as}
 use Rattle.session.specs.Parts.{index_of}
 use Rattle.session.specs.declared.Session.{Session}
 use Rattle.session.specs.declared.HourFigures.{HourFigures}
-use Rattle.session.proofs.IndexLaws.{indexed, index-first, get_d_map}
+use Rattle.session.proofs.IndexLaws.{indexed, index-first, get_or-map}
 use Rattle.session.proofs.ImageLaws.{registered-at, index-as}
 use Rattle.answer.specs.Told.{value_told, figure}
 use Rattle.query.specs.Parts.{HourFits, figures_in}
@@ -36,7 +36,7 @@ module _ (f : ℕ → ℕ) (us : List U.Registered) where
   by-unit n h =
       let p = indexed (U.has_number n) us h in
       pad-at 64 0 0 (map of_unit us) (index_of (U.has_number n) us) (omega (arith, length-map us of_unit))
-      ∙ get_d_map of_unit U.nobody 0 us (index_of (U.has_number n) us) p
+      ∙ get_or-map of_unit U.nobody 0 us (index_of (U.has_number n) us) p
       ∙ ap of_unit (sym (index-first (U.has_number n) U.nobody us))
       ∙ ap f (the_number us n h)
 

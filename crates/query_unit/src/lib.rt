@@ -1,4 +1,6 @@
 // The queries of a unit's energies, after clearing.
+#![tactic(auto)]
+
 ghost use Rattle.std.specs.Prelude.{◌≡◌};
 ghost use Rattle.rules.specs.Queries as Q;
 ghost use Rattle.query.specs.Replies.{Answered};

@@ -28,7 +28,7 @@ use Rattle.session.specs.Parts.{index_of}
 use Rattle.session.specs.declared.Session.{Session}
 use Rattle.session.specs.declared.Lodgement.{Lodgement}
 use Rattle.session.specs.declared.Verdict.{Verdict}
-use Rattle.session.proofs.IndexLaws.{indexed, unindexed, index-first, index-map, get_d_map}
+use Rattle.session.proofs.IndexLaws.{indexed, unindexed, index-first, index-map, get_or-map}
 use Rattle.session.proofs.ImageLaws.{closed-as, standing-as, lodgements-as}
 use Rattle.answer.specs.Told.{shown, value_told, verdict_told, refused}
 use Rattle.answer.specs.declared.Response.{Response}
@@ -89,8 +89,8 @@ verdict-at b n h =
     let js = C.judgements b in
     pad-at 128 no_verdict bare_verdict (map verdict_as (C.verdicts b)) (index_of (has_number n) b.standing)
     (omega (arith, length-map (C.verdicts b) verdict_as, length-map b.standing (λ l. C.verdict_among js l.number)))
-    ∙ get_d_map verdict_as C.hidden bare_verdict (C.verdicts b) (index_of (has_number n) b.standing) (omega (arith, length-map b.standing (λ l. C.verdict_among js l.number)))
-    ∙ ap verdict_as (get_d_map (λ l. C.verdict_among js l.number) blank C.hidden b.standing (index_of (has_number n) b.standing) p
+    ∙ get_or-map verdict_as C.hidden bare_verdict (C.verdicts b) (index_of (has_number n) b.standing) (omega (arith, length-map b.standing (λ l. C.verdict_among js l.number)))
+    ∙ ap verdict_as (get_or-map (λ l. C.verdict_among js l.number) blank C.hidden b.standing (index_of (has_number n) b.standing) p
     ∙ ap (λ l. C.verdict_among js l.number) (sym (index-first (has_number n) blank b.standing))
     ∙ ap (C.verdict_among js) (eqb-true (first (has_number n) blank b.standing).number n (first_passes (has_number n) blank b.standing h)))
 
@@ -106,7 +106,7 @@ module _ (s : Session) (b : Book) (e : s ≡ image b) where
       ap (λ (l : Lodgement). l.number)
       (sym (get_or-take s.standing s.lodgements i no_lodgement h)
       ∙ ap (λ (ls : List Lodgement). get_or ls i no_lodgement) (lodgements-as s b e)
-      ∙ get_d_map lodgement_as blank no_lodgement b.standing i (omega (arith, h, standing-as s b e)))
+      ∙ get_or-map lodgement_as blank no_lodgement b.standing i (omega (arith, h, standing-as s b e)))
 
   -- a sound book's lodgements stand by rising number
   pub rises : Sound b → Rising s

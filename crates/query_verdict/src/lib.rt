@@ -1,4 +1,6 @@
 // The query of a verdict, after closing.
+#![tactic(auto)]
+
 ghost use Rattle.std.specs.Prelude.{◌≡◌, ◌≤◌, ◌<◌, take};
 ghost use Rattle.rules.specs.Queries as Q;
 ghost use Rattle.session.specs.Parts.{index_of};

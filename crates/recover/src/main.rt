@@ -9,6 +9,8 @@
 //
 // Any other line is one of a rehearsal (docs/REHEARSAL.md), run on that session. tests/recovery makes the input and, from the
 // independent model, what is expected.
+#![tactic(auto)]
+
 ghost use Rattle.std.specs.Prelude.{◌≤◌, length};
 
 use calendar::Date;
@@ -28,7 +30,7 @@ const STDOUT: i32 = 1;
 const NO_ANSWER: u64 = 18446744073709551615;
 
 // The session that is left, how many bytes the log has, and the lines so far.
-#[derive(Drop)]
+#[derive(Clone, Copy)]
 struct Day {
     session: Session,
     bytes: usize,
@@ -36,7 +38,7 @@ struct Day {
 }
 
 // The bytes of the log that are run, and the room for answers; from a fresh session of a date, or from the one that is left.
-#[derive(Drop)]
+#[derive(Clone, Copy)]
 struct Part {
     good: bool,
     fresh: bool,

@@ -1,4 +1,6 @@
 // Registering units.
+#![tactic(auto)]
+
 ghost use Rattle.std.specs.Prelude.{◌≡◌, ◌≤◌, ◌<◌, ◌||◌, take};
 ghost use Rattle.rules.specs.Lists.{any};
 ghost use Rattle.rules.specs.Units.{bad_unit, same_border_side};
@@ -66,7 +68,7 @@ fn either(a: bool, b: bool) -> bool
 
 // Whether one of the first n units refuses u: `taken`, it has its number (row 7); `second`, it has its agent, border and side (row 8).
 // Both in one pass, since a pass copies the units.
-#[derive(Drop)]
+#[derive(Clone, Copy)]
 struct Found {
     taken: bool,
     second: bool,

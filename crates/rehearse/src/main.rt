@@ -1,5 +1,7 @@
 // A rehearsal: calls and queries as lines of text on standard input, run on the session that the last one left; each answer
 // is a line, a report a line and its tables (docs/REHEARSAL.md). At the end it says how many were run, refused and not understood.
+#![tactic(auto)]
+
 ghost use Rattle.std.specs.Prelude.{◌≤◌, length};
 
 use calendar::Date;
@@ -12,7 +14,7 @@ use session::Session;
 const STDIN: i32 = 0;
 
 // The session, and the counts: lines, calls and queries, those refused, lines that are neither.
-#[derive(Drop)]
+#[derive(Clone, Copy)]
 struct Day {
     session: Session,
     index: u64,
@@ -22,14 +24,14 @@ struct Day {
 }
 
 // A line so far, without the blanks before its first word: its bytes, and whether there were more than there is room for.
-#[derive(Drop)]
+#[derive(Clone, Copy)]
 struct Fill {
     count: usize,
     long: bool,
 }
 
 // The day after some input, and the line that is being read; whether input may follow.
-#[derive(Drop)]
+#[derive(Clone, Copy)]
 struct Fed {
     day: Day,
     fill: Fill,

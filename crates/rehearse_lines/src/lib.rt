@@ -1,4 +1,6 @@
 // A line of a rehearsal run on a session.
+#![tactic(auto)]
+
 pub mod telling;
 
 use crate::telling::{Said, Told};

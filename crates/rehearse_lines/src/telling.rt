@@ -5,7 +5,7 @@ use rehearse_report::text::{put, put_count};
 use session::Session;
 
 // The answer of a call or a query, a report, or that the line is none of these.
-#[derive(Drop)]
+#[derive(Clone, Copy)]
 pub enum Said {
     Unknown,
     Answer(Response),
@@ -13,7 +13,7 @@ pub enum Said {
 }
 
 // A line's answer, and the session after it.
-#[derive(Drop)]
+#[derive(Clone, Copy)]
 pub struct Told {
     pub session: Session,
     pub said: Said,

@@ -1,5 +1,7 @@
 // A session's day as text for a control room: the verdicts once it is closed, the figures once it is cleared
 // (docs/REHEARSAL.md, "Report").
+#![tactic(auto)]
+
 use calendar::Date;
 use session::Session;
 use text::{put, put_number, put_two_digits};

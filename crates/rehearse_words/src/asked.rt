@@ -5,7 +5,7 @@ use query_any::{
 };
 
 // A lodging number, a unit or a border; a direction, import 1; an hour.
-#[derive(Drop)]
+#[derive(Clone, Copy)]
 pub struct Question {
     pub good: bool,
     pub of: u32,

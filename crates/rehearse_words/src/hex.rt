@@ -3,7 +3,7 @@ use crate::words::Word;
 use message_bits::byte_at;
 
 // A word's bytes: whether it gives some, and how many.
-#[derive(Drop)]
+#[derive(Clone, Copy)]
 pub struct Bytes {
     pub good: bool,
     pub count: usize,

@@ -7,7 +7,7 @@ use message::Fields;
 use message_bits::byte_at;
 
 // A line so far: how far it is read, where its hours start, and the fields.
-#[derive(Drop)]
+#[derive(Clone, Copy)]
 pub struct Draft {
     pub at: usize,
     pub good: bool,
@@ -16,7 +16,7 @@ pub struct Draft {
 }
 
 // An hour of a line.
-#[derive(Drop)]
+#[derive(Clone, Copy)]
 struct Slot {
     good: bool,
     hour: u32,

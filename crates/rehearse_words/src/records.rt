@@ -14,7 +14,7 @@ const BASE: usize = 0;
 const ROOM: usize = 4096 - BASE;
 
 // Whether a line is a call, and how many bytes its record has.
-#[derive(Drop)]
+#[derive(Clone, Copy)]
 pub struct Record {
     pub good: bool,
     pub size: usize,
@@ -118,7 +118,7 @@ pub fn contract_of(line: &[u8], p: Scan, execution: bool) -> Scan {
 // Energies
 
 // So many times one energy.
-#[derive(Drop)]
+#[derive(Clone, Copy)]
 struct Run {
     good: bool,
     energy: u32,
@@ -155,7 +155,7 @@ fn run_in(line: &[u8], from: usize, to: usize) -> Run {
 }
 
 // How many energies were read, where all were understood.
-#[derive(Drop)]
+#[derive(Clone, Copy)]
 struct Count {
     at: usize,
     good: bool,

@@ -2,14 +2,14 @@
 use message_bits::byte_at;
 
 // Where a word stands in its line; from == to at the line's end.
-#[derive(Drop)]
+#[derive(Clone, Copy)]
 pub struct Word {
     pub from: usize,
     pub to: usize,
 }
 
 // How far a line is read: whether all so far was understood, and what the last word said.
-#[derive(Drop)]
+#[derive(Clone, Copy)]
 pub struct Scan {
     pub at: usize,
     pub good: bool,

@@ -593,13 +593,13 @@ clear-answered b n h = go (first_row (rows_of b clear)) refl h
     go nothing e h = (refl, not-false _ (neither _ _ (all_head (accepted-rows (rows_of b clear) e))).0, cc)
     go (some r) e h = let z : ◌≡◌ {A = ℕ} 0 1 = cc in absurd (omega arith)
 
-got-cleared : (b : Book) (n : ℕ) {cs : List Call} {rs : List Answer} → rs ≡ answers b cs → Got clear (steps n) cs rs → ((after b cs).cleared ≡ true) × (n ≡ day_steps (after b cs))
+got-cleared : (n : ℕ) (b : Book) {cs : List Call} {rs : List Answer} → rs ≡ answers b cs → Got clear (steps n) cs rs → ((after b cs).cleared ≡ true) × (n ≡ day_steps (after b cs))
 unfolding after answers
-got-cleared b n e (now {cs = cs}) =
+got-cleared n b e (now {cs = cs}) =
     let h : steps n ≡ (effect b clear).answer = cc in
     let k = clear-answered b n h in
     (stays-cleared (effect b clear).book cs k.0, k.2 ∙ sym (frozen-steps (after b (clear ∷ cs)) b (after-closed b (clear ∷ cs) k.1)))
-got-cleared b n e (next {d = d} {cs = cs} {rs = rs} g) = let t : rs ≡ answers (effect b d).book cs = cc in got-cleared (effect b d).book n t g
+got-cleared n b e (next {d = d} {cs = cs} {rs = rs} g) = let t : rs ≡ answers (effect b d).book cs = cc in got-cleared n (effect b d).book t g
 
 got-now : {c d : Call} {a r : Answer} {cs : List Call} {rs : List Answer} → d ≡ c → r ≡ a → Got c a (d ∷ cs) (r ∷ rs)
 got-now e f = rw (e, f) now
@@ -646,6 +646,6 @@ pub staged : (b : Book) (cs : List Call) → b.closed ≡ false → b.cleared �
 staged b cs h k =
     record {
       closed = (λ g. got-closed b refl g, λ e. closed-got b cs h e);
-      cleared = (λ g. (got-cleared b g.0 refl g.1).0, λ e. cleared-got b cs k e);
-      counted = λ n g. (got-cleared b n refl g).1;
+      cleared = (λ g. (got-cleared g.0 b refl g.1).0, λ e. cleared-got b cs k e);
+      counted = λ n g. (got-cleared n b refl g).1;
     }

@@ -91,6 +91,7 @@ module _ (q : Execution → Bool) where
   -- and the other way
   sum-of-some : (c : Directed) {ls : List ℕ} (xs : List Execution) → Under ls (masked q counted xs) → SomeCut c xs (less_each ls xs) → 0 < sum (passing (on c) ls xs)
   unfolding less_each passing sum
+  sum-of-some c {ls = ls} [] _ x3 = elim x3 [ ]
   sum-of-some c (x ∷ xs) (under {a = k} h t) (this r l) = rw r (omega (arith, kept-some x.holder x.energy k l))
   sum-of-some c (x ∷ xs) (under h t) (another s) = omega (arith, sum-of-some c xs t s)
 

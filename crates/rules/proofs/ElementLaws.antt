@@ -61,7 +61,7 @@ pairwise_map f g empty = empty
 pairwise_map {S} f g (ahead {x} h t) = ahead (all-mapped f {P = S (f x)} (all_map (g x) h)) (pairwise_map f g t)
 
 -- so do two lists one after the other, if each of the one does against all of the other
-pub pairwise_append : {A : Type 0} {R : A → A → Type 0} {xs ys : List A} → All (λ x. All (R x) ys) xs → Pairwise R xs → Pairwise R ys → Pairwise R (xs ++ ys)
+pub pairwise_append : {A : Type 0} {R : A → A → Type 0} {ys xs : List A} → All (λ x. All (R x) ys) xs → Pairwise R xs → Pairwise R ys → Pairwise R (xs ++ ys)
 pairwise_append none empty k = k
 pairwise_append (more a u) (ahead h t) k = ahead (all_append h a) (pairwise_append u t k)
 

@@ -90,10 +90,10 @@ module _ {A : Type 0} (number : A → ℕ) (judge : List A → A → Verdict) wh
   taken start (ahead {x} {xs} d t) = more (first_taken start x xs) (all_both (λ l n k. later-taken start x xs l n d k) d (taken (next start x xs) t))
 
   -- one that is not taken is hidden
-  not_taken : (start : List A) (n : ℕ) {ls : List A} → All (λ l. number l ≡ n → ⊥) ls → verdict_among (judge_each number judge start ls) n ≡ hidden
+  not_taken : (n : ℕ) (start : List A) {ls : List A} → All (λ l. number l ≡ n → ⊥) ls → verdict_among (judge_each number judge start ls) n ≡ hidden
   unfolding judge_each verdict_among
-  not_taken start n none = refl
-  not_taken start n (more {x} {xs} h t) = rw (ne_eqb (number x) n h) (not_taken (next start x xs) n t)
+  not_taken n start none = refl
+  not_taken n start (more {x} {xs} h t) = rw (ne_eqb (number x) n h) (not_taken n (next start x xs) t)
 
   module _ (f : A → ℕ) (p : A → Bool) (there top : ℕ) where
     -- where it is accepted with an amount above 0, this together with what is there and what was accepted before keeps within a top
@@ -136,7 +136,7 @@ module _ {A : Type 0} (number : A → ℕ) (judge : List A → A → Verdict) (t
 
   -- one that is not shown is hidden
   pub hidden-verdicts : All (λ l. shown l ≡ false → verdict_among judged_all (number l) ≡ hidden) ls
-  hidden-verdicts = all_map (λ l f e. not_taken number judge [] (number l) (f e)) (hidden-apart number turns shown ls distinct)
+  hidden-verdicts = all_map (λ l f e. not_taken number judge (number l) [] (f e)) (hidden-apart number turns shown ls distinct)
 
   -- so none of them is accepted
   hidden-out : (p : A → Bool) → All (λ l. shown l ≡ false → accepted_in number judge judged_all p l ≡ false) ls

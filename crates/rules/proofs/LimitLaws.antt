@@ -52,7 +52,7 @@ module _ {A : Type 0} (number : A → ℕ) (H : ℕ) (passed : A → ℕ → Boo
       (λ q a b t f. not-both q (all_head (accepted-rows (rows_by (l ∷ ls)) e)))
 
   -- the hour of the first limit passed: one of them is passed in it
-  chosen-any : {ls : List A} {n h : ℕ} → Chosen number H passed n h ls → (1 ≤ h) × (h ≤ H) × (any (λ l. passed l h) ls ≡ true)
+  chosen-any : {n h : ℕ} {ls : List A} → Chosen number H passed n h ls → (1 ≤ h) × (h ≤ H) × (any (λ l. passed l h) ls ≡ true)
   unfolding any
   chosen-any (first-passed e a b t f) = (a, b, rw t)
   chosen-any {h} (later {l} f c) = let k = chosen-any c in (k.0, k.1, rw (f h k.0 k.1) k.2)

@@ -65,6 +65,7 @@ module _ {U : Type 0} (number : U → ℕ) (p : U → Bool) (n : ℕ) (t : Bool)
   -- where one has it: it counts once, if that one passes
   amount-once : {us : List U} → Pairwise (λ r s. number r ≡ number s → ⊥) us → Some (λ r. (number r ≡ n) × (p r ≡ t)) us
       → sum_of amount (keep p us) ≡ cond t k 0
+  amount-once empty x3 = elim x3 [ ]
   amount-once (ahead {x = r} {xs = us} a d) (here h) =
       let e : cond (p r) (cond (eqb n (number r)) k 0) 0 ≡ cond t k 0 = rw (h.1, eq-eqb n (number r) (sym h.0)) in
       omega (arith, e, sum-keep amount p r us, amount-none (all_map (λ s w e. w (h.0 ∙ e)) a))
@@ -168,6 +169,7 @@ module _ (c : Directed) where
   cut-unit : {us : List Registered} {xs ys : List Execution} → Each CutDown xs ys → All (λ x. HeldIn us x.holder) xs → SomeCut c xs ys
       → Some (λ r. ((r.unit.border ≡ c.border) × (r.unit.purchase ≡ c.export)) × (energy_of r.unit.number ys < energy_of r.unit.number xs)) us
   unfolding runs
+  cut-unit {us = us} each0 _ x8 = elim x8 [ ]
   cut-unit (each {x} k t) (more h u) (this e l) =
       let w = both (eqb x.holder.border c.border) (beq x.holder.purchase c.export) e in
       some-map (λ r g. ((g.border ∙ eqb-true _ _ w.0, g.purchase ∙ beq-true _ _ w.1), less-here r.unit.number k t g.number l))

@@ -1,5 +1,7 @@
 // Document 01 as definitions, in specs/, and laws about them, in proofs/; here its numbers, each once in code. A crate with no
 // function is not checked.
+#![tactic(auto)]
+
 ghost use Rattle.std.specs.Prelude.{◌≡◌};
 ghost use Rattle.rules.specs.Units.{max_energy};
 

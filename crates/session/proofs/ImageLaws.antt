@@ -20,7 +20,7 @@ use Rattle.session.specs.declared.Session.{Session}
 use Rattle.session.specs.declared.Unit.{Unit}
 use Rattle.session.specs.declared.Notice.{Notice}
 use Rattle.session.proofs.LaidLaws.{take-pad, any-map}
-use Rattle.session.proofs.IndexLaws.{index-first, index-any, index-map, get_d_map}
+use Rattle.session.proofs.IndexLaws.{index-first, index-any, index-map, get_or-map}
 
 -- The guard
 
@@ -120,10 +120,10 @@ module _ (s : Session) (b : B.Book) (e : s ≡ image b) where
     unit-as d =
         sym (get_or-take s.enrolled s.units p d in_List)
         ∙ (ap (λ (l : List Unit). get_or l p d) units-as
-        ∙ (get_d_map unit_of U.nobody d b.units p within-list ∙ ap unit_of (sym here)))
+        ∙ (get_or-map unit_of U.nobody d b.units p within-list ∙ ap unit_of (sym here)))
 
     pub notice-as : (d : Notice) → get_or s.notices p d ≡ notice_of (U.unit_of b.units n)
     notice-as d =
         sym (get_or-take s.enrolled s.notices p d in_List)
         ∙ (ap (λ (l : List Notice). get_or l p d) notices-as
-        ∙ (get_d_map notice_of U.nobody d b.units p within-list ∙ ap notice_of (sym here)))
+        ∙ (get_or-map notice_of U.nobody d b.units p within-list ∙ ap notice_of (sym here)))

@@ -72,7 +72,7 @@ module _ {A B : Type 0} (f : A → B) where
   index-map p [] = refl
   index-map p (x ∷ xs) = rw (index-map p xs)
 
-  pub get_d_map : (d : A) (e : B) (xs : List A) (i : ℕ) → i < length xs → get_or (map f xs) i e ≡ f (get_or xs i d)
-  get_d_map d e [] i h = absurd (omega arith)
-  get_d_map d e (x ∷ xs) zero h = refl
-  get_d_map d e (x ∷ xs) (suc i) h = get_d_map d e xs i (omega arith)
+  pub get_or-map : (d : A) (e : B) (xs : List A) (i : ℕ) → i < length xs → get_or (map f xs) i e ≡ f (get_or xs i d)
+  get_or-map d e [] i h = absurd (omega arith)
+  get_or-map d e (x ∷ xs) zero h = refl
+  get_or-map d e (x ∷ xs) (suc i) h = get_or-map d e xs i (omega arith)

@@ -1,4 +1,6 @@
 // The session by value: the day book laid into arrays, and its opening.
+#![tactic(auto)]
+
 ghost use Rattle.std.specs.Prelude.{◌≡◌};
 ghost use Rattle.rules.specs.Book.{fresh};
 ghost use Rattle.calendar.specs.View.{date_in};
@@ -18,7 +20,7 @@ pub mod units;
 
 // Number and agent are 1 to 65,535; border is 0 domestic, 1 France, 2 Andorra, 3 Portugal, 4 Morocco.
 #[repr(C)]
-#[derive(Drop)]
+#[derive(Clone, Copy)]
 pub struct Unit {
     pub number: u32,
     pub agent: u32,
@@ -31,7 +33,7 @@ pub struct Unit {
 
 // A notice that the session keeps: energies by hour, 0 after the last hour.
 #[repr(C)]
-#[derive(Drop)]
+#[derive(Clone, Copy)]
 pub struct Notice {
     pub given: bool,
     pub reserved: u8,
@@ -41,7 +43,7 @@ pub struct Notice {
 
 // A direction of a capacity notice: absent, or `count` energies.
 #[repr(C)]
-#[derive(Drop)]
+#[derive(Clone, Copy)]
 pub struct Published {
     pub count: usize,
     pub published: bool,
@@ -51,7 +53,7 @@ pub struct Published {
 }
 
 #[repr(C)]
-#[derive(Drop)]
+#[derive(Clone, Copy)]
 pub struct Key {
     pub execution: bool,
     pub default: bool,
@@ -61,7 +63,7 @@ pub struct Key {
 }
 
 #[repr(C)]
-#[derive(Drop)]
+#[derive(Clone, Copy)]
 pub struct Lodgement {
     pub key: Key,
     pub number: u32,
@@ -69,7 +71,7 @@ pub struct Lodgement {
 
 // Energies and prices of a lodgement by hour.
 #[repr(C)]
-#[derive(Drop)]
+#[derive(Clone, Copy)]
 pub struct Energies {
     pub energies: [u32; HOURS],
     pub prices: [u32; HOURS],
@@ -77,7 +79,7 @@ pub struct Energies {
 
 // A lodgement's verdict: accepted, refused by a limit in an hour, or neither, which is hidden.
 #[repr(C)]
-#[derive(Drop)]
+#[derive(Clone, Copy)]
 pub struct Verdict {
     pub accepted: bool,
     pub reserved: u8,
@@ -88,7 +90,7 @@ pub struct Verdict {
 
 // An hour's figures. Energies at the borders are by direction (`hour_borders::way`), those of units by the index of the unit.
 #[repr(C)]
-#[derive(Drop)]
+#[derive(Clone, Copy)]
 pub struct HourFigures {
     pub price: u32,
     pub market: [u32; 10],
@@ -102,7 +104,7 @@ pub struct HourFigures {
 // `capacities` are export and import of border 1, of 2, of 3, of 4. Verdicts stand at the lodgements' indices once closed,
 // figures at the hours' indices once cleared.
 #[repr(C)]
-#[derive(Drop)]
+#[derive(Clone, Copy)]
 pub struct Session {
     pub date: Date,
     pub hours: u32,
@@ -123,21 +125,21 @@ pub struct Session {
 }
 
 // The unit of a number, found once for all that ask about it: its index and itself; where there is none, the count and a blank unit.
-#[derive(Drop)]
+#[derive(Clone, Copy)]
 pub struct Holder {
     pub at: usize,
     pub unit: Unit,
 }
 
 // The first row of the refusal table that applies to a call, or none.
-#[derive(Drop)]
+#[derive(Clone, Copy)]
 pub enum Ruling {
     No(u32, u32),
     Clear,
 }
 
 // A call's answer, and the session that it leaves.
-#[derive(Drop)]
+#[derive(Clone, Copy)]
 pub struct Effect {
     pub session: Session,
     pub answer: Response,
@@ -145,7 +147,7 @@ pub struct Effect {
 
 // A date's answer, and its fresh session.
 #[repr(C)]
-#[derive(Drop)]
+#[derive(Clone, Copy)]
 pub struct Opened {
     pub answer: Response,
     pub session: Session,

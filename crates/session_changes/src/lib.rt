@@ -1,5 +1,7 @@
 // What calls change, by itself and in a session by value: a lent session is changed in place and not copied. A refused call
 // changes nothing: `changed` is false and the rest blank.
+#![tactic(auto)]
+
 ghost use Rattle.std.specs.Prelude.{◌≡◌, ◌<◌, ◌≤◌};
 ghost use Rattle.session.specs.Parts.{refused_with};
 ghost use Rattle.session_changes.specs.Changes.{Indexed, moved_in, registry_effect, capacity_effect, standing_effect, closing_effect, clearing_effect};
@@ -12,7 +14,7 @@ use session::{
 };
 
 // Units and their notices: a unit and its notice at an index, the count.
-#[derive(Drop)]
+#[derive(Clone, Copy)]
 pub struct RegistryChange {
     pub enrolled: usize,
     pub at: usize,
@@ -21,27 +23,27 @@ pub struct RegistryChange {
     pub changed: bool,
 }
 
-#[derive(Drop)]
+#[derive(Clone, Copy)]
 pub struct RegistryEffect {
     pub change: RegistryChange,
     pub answer: Response,
 }
 
 // All capacities. They are a change of their own, since no other call is to carry them.
-#[derive(Drop)]
+#[derive(Clone, Copy)]
 pub struct CapacityChange {
     pub capacities: [Notice; DIRECTIONS],
     pub changed: bool,
 }
 
-#[derive(Drop)]
+#[derive(Clone, Copy)]
 pub struct CapacityEffect {
     pub change: CapacityChange,
     pub answer: Response,
 }
 
 // Standing lodgements: those after index `from`, up to index `to`, go one index forward; then one is put at an index.
-#[derive(Drop)]
+#[derive(Clone, Copy)]
 pub struct StandingChange {
     pub from: usize,
     pub to: usize,
@@ -53,33 +55,33 @@ pub struct StandingChange {
     pub changed: bool,
 }
 
-#[derive(Drop)]
+#[derive(Clone, Copy)]
 pub struct StandingEffect {
     pub change: StandingChange,
     pub answer: Response,
 }
 
 // The verdicts; the gate is then closed.
-#[derive(Drop)]
+#[derive(Clone, Copy)]
 pub struct ClosingChange {
     pub verdicts: [Verdict; LODGEMENTS],
     pub changed: bool,
 }
 
-#[derive(Drop)]
+#[derive(Clone, Copy)]
 pub struct ClosingEffect {
     pub change: ClosingChange,
     pub answer: Response,
 }
 
 // The figures; the day is then cleared.
-#[derive(Drop)]
+#[derive(Clone, Copy)]
 pub struct ClearingChange {
     pub figures: [HourFigures; HOURS],
     pub changed: bool,
 }
 
-#[derive(Drop)]
+#[derive(Clone, Copy)]
 pub struct ClearingEffect {
     pub change: ClearingChange,
     pub answer: Response,

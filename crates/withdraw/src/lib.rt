@@ -1,4 +1,6 @@
 // The withdrawal on the arrays of an hour: its step, and the repetition (document 01, "Withdrawal step").
+#![tactic(auto)]
+
 ghost use Rattle.hour_match.specs.declared.Offers.{Offers};
 ghost use Rattle.hour_match.specs.View.{offers_of, Sound};
 ghost use Rattle.hour_match.specs.Orders.{LaidOut};
@@ -12,7 +14,7 @@ use hour_match::{Offers, Order};
 use rules::LODGEMENTS;
 
 // How a withdrawal ended: the count of its steps, and the volume of the last match.
-#[derive(Drop)]
+#[derive(Clone, Copy)]
 pub struct Ended {
     pub steps: u32,
     pub volume: u32,

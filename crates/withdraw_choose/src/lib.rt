@@ -1,4 +1,6 @@
 // Step 2 of a withdrawal, on the arrays of an hour (document 01, "Withdrawal step"): which offers give way.
+#![tactic(auto)]
+
 ghost use Rattle.std.specs.Prelude.{◌≡◌, List, ℕ, ◌<◌, ◌≤◌, get_or};
 ghost use Rattle.std.proofs.Math.Option.{some};
 ghost use Rattle.rules.specs.Units.{max_price};

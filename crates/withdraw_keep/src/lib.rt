@@ -1,5 +1,7 @@
 // Step 1 of a withdrawal, on the arrays of an hour (document 01, "Withdrawal step"): offers in a direction passed keep only what is
 // matched.
+#![tactic(auto)]
+
 ghost use Rattle.std.specs.Prelude.{◌≡◌, map, ◌<◌, length};
 ghost use Rattle.rules.specs.Withdrawal.{keep_matched};
 ghost use Rattle.hour_match.specs.declared.Offers.{Offers};
@@ -13,7 +15,7 @@ ghost use Rattle.withdraw_keep.specs.Lent.{Lent};
 use rules::LODGEMENTS;
 
 // Which offers give way in a step, which step 2 chooses: the legacy offers, or those of one side at a price, not legacy.
-#[derive(Drop)]
+#[derive(Clone, Copy)]
 pub struct Group {
     pub legacy: bool,
     pub side: bool,

@@ -1,4 +1,6 @@
 // Steps 3 and 4 of a withdrawal, on the arrays of an hour (document 01, "Withdrawal step"): what the group loses.
+#![tactic(auto)]
+
 ghost use Rattle.std.specs.Prelude.{◌≡◌, cond, eqb, ℕ, ◌-◌, ◌<◌, ◌≤◌, length, get_or};
 ghost use Rattle.rules.specs.Withdrawal.{take_from};
 ghost use Rattle.hour_match.specs.declared.Offers.{Offers};

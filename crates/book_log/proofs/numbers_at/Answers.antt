@@ -1,0 +1,19 @@
+use mathlib.Core.Path.{refl, ◌∙◌}
+use native.Mathlib.Omega.{arith}
+use lib.ListN.{length-set}
+use Rattle.rules.specs.Lists.{from}
+use Rattle.book_log.specs.Calls.{number_in, numbers_at}
+use Rattle.book_log.proofs.FillLaws.{filled_next, filled-end}
+use Rattle.book_log.proofs.numbers_at.Goals as goal
+
+pub loop-k-init : goal.loop-k-init
+unfolding from
+loop-k-init c = (omega arith, refl, refl)
+
+pub loop-k-preserved : goal.loop-k-preserved
+unfolding number_in
+loop-k-preserved c = (omega arith, (simp length-set) ∙ c.loop-k.invariant.1, filled_next _ _ _ _ c.number_at-x.ensures (omega arith) c.loop-k.invariant.2)
+
+pub returns : goal.returns
+unfolding numbers_at
+returns c = filled-end _ _ _ _ (omega arith) c.loop-k.invariant.1 c.loop-k.invariant.2

@@ -1,0 +1,12 @@
+use Prim.Native.Nat.{◌≤◌, ◌-◌}
+use mathlib.Core.Path.{◌≡◌}
+use Rattle.rules.specs.Lists.{any}
+use Rattle.notify_capacity.specs.Capacities.{off_range}
+use Rattle.session.proofs.LaidLaws.{any_from}
+use Rattle.notify_capacity.proofs.any_off_range.Given as goal
+
+abbrev pub invariant-loop-i : goal.invariant-loop-i
+invariant-loop-i l = (l.i ≤ 8) × (any_from off_range l.ps 8 l.i ≡ any off_range l.ps)
+
+abbrev pub decreases-loop-i : goal.decreases-loop-i
+decreases-loop-i l = 8 - l.i

@@ -1,0 +1,12 @@
+use mathlib.Core.Path.{sym, ◌∙◌}
+use Rattle.session.proofs.StepLaws.{out-unsound, out-refused, out-entered}
+use Rattle.notify_capacity.proofs.capacity_change.Goals as goal
+
+pub returns-then-not-sound : goal.returns-then-not-sound
+returns-then-not-sound c = out-unsound _ _ _ _ _ c.capacity_refused.ensures (sym c.sound.ensures ∙ c.if-not-sound.true)
+
+pub returns-in-No : goal.returns-in-No
+returns-in-No c = out-refused _ _ _ _ _ c.capacity_refused-in-No.ensures (λ b e. sym c.in-No.is ∙ c.judge_capacity-j.ensures b e)
+
+pub returns-in-Clear : goal.returns-in-Clear
+returns-in-Clear c = out-entered _ _ _ (λ b e. sym c.in-Clear.is ∙ c.judge_capacity-j.ensures b e) c.note_capacity.ensures
