@@ -58,13 +58,13 @@ loop-passed-preserved c =
       omega arith,
       (simp length-set) ∙ s.invariant.1,
       c.admits.ensures.0,
-      c.judge_index-v.ensures.1,
+      c.judge_index-v.ensures.others_len,
       marks-set s.given s.marks _ c.judge_index-v.result _ (omega arith) (omega arith) refl s.invariant.4,
-      left-refused a.s a.class a.verdicts a.room.now (a.s.standing - s.passed) _ _ s.given s.room (omega arith) (omega arith) (omega arith) s.invariant.5 c.takes.result (c.takes.ensures _ (omega arith) refl) (c.if-not-takes.false) (omega arith) q.0 a.loads.now _ q.1.energies _ (q.1.units.at _ (omega arith)) c.judge_index-v.result c.admits.result c.admits.ensures.1 c.if-admits.false (c.judge_index-v.ensures.0 s.given s.invariant.4),
+      left-refused a.s a.class a.verdicts a.room.now (a.s.standing - s.passed) _ _ s.given s.room (omega arith) (omega arith) (omega arith) s.invariant.5 c.takes.result (c.takes.ensures _ (omega arith) refl) (c.if-not-takes.false) (omega arith) q.0 a.loads.now _ q.1.energies _ (q.1.units.at _ (omega arith)) c.judge_index-v.result c.admits.result c.admits.ensures.1 c.if-admits.false (c.judge_index-v.ensures.judges_at s.given s.invariant.4),
     )
 
 pub returns : goal.returns
 returns c =
     let a = c.args in
     let s = c.loop-passed in
-    (left_end a.s a.class a.verdicts a.room.now (a.s.standing - s.passed) s.given s.room (omega arith) s.invariant.5, (s.invariant.4, s.invariant.2))
+    record { closing_at = left_end a.s a.class a.verdicts a.room.now (a.s.standing - s.passed) s.given s.room (omega arith) s.invariant.5; marks = (s.invariant.4, s.invariant.2) }
