@@ -1,4 +1,3 @@
-use Prim.Native.Nat.{◌-◌}
 use native.Mathlib.Omega.{arith}
 use Rattle.hour_borders.proofs.LimitLaws.{fill_start, fill-next, excesses-said, outer-none}
 use Rattle.hour_borders.proofs.excesses.Goals as goal

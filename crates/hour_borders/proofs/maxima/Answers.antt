@@ -1,4 +1,3 @@
-use Prim.Native.Nat.{◌-◌}
 use native.Mathlib.Omega.{arith}
 use Rattle.hour_borders.proofs.LimitLaws.{fill_start, fill-next, maxima-said}
 use Rattle.hour_borders.proofs.maxima.Goals as goal

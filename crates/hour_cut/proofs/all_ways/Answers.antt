@@ -1,4 +1,3 @@
-use Prim.Native.Nat.{◌-◌}
 use native.Mathlib.Omega.{arith}
 use Rattle.arrays.proofs.LayLaws.{laying-start, laying-next, laying-end}
 use Rattle.hour_cut.specs.Cuts.{way_at}

@@ -1,5 +1,4 @@
 -- The invariant: the deductions passed are pro rata, and their sum with what is left to add is the whole sum.
-use Prim.Native.Nat.{◌-◌}
 use mathlib.Core.Path.{sym, ◌∙◌}
 use native.Mathlib.Omega.{arith}
 use lib.ListN.{length-set}

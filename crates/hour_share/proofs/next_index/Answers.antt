@@ -1,5 +1,4 @@
 -- The invariant: from i on the next index is as far off as from the first.
-use Prim.Native.Nat.{◌-◌}
 use native.Mathlib.Omega.{arith}
 use Rattle.hour_share.proofs.Laws.{next_here, next-later, next-end}
 use Rattle.hour_share.proofs.next_index.Goals as goal

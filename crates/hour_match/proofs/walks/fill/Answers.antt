@@ -1,5 +1,4 @@
 -- The loop: what is left of v, handed along the rest of the keys, is v handed along them all.
-use Prim.Native.Nat.{◌-◌}
 use mathlib.Core.Path.{refl, sym, ◌∙◌}
 use native.Mathlib.Omega.{arith}
 use Rattle.hour_match.proofs.WalkLaws.{fill-next, fill_end}

@@ -1,7 +1,5 @@
 -- The loop: v and what still meets are the volume, where prices follow the two orders.
-use Prim.Native.Nat.{◌-◌}
 use mathlib.Core.Path.{sym, ◌∙◌}
-use mathlib.Core.Bool.{true, false}
 use native.Mathlib.Omega.{arith}
 use borrow.Author.Tests.{ltb-true, ltb-false}
 use Rattle.hour_match.proofs.WalkLaws.{begin, turn-sale, turn-purchase, turn-none, no-sale, no-purchase}
