@@ -6,7 +6,7 @@ use mathlib.Core.List.{List}
 use native.Mathlib.Omega.{arith}
 use lib.Dec.{eqb}
 use lib.IntN.{ℤ, ◌+ℤ◌}
-use Rattle.rules.specs.Lists.{All, Some, Each, each, keep, sum_of, hourly}
+use Rattle.rules.specs.Lists.{All, Some, Each, each0, each, keep, sum_of, hourly}
 use Rattle.rules.specs.Units.{Registered, ceiling, is_registered, has_number, bad_number}
 use Rattle.rules.specs.Lodging.{Lodgement}
 use Rattle.rules.specs.Book.{Book, hours, lines_of, ceiling_of}
@@ -36,6 +36,7 @@ use Rattle.book.proofs.ReplyLaws.{number_of, energy-of, acceptance-of, limit-of,
 -- executions that are not cut in a direction: none of them is
 no_cut : {border : ℕ} {export : Bool} {energy : ℕ} {xs ys : List Execution} → Each (M.Uncut border export) xs ys
     → M.SomeCut (record { border = border; export = export; energy = energy }) xs ys → ⊥
+no_cut each0 x4 = elim x4 [ ]
 no_cut (each u t) (M.this r l) = omega (arith, u.energy r, l)
 no_cut (each u t) (M.another m) = no_cut t m
 
