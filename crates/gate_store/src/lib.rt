@@ -41,7 +41,8 @@ pub fn settle_capacities(s: &mut Session, t: CapacityEffect) -> Response
     ensures { (s.new ≡ capacities_with s.old t.change) × (result ≡ t.answer) }
 {
     if t.change.changed {
-        s.capacities = t.change.capacities;
+        let capacities = t.change.capacities;
+        s.capacities = capacities;
     }
     t.answer
 }
@@ -73,7 +74,8 @@ pub fn settle_closing(s: &mut Session, t: ClosingEffect) -> Response
     ensures { (s.new ≡ closed_with s.old t.change) × (result ≡ t.answer) }
 {
     if t.change.changed {
-        s.verdicts = t.change.verdicts;
+        let verdicts = t.change.verdicts;
+        s.verdicts = verdicts;
         s.closed = true;
     }
     t.answer
@@ -84,7 +86,8 @@ pub fn settle_clearing(s: &mut Session, t: ClearingEffect) -> Response
     ensures { (s.new ≡ cleared_with s.old t.change) × (result ≡ t.answer) }
 {
     if t.change.changed {
-        s.figures = t.change.figures;
+        let figures = t.change.figures;
+        s.figures = figures;
         s.cleared = true;
     }
     t.answer
