@@ -13,7 +13,6 @@ use Rattle.rules.specs.Message.{Key, bad_key, bad_contract}
 use Rattle.rules.specs.Lodging as L
 use Rattle.rules.specs.Book as B
 use Rattle.rules.specs.Closing as C
-use Rattle.rules.specs.Judging.{hidden}
 use Rattle.rules.specs.Demands.{Judgement, verdict_of}
 use Rattle.rules.specs.Sound as S
 use Rattle.rules.proofs.BoolLaws.{by_bool, of-not, of-both, neither, of-beq, eqb-sym}

@@ -1,4 +1,3 @@
-use Prim.Native.Nat.{◌-◌}
 use native.Mathlib.Omega.{arith}
 use Rattle.clear_gather.specs.Built.{accepted_at}
 use Rattle.clear_gather.proofs.ColumnLaws.{column-start, column-next, column-end}

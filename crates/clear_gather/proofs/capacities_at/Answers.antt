@@ -1,4 +1,3 @@
-use Prim.Native.Nat.{◌-◌}
 use mathlib.Core.Path.{ap}
 use lib.ListN.{get_or}
 use native.Mathlib.Omega.{arith}

@@ -1,4 +1,3 @@
-use Prim.Native.Nat.{◌-◌}
 use mathlib.Core.Path.{refl}
 use native.Mathlib.Omega.{arith}
 use Rattle.clear_gather.specs.Built.{number_on, unit_on, border_on, side_on, legacy_on}

@@ -1,4 +1,3 @@
-use Prim.Native.Nat.{◌-◌}
 use native.Mathlib.Omega.{arith}
 use Rattle.clear_gather.proofs.ColumnLaws.{column-start, column-next, column-skip, column-as, column-end}
 use Rattle.clear_gather.proofs.IndexLaws.{unit-here, unit-none, unit-found}

@@ -1,7 +1,5 @@
-use mathlib.Core.Path.{refl, sym, ◌∙◌}
+use mathlib.Core.Path.{refl}
 use native.Mathlib.Nat.{le_trans}
-use denote.Struct.Field.{u32-field}
-use lib.ListN.{length-map}
 use Rattle.hour_match.specs.View.{offers_of}
 use Rattle.hour_borders.specs.View.{executions_of}
 use Rattle.hour_borders.proofs.FlowLaws.{execution-flows}

@@ -1,4 +1,3 @@
-use Prim.Native.Nat.{◌-◌}
 use native.Mathlib.Omega.{arith}
 use Rattle.withdraw_choose.proofs.PriceLaws.{past_next, past_end}
 use Rattle.withdraw_choose.proofs.all_past.Goals as goal

@@ -1,4 +1,3 @@
-use Prim.Native.Nat.{◌-◌}
 use native.Mathlib.Omega.{arith}
 use Rattle.withdraw_take.specs.Given.{left_at}
 use Rattle.arrays.proofs.LayLaws.{laying-start, laying-next, laying-end}
