@@ -1,12 +1,2 @@
-pub mod Indices
-pub mod AskedHour
-pub mod AskedBorder
-pub mod AskedDirection
-pub mod AskedUnit
-pub mod AskedNumber
-pub mod Passing
-pub mod Applied
-pub mod AppliedTo
-pub mod Changes
 pub mod DemandLaws
 pub mod SizeLaws
