@@ -10,8 +10,7 @@ use rehearse_lines::telling::Said;
 use rehearse_report::text::{put, put_count};
 use rehearse_words::words::is_blank;
 use session::Session;
-
-const STDIN: i32 = 0;
+use std::io::Read;
 
 // The session, and the counts: lines, calls and queries, those refused, lines that are neither.
 #[derive(Clone, Copy)]
@@ -210,15 +209,14 @@ fn at_end(f: Fed) -> Fed {
     }
 }
 
-// Reads once.
-fn read_some(line: &mut [u8; 8192], f: Fed) -> Fed {
+// Reads once. A read that fails is the end.
+fn read_some<R: Read>(input: &mut R, line: &mut [u8; 8192], f: Fed) -> Fed {
     let mut piece = io::buffer();
-    let got = libc::read(STDIN, &mut piece);
-    if got <= 0 {
-        return at_end(f);
+    match input.read(&mut piece) {
+        Err(_) => at_end(f),
+        Ok(0) => at_end(f),
+        Ok(n) => feed(&piece[..n], line, f),
     }
-    let n = io::count(got, &piece);
-    feed(&piece[..n], line, f)
 }
 
 fn put_counts(d: Day) {
@@ -231,11 +229,11 @@ fn put_counts(d: Day) {
 }
 
 // A proved loop has to end, and nothing says that the input does: the turns count down from a number that no run uses up.
-fn read_all(line: &mut [u8; 8192], start: Fed) -> Fed {
+fn read_all<R: Read>(input: &mut R, line: &mut [u8; 8192], start: Fed) -> Fed {
     let mut f = start;
     let mut turns: u64 = 18446744073709551615;
     while 0 < turns {
-        let next = read_some(line, f);
+        let next = read_some(input, line, f);
         f = next;
         if !f.more {
             break;
@@ -251,9 +249,10 @@ fn last_line(line: &[u8; 8192], f: Fed) -> Day {
     end_line(line, f.fill, day)
 }
 
-fn main() {
+fn main(rt: HostRuntime) {
+    let mut input = rt.reader();
     let mut line = [0u8; 8192];
     let start = fed_so_far(first_day(), no_fill());
-    let f = read_all(&mut line, start);
+    let f = read_all(&mut input, &mut line, start);
     put_counts(last_line(&line, f));
 }
