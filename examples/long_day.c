@@ -2,7 +2,7 @@
  * The long day 2006-10-29 through the C interface (include/gate.h): 25 hours, two of them, 3 and 4, named two o'clock.
  * The same day as examples/long-day.day.
  *
- *   rt staticlib gate && cc -Iinclude examples/long_day.c target/staticlib/libgate.a -o long_day && ./long_day
+ *   tests/c/archive && cc -Iinclude examples/long_day.c target/staticlib/libgate.a -o long_day && ./long_day
  */
 #include "gate.h"
 

@@ -4,7 +4,7 @@
  * The inline helpers are plain C; that the structs lie as declared, and the stack that a call uses, are tested (tests/c).
  *
  * Build, at the root of the repository:
- *         rt staticlib gate                        proves the gate, makes target/staticlib/libgate.a (x86-64, System V calling convention)
+ *         tests/c/archive                          proves the gate, makes target/staticlib/libgate.a (x86-64, System V calling convention)
  *         cc -Iinclude program.c target/staticlib/libgate.a -o program
  *
  * First:  gate_matches(), false where the archive is of another version than this header.

@@ -13,7 +13,7 @@ fn main() {
     if !archive.exists() {
         println!(
             "cargo::error=The archive of the proved gate is not there: {}. Make it at the root of the repository with \
-             `rt staticlib gate` (it proves the gate first), then run cargo again. The model alone needs no archive: \
+             `tests/c/archive` (it proves the gate first), then run cargo again. The model alone needs no archive: \
              `cargo test --offline --no-default-features`.",
             archive.display()
         );

@@ -5,7 +5,7 @@ use mathlib.Core.Bool.{Bool, true, false, beq, false≢true}
 use mathlib.Core.List.{List}
 use native.Mathlib.Omega.{arith}
 use lib.Dec.{eqb}
-use lib.IntN.{ℤ, ◌+ℤ◌}
+use lib.IntN.{◌+ℤ◌}
 use Rattle.rules.specs.Lists.{All, Some, Each, each0, each, keep, sum_of, hourly}
 use Rattle.rules.specs.Units.{Registered, ceiling, is_registered, has_number, bad_number}
 use Rattle.rules.specs.Lodging.{Lodgement}
@@ -25,8 +25,7 @@ use Rattle.rules.proofs.DemandLaws.{hour-demanded}
 use Rattle.rules.proofs.DemandLaws as R3
 use Rattle.rules.proofs.ClosingLaws.{closing-exactly}
 use Rattle.rules.proofs.UnitLaws.{units-balanced, some-cut-units}
-use Rattle.session.specs.Image.{Sound}
-use Rattle.answer.specs.Told.{told, shown, accepted, steps}
+use Rattle.answer.specs.Told.{shown}
 use Rattle.answer.specs.declared.Response.{Response}
 use Rattle.book.specs.Demand3.{is_acceptance, Staged, Judged, matched_of, executed_of, crossing_at, uncut_at, IsCut, Carried, Holds, Demanded}
 use Rattle.book.proofs.RunLaws.{started, day-book}

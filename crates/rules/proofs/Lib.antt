@@ -30,3 +30,4 @@ pub mod JudgingLaws
 pub mod ClosingLaws
 pub mod DemandLaws
 pub mod UnitLaws
+pub mod FigureLaws

@@ -15,7 +15,7 @@ use Rattle.rules.specs.Units.{Registered, Lines, maximum_limit, available_limit,
 use Rattle.rules.specs.Message.{read_rows, read, write_rows, write, message_of}
 use Rattle.rules.specs.Lodging.{limit_rows, judged_by}
 use Rattle.rules.specs.Book.{Book}
-use Rattle.rules.specs.Queries.{Query, verdict, matched, executed, market, bilateral, market_max, bilateral_max, price, figure_rows, unit_rows, border_rows, query_rows, shown, query}
+use Rattle.rules.specs.Queries.{Query, verdict, matched, executed, market, bilateral, market_max, bilateral_max, price, figure_rows, unit_rows, border_rows, query_rows, query}
 use Rattle.rules.specs.DayBook.{Call, register, capacity, available, lodge, annul, close, clear, Answer, refusal, done, numbered, steps, change_row, gate_row, lodge_rows, call_rows, rows_of, reply, effect_of, effect, opened_with, opening}
 use Rattle.rules.specs.Table.{Ordered, RefusedBy, Refuses, InTableOrder}
 use Rattle.rules.proofs.BoolLaws.{by_bool, both, not-both}

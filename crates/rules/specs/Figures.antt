@@ -1,24 +1,17 @@
--- "Figures to hold against the rules": the twelve, of the definitions together, as one list under one theorem.
-use Rattle.std.specs.Prelude.{ℕ, ◌≡◌, refl, Bool, true, false, List, [], ◌∷◌, ◌++◌, map, replicate, ℤ, pos, neg_ℤ, ◌+ℤ◌}
+-- "Figures to hold against the rules": the twelve, of the definitions together, as one list; that each holds is the theorem `twelve-hold` of
+-- proofs/FigureLaws.antt.
+use Rattle.std.specs.Prelude.{ℕ, ◌≡◌, Bool, true, false, List, [], ◌∷◌, ◌++◌, map, replicate, ℤ, pos, neg_ℤ, ◌+ℤ◌}
 use Rattle.std.proofs.Math.Option.{some, none}
-use Rattle.rules.specs.Lists.{unfold_lists}
-use Rattle.rules.specs.Refusals.{Outcome, given, unfold_refusals}
-use Rattle.rules.specs.Hours.{Date, Clock, hours_at, clock_of, unfold_hours}
-use Rattle.rules.specs.Units.{unfold_units}
-use Rattle.rules.specs.Message.{Fields, form1, encode, read, write, unfold_message}
-use Rattle.rules.specs.Lodging.{unfold_lodging}
-use Rattle.rules.specs.Book.{Book, unfold_book}
-use Rattle.rules.specs.Judging.{unfold_judging}
-use Rattle.rules.specs.Closing.{unfold_closing}
-use Rattle.rules.specs.Share.{share, unfold_share}
-use Rattle.rules.specs.Match.{unfold_match}
-use Rattle.rules.specs.Borders.{market_balance, execution_balance, unfold_borders}
-use Rattle.rules.specs.Split.{market_maximum, unfold_split}
-use Rattle.rules.specs.Withdrawal.{unfold_withdrawal}
-use Rattle.rules.specs.Executions.{unfold_executions}
-use Rattle.rules.specs.Clearing.{figures_at, unfold_clearing}
-use Rattle.rules.specs.Queries.{Query, Shown, number, matched, executed, market, bilateral, market_max, query, unfold_queries}
-use Rattle.rules.specs.DayBook.{Call, Answer, register, capacity, lodge, close, clear, done, numbered, steps, after, answers, opening, unfold_day_book}
+use Rattle.rules.specs.Refusals.{Outcome, given}
+use Rattle.rules.specs.Hours.{Date, Clock, hours_at, clock_of}
+use Rattle.rules.specs.Message.{Fields, form1, encode, read, write}
+use Rattle.rules.specs.Book.{Book}
+use Rattle.rules.specs.Share.{share}
+use Rattle.rules.specs.Borders.{market_balance, execution_balance}
+use Rattle.rules.specs.Split.{market_maximum}
+use Rattle.rules.specs.Clearing.{figures_at}
+use Rattle.rules.specs.Queries.{Query, Shown, number, matched, executed, market, bilateral, market_max, query}
+use Rattle.rules.specs.DayBook.{Call, Answer, register, capacity, lodge, close, clear, done, numbered, steps, after, answers, opening}
 
 -- A figure: what the definitions give, and what document 01 states.
 pub record Figure : Type 1 where
@@ -126,7 +119,3 @@ twelve =
       pos 100,
     )
     ∷ []
-
-pub twelve-hold : Hold twelve
-unfolding unfold_lists unfold_refusals unfold_hours unfold_units unfold_message unfold_lodging unfold_book unfold_judging unfold_closing unfold_share unfold_match unfold_borders unfold_split unfold_withdrawal unfold_executions unfold_clearing unfold_queries unfold_day_book
-twelve-hold = (refl, (refl, (refl, (refl, (refl, (refl, (refl, (refl, (refl, (refl, (refl, (refl, tt))))))))))))

@@ -1,5 +1,5 @@
 -- Opening: each way out.
-use mathlib.Core.Path.{◌≡◌, refl}
+use mathlib.Core.Path.{◌≡◌}
 use mathlib.Core.Bool.{true, false}
 use Rattle.rules.specs.Refusals.{row, first_row}
 use Rattle.rules.specs.Hours as H

@@ -1,5 +1,4 @@
 -- The loop: the array up to index j, and the number carried along the rest, are the whole number carried along the whole.
-use Prim.Native.Nat.{◌-◌}
 use mathlib.Core.Path.{◌≡◌, sym, ◌∙◌, ap}
 use native.Mathlib.Omega.{arith}
 use lib.ListN.{length-set}

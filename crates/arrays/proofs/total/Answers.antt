@@ -1,4 +1,3 @@
-use Prim.Native.Nat.{◌-◌}
 use native.Mathlib.Omega.{arith}
 use Rattle.arrays.proofs.IndexLaws.{total-next, total-end}
 use Rattle.arrays.proofs.total.Goals as goal

@@ -1,4 +1,3 @@
-use borrow.Author.Tests.{not-true, not-false}
 use Rattle.close_ceilings.specs.Ceilings.{ceiling_by}
 use Rattle.close_ceilings.proofs.ceiling_at.Goals as goal
 

@@ -1,5 +1,4 @@
 use borrow.Author.Count.{below_more}
-use Prim.Native.Nat.{◌-◌}
 use mathlib.Core.Path.{refl, ◌∙◌}
 use native.Mathlib.Omega.{arith}
 use Rattle.close_ceilings.proofs.RowLaws.{rows_start, rows_next, rows_end}

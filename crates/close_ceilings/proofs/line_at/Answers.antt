@@ -1,5 +1,4 @@
 use native.Mathlib.Omega.{arith}
-use borrow.Author.Tests.{not-true, not-false}
 use Rattle.close_ceilings.specs.Ceilings.{line_by}
 use Rattle.close_ceilings.proofs.line_at.Goals as goal
 

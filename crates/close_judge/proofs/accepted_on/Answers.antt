@@ -1,9 +1,7 @@
-use Prim.Native.Nat.{◌-◌}
 use mathlib.Core.Path.{◌≡◌, ◌∙◌}
 use mathlib.Core.List.{map}
 use native.Mathlib.Omega.{arith}
 use lib.ListN.{length-set}
-use borrow.Author.Tests.{not-true, not-false}
 use Rattle.rules.specs.Lists.{from}
 use Rattle.judge_loads.proofs.LoadLaws.{index-start, index-noted, index-passed, index_below}
 use Rattle.close_judge.specs.Classes.{held_at}

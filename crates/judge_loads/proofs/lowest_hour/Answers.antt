@@ -1,4 +1,4 @@
-use Prim.Native.Nat.{suc, ◌+◌, ◌-◌}
+use Prim.Native.Nat.{suc, ◌+◌}
 use mathlib.Core.Path.{refl, ap, ◌∙◌}
 use native.Mathlib.Omega.{arith}
 use Rattle.judge_loads.proofs.LoadLaws.{rest-start, rest-again, rest_end, unnamed, over, within, none-start, none-next, none-all, none_found}

@@ -1,8 +1,6 @@
 -- `message_bits::there_at` meets its contract.
-use Prim.Native.Nat.{◌+◌, ◌*◌, ◌<◌}
 use mathlib.Core.Path.{sym, ◌∙◌}
 use native.Mathlib.Omega.{arith}
-use lib.ListN.{length}
 use Rattle.message_bits.proofs.WordLaws.{all-had, not-had}
 use Rattle.message_bits.proofs.there_at.Goals as goal
 

@@ -41,20 +41,20 @@ pub overflow_add-price : goal.overflow_add-price
 overflow_add-price c =
     let hour : Next c.loop-rest.rest c.next_hour-h.result = next _ _ c.loop-rest.invariant.small c.loop-rest-test.true c.next_hour-h.ensures in
     let slot : (c.loop-rest.at + 17 + c.price_width-price.result ≤ 8 * length c.args.s.now)
-          × (c.loop-rest.at + 17 + c.price_width-price.result ≤ 864)
-          × (64 ≤ c.loop-rest.at)
-          × ((c.loop-rest.at + (17 + c.price_width-price.result) + 7) / 8 * 8 ≤ c.loop-rest.at + 32)
-        = slot_of _ _ _ c.loop-rest.invariant hour c.price_width-price.ensures.0 in
+    × (c.loop-rest.at + 17 + c.price_width-price.result ≤ 864)
+    × (64 ≤ c.loop-rest.at)
+    × ((c.loop-rest.at + (17 + c.price_width-price.result) + 7) / 8 * 8 ≤ c.loop-rest.at + 32)
+    = slot_of _ _ _ c.loop-rest.invariant hour c.price_width-price.ensures.0 in
     omega (arith, slot)
 
 pub slot_at-slot-requires : goal.slot_at-slot-requires
 slot_at-slot-requires c =
     let hour : Next c.loop-rest.rest c.next_hour-h.result = next _ _ c.loop-rest.invariant.small c.loop-rest-test.true c.next_hour-h.ensures in
     let slot : (c.loop-rest.at + 17 + c.price_width-price.result ≤ 8 * length c.args.s.now)
-          × (c.loop-rest.at + 17 + c.price_width-price.result ≤ 864)
-          × (64 ≤ c.loop-rest.at)
-          × ((c.loop-rest.at + (17 + c.price_width-price.result) + 7) / 8 * 8 ≤ c.loop-rest.at + 32)
-        = slot_of _ _ _ c.loop-rest.invariant hour c.price_width-price.ensures.0 in
+    × (c.loop-rest.at + 17 + c.price_width-price.result ≤ 864)
+    × (64 ≤ c.loop-rest.at)
+    × ((c.loop-rest.at + (17 + c.price_width-price.result) + 7) / 8 * 8 ≤ c.loop-rest.at + 32)
+    = slot_of _ _ _ c.loop-rest.invariant hour c.price_width-price.ensures.0 in
     omega (arith, slot, c.price_width-price.ensures.1)
 
 pub overflow_cast-e : goal.overflow_cast-e
@@ -87,20 +87,20 @@ pub overflow_add-at : goal.overflow_add-at
 overflow_add-at c =
     let hour : Next c.loop-rest.rest c.next_hour-h.result = next _ _ c.loop-rest.invariant.small c.loop-rest-test.true c.next_hour-h.ensures in
     let slot : (c.loop-rest.at + 17 + c.price_width-price.result ≤ 8 * length c.args.s.now)
-          × (c.loop-rest.at + 17 + c.price_width-price.result ≤ 864)
-          × (64 ≤ c.loop-rest.at)
-          × ((c.loop-rest.at + (17 + c.price_width-price.result) + 7) / 8 * 8 ≤ c.loop-rest.at + 32)
-        = slot_of _ _ _ c.loop-rest.invariant hour c.price_width-price.ensures.0 in
+    × (c.loop-rest.at + 17 + c.price_width-price.result ≤ 864)
+    × (64 ≤ c.loop-rest.at)
+    × ((c.loop-rest.at + (17 + c.price_width-price.result) + 7) / 8 * 8 ≤ c.loop-rest.at + 32)
+    = slot_of _ _ _ c.loop-rest.invariant hour c.price_width-price.ensures.0 in
     omega (arith, slot)
 
 pub overflow_add-at-in-loop-rest : goal.overflow_add-at-in-loop-rest
 overflow_add-at-in-loop-rest c =
     let hour : Next c.loop-rest.rest c.next_hour-h.result = next _ _ c.loop-rest.invariant.small c.loop-rest-test.true c.next_hour-h.ensures in
     let slot : (c.loop-rest.at + 17 + c.price_width-price.result ≤ 8 * length c.args.s.now)
-          × (c.loop-rest.at + 17 + c.price_width-price.result ≤ 864)
-          × (64 ≤ c.loop-rest.at)
-          × ((c.loop-rest.at + (17 + c.price_width-price.result) + 7) / 8 * 8 ≤ c.loop-rest.at + 32)
-        = slot_of _ _ _ c.loop-rest.invariant hour c.price_width-price.ensures.0 in
+    × (c.loop-rest.at + 17 + c.price_width-price.result ≤ 864)
+    × (64 ≤ c.loop-rest.at)
+    × ((c.loop-rest.at + (17 + c.price_width-price.result) + 7) / 8 * 8 ≤ c.loop-rest.at + 32)
+    = slot_of _ _ _ c.loop-rest.invariant hour c.price_width-price.ensures.0 in
     omega (arith, slot)
 
 pub overflow_sub-h : goal.overflow_sub-h
@@ -127,18 +127,18 @@ pub loop-rest-preserved : goal.loop-rest-preserved
 loop-rest-preserved c =
     let hour : Next c.loop-rest.rest c.next_hour-h.result = next _ _ c.loop-rest.invariant.small c.loop-rest-test.true c.next_hour-h.ensures in
     let slot : (c.loop-rest.at + 17 + c.price_width-price.result ≤ 8 * length c.args.s.now)
-          × (c.loop-rest.at + 17 + c.price_width-price.result ≤ 864)
-          × (64 ≤ c.loop-rest.at)
-          × ((c.loop-rest.at + (17 + c.price_width-price.result) + 7) / 8 * 8 ≤ c.loop-rest.at + 32)
-        = slot_of _ _ _ c.loop-rest.invariant hour c.price_width-price.ensures.0 in
+    × (c.loop-rest.at + 17 + c.price_width-price.result ≤ 864)
+    × (64 ≤ c.loop-rest.at)
+    × ((c.loop-rest.at + (17 + c.price_width-price.result) + 7) / 8 * 8 ≤ c.loop-rest.at + 32)
+    = slot_of _ _ _ c.loop-rest.invariant hour c.price_width-price.ensures.0 in
     let energy : c.slot_at-slot.result / 2 ^ c.price_width-price.result ≡ field c.loop-rest.at 17 (bits_of c.args.s.now) =
-        ap (λ x. x / 2 ^ c.price_width-price.result) c.slot_at-slot.ensures.0
-        ∙ slot-energy 17 c.loop-rest.at c.price_width-price.result c.args.s.now slot.0 in
+    ap (λ x. x / 2 ^ c.price_width-price.result) c.slot_at-slot.ensures.0
+    ∙ slot-energy 17 c.loop-rest.at c.price_width-price.result c.args.s.now slot.0 in
     let price : bit_and c.slot_at-slot.result (c.power.result - 1) ≡ field (c.loop-rest.at + 17) c.price_width-price.result (bits_of c.args.s.now) =
-        ap (λ x. bit_and c.slot_at-slot.result (x - 1)) c.power.ensures
-        ∙ and_mask c.slot_at-slot.result c.price_width-price.result
-        ∙ ap (λ x. x % 2 ^ c.price_width-price.result) c.slot_at-slot.ensures.0
-        ∙ slot-price 17 c.loop-rest.at c.price_width-price.result c.args.s.now slot.0 in
+    ap (λ x. bit_and c.slot_at-slot.result (x - 1)) c.power.ensures
+    ∙ and_mask c.slot_at-slot.result c.price_width-price.result
+    ∙ ap (λ x. x % 2 ^ c.price_width-price.result) c.slot_at-slot.ensures.0
+    ∙ slot-price 17 c.loop-rest.at c.price_width-price.result c.args.s.now slot.0 in
     rw (c.either-bad.ensures, c.bad_slot.ensures, energy, price, c.power-in-loop-rest.ensures, c.price_width-price.ensures.0)
     (filling-next 64 17 max_energy _ _ _ c.loop-rest.invariant _ hour)
 

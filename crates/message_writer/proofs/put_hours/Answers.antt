@@ -31,7 +31,7 @@ pub put_bits-p-requires : goal.put_bits-p-requires
 put_bits-p-requires c =
     -- the number of a slot
     let word : SlotWord 17 c.args.m.execution (get_or c.args.m.energies c.next_hour-next.result.hour 0) (get_or c.args.m.prices c.next_hour-next.result.hour 0) c.slot_word-word.result =
-        c.slot_word-word.ensures 17 (hours-fit 17 max_energy (fields_in c.args.m) _ (lit< tt) c.requires.0.values c.next_hour-next.ensures.within) in
+    c.slot_word-word.ensures 17 (hours-fit 17 max_energy (fields_in c.args.m) _ (lit< tt) c.requires.0.values c.next_hour-next.ensures.within) in
     let e = slot-width 17 _ _ c.price_width-width.ensures.0 in (
       midway-room 17 (fields_in c.args.m) _ _ c.loop-rest.invariant c.next_hour-next.ensures e word,
       omega (arith, c.price_width-width.ensures.1),
@@ -45,7 +45,7 @@ pub loop-rest-preserved : goal.loop-rest-preserved
 loop-rest-preserved c =
     -- the number of a slot
     let word : SlotWord 17 c.args.m.execution (get_or c.args.m.energies c.next_hour-next.result.hour 0) (get_or c.args.m.prices c.next_hour-next.result.hour 0) c.slot_word-word.result =
-        c.slot_word-word.ensures 17 (hours-fit 17 max_energy (fields_in c.args.m) _ (lit< tt) c.requires.0.values c.next_hour-next.ensures.within) in
+    c.slot_word-word.ensures 17 (hours-fit 17 max_energy (fields_in c.args.m) _ (lit< tt) c.requires.0.values c.next_hour-next.ensures.within) in
     midway-next 17 (fields_in c.args.m) _ _ c.loop-rest.invariant c.next_hour-next.ensures (slot-width 17 _ _ c.price_width-width.ensures.0)
     word c.put_bits-p.ensures c.put_bits-p.auto.buf
 

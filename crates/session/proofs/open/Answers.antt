@@ -1,4 +1,3 @@
-use borrow.Author.Tests.{not-true, not-false}
 use mathlib.Core.Path.{sym, ◌∙◌}
 use Rattle.session.proofs.OpenLaws.{open-0, open-1}
 use Rattle.session.proofs.open.Goals as goal

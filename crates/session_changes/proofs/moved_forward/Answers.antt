@@ -1,7 +1,6 @@
-use Prim.Native.Nat.{◌-◌}
-use mathlib.Core.Path.{◌≡◌, sym, ◌∙◌}
+use mathlib.Core.Path.{◌≡◌}
 use native.Mathlib.Omega.{arith}
-use lib.ListN.{length-set, length-map}
+use lib.ListN.{length-set}
 use Rattle.session_changes.proofs.ChangeLaws.{session-none, session-more}
 use Rattle.session_changes.proofs.moved_forward.Goals as goal
 

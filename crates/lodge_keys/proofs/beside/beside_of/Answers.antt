@@ -1,8 +1,6 @@
-use Prim.Native.Nat.{◌-◌}
 use mathlib.Core.Path.{◌≡◌, refl, sym, ◌∙◌}
 use native.Mathlib.Omega.{arith}
 use lib.ListN.{take, length-set}
-use borrow.Author.Tests.{not-true, not-false}
 use Rattle.session.specs.Image.{no_lodgement}
 use Rattle.judge_loads.proofs.LoadLaws.{index-start, index-noted, index-passed, index_below}
 use Rattle.lodge_keys.specs.Beside.{beside_marks}
