@@ -49,3 +49,6 @@ module _ (y m : ℕ) where
   pub month-more : days_before y (m + 1) ≡ days_before y m + days_of_month y (m + 1)
   unfolding days_before
   month-more = rw (add-one m)
+
+-- the three ways out of the test of a leap year
+pub ruleset leap_laws = (leap-fourth, leap-century, leap-other)

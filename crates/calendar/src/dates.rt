@@ -6,6 +6,7 @@ ghost use Rattle.calendar.specs.DatesView.{date_of};
 use rules::{LONG_DAY, SHORT_DAY};
 
 // Of centuries only each fourth is a leap year.
+#[tactic(auto, using(crate::proofs::DateLaws::leap_laws))]
 fn is_leap(year: u32) -> bool
     ensures { result ≡ leap year }
 {

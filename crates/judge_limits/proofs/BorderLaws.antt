@@ -62,3 +62,6 @@ module _ (ns : List Notice) (b h : ℕ) where
     unfolding border_at border_sum notice_in both_at hourly
     on-border sums e x y =
         rw (e, ne_eqb b 0 z, index-export, index-import, not-false export.given x, not-false import.given y, add_at export.energies import.energies (h - 1))
+
+-- the ways out of the test for limit 12
+pub ruleset border_laws = (off-domestic, off-borders, off-export, off-import, on-border)

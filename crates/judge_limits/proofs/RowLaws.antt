@@ -142,3 +142,6 @@ module _ (H : ℕ) (own : List ℕ) (load : ℕ → ℕ) where
         -- all three
         pub judge-on : {z : ℕ} → not b.applies ≡ false → z ≡ lowest (passed_at own load (laid b.energies)) H → lowest_row x y z ≡ judged_in u n cs default H own load
         judge-on {z} k g = rw (t, judged-normal, ten-as, eleven-as, twelve-on k, e, f, g)
+
+-- the ways out of the test for the lowest row
+pub ruleset lowest_row_laws = (row-10, row-11, row-12, row-none)

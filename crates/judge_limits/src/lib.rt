@@ -76,6 +76,7 @@ fn no_limit() -> BorderLimit
 }
 
 // Limit 12 by hour: "at a border with both directions published, the sum of the two capacities".
+#[tactic(auto, using(crate::proofs::BorderLaws::border_laws))]
 pub fn border_limit(border: u32, capacities: [Notice; DIRECTIONS]) -> BorderLimit
     ensures { (h : ℕ) → border_at result h ≡ border_sum (map notice_in capacities) border h }
 {
@@ -104,6 +105,7 @@ pub fn border_limit(border: u32, capacities: [Notice; DIRECTIONS]) -> BorderLimi
 }
 
 // "The lowest applicable number is given": the first limit with an hour, 0 being none.
+#[tactic(auto, using(crate::proofs::RowLaws::lowest_row_laws))]
 pub fn lowest_row(ten: u32, eleven: u32, twelve: u32) -> Ruling
     ensures { result ≡ lowest_row ten eleven twelve }
 {

@@ -90,3 +90,6 @@ module _ (s : Session) (bytes : List ℕ) where
       left = λ z j l. left p.row found.rows z j (subst (λ (k : Fields). JudgesLimits s (fields_in k) j) (found.fields z) l);
       fields = λ z. ap fields_in (found.fields z) ∙ said;
     }
+
+-- the way out of a field that is refused
+pub ruleset refused_laws = (found-refused)

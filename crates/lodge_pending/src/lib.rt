@@ -65,6 +65,7 @@ fn replaced_index(s: Session, key: Key) -> usize
 }
 
 // What is found for a message of the right form, or the row from 4 to 9 that refuses it.
+#[tactic(auto, using(crate::proofs::FormLaws::refused_laws))]
 fn found(s: Session, m: Fields, top: u32) -> Pending
     requires { Within s }
     ensures { Found s top m result }

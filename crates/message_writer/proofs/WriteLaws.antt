@@ -1,4 +1,5 @@
 -- The writer's answers, and what its buffer holds.
+use borrow.Author.Tests.{lt-ltb, le-ltb}
 use Prim.Native.Nat.{ℕ, ◌+◌, ◌*◌, ◌/◌, ◌^◌, ◌≤◌, ◌<◌}
 use mathlib.Core.Bool.{Bool, true, false}
 use mathlib.Core.Path.{◌≡◌, refl, ap, sym, ◌∙◌}
@@ -108,3 +109,6 @@ module _ (f : Form) (m : Fields) (is : form_for m ≡ f) where
   owed-given old r q s g t =
       let given-all : write (length old) m ≡ given (encode f m) = of-writes (length old) m (encode f m) (record { map = r.0.map; fields = r.0.values; fits = r.1; same = rw is }) in
       rw (given-all, q) (rw length-written, t ∙ (appended-append s g).same [] ∙ message-written old r.1)
+
+-- the ways out of the test for the lowest number
+pub ruleset number_laws = (number-4, number-5, number-14, number-0, lt-ltb, le-ltb)

@@ -44,6 +44,7 @@ fn put_hours(m: Fields, buf: &mut [u8], start: Pen) -> Pen
 }
 
 // The lowest number of the table that applies, or 0; `count` is the message's length.
+#[tactic(auto, using(crate::proofs::WriteLaws::number_laws))]
 fn row_of(m: Fields, room: usize, count: usize) -> u32
     requires { count ≡ message_length (fields_in m) }
     ensures { result ≡ (written_as (writing room (fields_in m))).row }

@@ -1,15 +1,12 @@
-use mathlib.Core.Path.{refl, ap, ◌∙◌}
+use mathlib.Core.Path.{◌≡◌, refl, ap, ◌∙◌}
 use native.Mathlib.Omega.{arith}
 use Rattle.lodge_keys.specs.Keys.{key_index}
-use Rattle.lodge_pending.proofs.FormLaws.{indices-of, found-refused}
+use Rattle.lodge_pending.proofs.FormLaws.{indices-of}
 use Rattle.lodge_pending.proofs.found.Goals as goal
-
-pub returns-then-row-ne0 : goal.returns-then-row-ne0
-returns-then-row-ne0 c = found-refused _ _ _ _ _ c.if-row-ne0.true c.not_pending.ensures c.judge_fields-row.ensures.rows
 
 pub returns : goal.returns
 returns c =
-    let z = c.if-row-ne0.false in
+    let z : c.judge_fields-row.result ≡ 0 = omega arith in
     let judged = c.judge_fields-row.ensures in
     let key = c.key_of-key.ensures in
     let counted = c.beside_of-beside.ensures in
