@@ -20,3 +20,4 @@ pub mod Table
 pub mod Sound
 pub mod Demands
 pub mod Figures
+pub mod Rows

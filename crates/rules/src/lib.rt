@@ -3,7 +3,7 @@
 #![tactic(auto)]
 
 ghost use Rattle.std.specs.Prelude.{◌≡◌};
-ghost use Rattle.rules.specs.Units.{max_energy};
+ghost use Rattle.rules.specs.Units.{max_energy, bad_number};
 
 pub mod row;
 
@@ -43,4 +43,12 @@ pub fn energy_limit() -> u32
     ensures { result ≡ max_energy }
 {
     MAX_ENERGY
+}
+
+// "(each 1 to 65,535)": a number outside that, of a unit, an agent or a contract.
+#[tactic(auto, unfolding(crate::specs::Units::bad_number))]
+pub fn bad_number(n: u32) -> bool
+    ensures { result ≡ bad_number n }
+{
+    !(1..=MAX_NUMBER).contains(&n)
 }

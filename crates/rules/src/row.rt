@@ -1,4 +1,10 @@
 // The rows of the table "When the gate says no", by its words.
+ghost use Rattle.std.specs.Prelude.{◌≡◌};
+ghost use Rattle.rules.specs.Rows.{number_of};
+
+use std::error::Error;
+use std::fmt;
+
 pub const DATE: u32 = 1;
 
 pub const GATE: u32 = 2;
@@ -26,3 +32,70 @@ pub const BORDER: u32 = 12;
 pub const ABSENT: u32 = 13;
 
 pub const SHORT: u32 = 14;
+
+// Why the gate says no: what an `Err` of every call, query, reader and writer brings.
+#[derive(Clone, Copy, Debug, PartialEq, Eq)]
+pub enum Row {
+    Date,
+    Gate,
+    Form,
+    Hour,
+    Range,
+    Unit,
+    Taken,
+    Second,
+    Full,
+    Maximum,
+    Available,
+    Border,
+    Absent,
+    Short,
+}
+
+impl Row {
+    // The table's number.
+    pub fn number(self) -> u32
+        ensures { result ≡ number_of self }
+    {
+        match self {
+            Row::Date => 1,
+            Row::Gate => 2,
+            Row::Form => 3,
+            Row::Hour => 4,
+            Row::Range => 5,
+            Row::Unit => 6,
+            Row::Taken => 7,
+            Row::Second => 8,
+            Row::Full => 9,
+            Row::Maximum => 10,
+            Row::Available => 11,
+            Row::Border => 12,
+            Row::Absent => 13,
+            Row::Short => 14,
+        }
+    }
+}
+
+impl Error for Row {}
+
+// The table's word.
+impl fmt::Display for Row {
+    fn fmt<W: fmt::Write>(&self, f: &mut fmt::Formatter<W>) -> fmt::Result {
+        f.write_str(match self {
+            Row::Date => "date",
+            Row::Gate => "gate",
+            Row::Form => "form",
+            Row::Hour => "hour",
+            Row::Range => "range",
+            Row::Unit => "unit",
+            Row::Taken => "taken",
+            Row::Second => "second",
+            Row::Full => "full",
+            Row::Maximum => "maximum",
+            Row::Available => "available",
+            Row::Border => "border",
+            Row::Absent => "absent",
+            Row::Short => "short",
+        })
+    }
+}
