@@ -1,3 +1,2 @@
-pub mod LaidLaws
+mod RangeLaws
 pub mod ReadyLaws
-pub mod RangeLaws
