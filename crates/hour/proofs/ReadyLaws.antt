@@ -1,18 +1,18 @@
 -- The test of an hour and what it stands for.
-use Prim.Native.Nat.{ℕ, zero, suc, ◌+◌, ◌-◌, ◌≤◌, ◌<◌}
-use mathlib.Core.Path.{◌≡◌, refl, sym, ap, ◌∙◌}
-use mathlib.Core.Bool.{Bool, true, false, not, ◌&&◌, ◌||◌, false≢true}
+use Prim.Native.Nat.{ℕ, zero, suc, ◌+◌, ◌≤◌, ◌<◌}
+use mathlib.Core.Path.{◌≡◌, refl}
+use mathlib.Core.Bool.{Bool, true, not, false≢true}
 use mathlib.Core.List.{List, [], ◌∷◌, map}
 use mathlib.Core.Logic.{⊎_elim}
 use native.Mathlib.Nat.{lt_trans, eq-or-lt_of_le}
 use native.Mathlib.Omega.{arith}
-use lib.Dec.{leb, ltb, eqb}
+use lib.Dec.{ltb, eqb}
 use lib.ListN.{get_or, length, take, length-take}
 use lib.Seq.{get_or-take}
 use borrow.Author.Tests.{leb-true, le-leb, lt-ltb, ltb-true, ltb-false, le-ltb, eqb-false, ne_eqb, not-true}
 use Rattle.std.specs.Prelude.{is_some, is_none, unwrap_or, Option, Some, None}
 use Rattle.std.specs.List.{list_all}
-use Rattle.rules.specs.Lists.{All, none, more, Pairwise, empty, ahead, keep, from}
+use Rattle.rules.specs.Lists.{All, none, more, Pairwise, empty, ahead, from}
 use Rattle.rules.specs.Units.{max_energy, max_price, bad_number}
 use Rattle.rules.specs.Match as M
 use Rattle.rules.specs.Borders as B
@@ -25,7 +25,7 @@ use Rattle.hour_offers.specs.declared.Execution.{Execution}
 use Rattle.hour_offers.specs.View.{offer_in, execution_in}
 use Rattle.hour.specs.Ranges.{within, holder_ready, offer_ready, execution_ready, rises, capacity_ready, offers_ready, executions_ready, capacities_ready}
 use Rattle.hour.specs.declared.Hour.{Hour}
-use Rattle.hour.specs.View.{fresh_in, hour_in, published_in}
+use Rattle.hour.specs.View.{fresh_in, hour_in, directed, energies_of, published_in}
 use Rattle.hour.specs.Ready.{Between, HolderReady, OfferReady, ExecutionReady, Ready, is_ready}
 
 -- Lists
@@ -150,6 +150,13 @@ unfolding capacity_ready
 capacity-told None f = refl
 capacity-told (Some x) f = le-leb x max_energy (f refl)
 
+-- what stands at a way, 0 where nothing does
+pub energy-of : (cs : List (Option ℕ)) (w : ℕ) → get_or (energies_of cs) w 0 ≡ unwrap_or (get_or cs w None) 0
+unfolding energies_of
+energy-of [] w = refl
+energy-of (c ∷ cs) zero = refl
+energy-of (c ∷ cs) (suc w) = energy-of cs w
+
 module _ (cs : List (Option ℕ)) where
   home-holds : list_all (λ c. is_none c) (take 2 cs) ≡ true → (w : ℕ) → w < 2 → get_or cs w None ≡ None
   home-holds e w l = none-is (get_or cs w None) (rw (get_or-take 2 cs w None l) at (all-at-index (λ c. is_none c) None refl (take 2 cs) e w))
@@ -158,17 +165,17 @@ module _ (cs : List (Option ℕ)) where
   home-told f = all-from-indices (λ c. is_none c) None (take 2 cs) (λ w l. rw (get_or-take 2 cs w None (omega (arith, length-take 2 cs)), f w (omega (arith, length-take 2 cs))))
 
   capacities-hold : list_all capacity_ready (take 10 cs) ≡ true → All (λ c. c.energy ≤ max_energy) (published_in cs)
-  unfolding published_in capacity_ready
+  unfolding published_in directed capacity_ready
   capacities-hold e =
       all-mapped _
-      (all_both (λ w s k. capacity-holds (get_or cs w None) (rw (get_or-take 10 cs w None k) at (all-at-index capacity_ready None refl (take 10 cs) e w)) s)
+      (all_both (λ w s k. rw (energy-of cs w) (capacity-holds (get_or cs w None) (rw (get_or-take 10 cs w None k) at (all-at-index capacity_ready None refl (take 10 cs) e w)) s))
       (keep-passes (λ w. is_some (get_or cs w None)) (from 2 8)) (all_keep (λ w. is_some (get_or cs w None)) (from_all (λ w. w < 10) 2 8 (λ w a b. omega arith))))
 
   capacities-told : ((w : ℕ) → w < 2 → get_or cs w None ≡ None) → All (λ (c : B.Directed). c.energy ≤ max_energy) (published_in cs) → list_all capacity_ready (take 10 cs) ≡ true
-  unfolding published_in
+  unfolding published_in directed
   capacities-told h r =
       let a = all-unkept (λ w. is_some (get_or cs w None)) (from 2 8) (all-unmapped _ _ r) in
-      let f : (w : ℕ) → 2 ≤ w → w < 10 → is_some (get_or cs w None) ≡ true → unwrap_or (get_or cs w None) 0 ≤ max_energy = λ w l k. all-from 2 8 a w l (omega arith) in
+      let f : (w : ℕ) → 2 ≤ w → w < 10 → is_some (get_or cs w None) ≡ true → unwrap_or (get_or cs w None) 0 ≤ max_energy = λ w l k t. rw (energy-of cs w) at (all-from 2 8 a w l (omega arith) t) in
       all-from-indices capacity_ready None (take 10 cs) (λ w l.
       let k : w < 10 = omega (arith, length-take 10 cs) in
       rw (get_or-take 10 cs w None k)

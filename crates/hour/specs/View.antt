@@ -18,8 +18,14 @@ abbrev pub fresh_in : Offer → M.Offer
 fresh_in o = record { holder = holder_in o.holder; price = o.price; offered = o.offered; matched = 0 }
 
 -- STUB until hour_borders has it
+unfoldable pub directed : List ℕ → ℕ → B.Directed
+directed a w = record { border = w / 2; export = eqb (w % 2) 0; energy = get_or a w 0 }
+
+unfoldable pub energies_of : List (Option ℕ) → List ℕ
+energies_of a = map (λ o. unwrap_or o 0) a
+
 unfoldable pub published_in : List (Option ℕ) → List B.Directed
-published_in cs = map (λ w. record { border = w / 2; export = eqb (w % 2) 0; energy = unwrap_or (get_or cs w None) 0 }) (keep (λ w. is_some (get_or cs w None)) (from 2 8))
+published_in a = map (directed (energies_of a)) (keep (λ w. is_some (get_or a w None)) (from 2 8))
 
 -- the rules' hour
 unfoldable pub hour_in : Hour → C.Hour
