@@ -1,1 +1,4 @@
-
+pub mod SortLaws
+pub mod OrderLaws
+pub mod KeyLaws
+pub mod ViewLaws
