@@ -1,4 +1,5 @@
 pub mod SortLaws
+pub mod ViewLaws
 pub mod OrderLaws
 pub mod KeyLaws
-pub mod ViewLaws
+pub mod WalkLaws
