@@ -3,3 +3,4 @@ pub mod ViewLaws
 pub mod OrderLaws
 pub mod KeyLaws
 pub mod WalkLaws
+pub mod FillLaws
