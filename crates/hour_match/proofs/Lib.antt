@@ -4,3 +4,5 @@ pub mod OrderLaws
 pub mod KeyLaws
 pub mod WalkLaws
 pub mod FillLaws
+pub mod MatchLaws
+pub mod PriceLaws
