@@ -6,3 +6,4 @@ pub mod WalkLaws
 pub mod FillLaws
 pub mod MatchLaws
 pub mod PriceLaws
+pub mod KeptLaws
