@@ -1,101 +1,82 @@
 // Share: taking an energy from several amounts pro rata.
 #![tactic(auto)]
 
-ghost use Rattle.std.specs.Prelude.{◌≡◌, map, ◌++◌, ℕ, ◌≤◌, ◌<◌, length, get_or, take, drop};
-ghost use Rattle.rules.specs.Lists.{sum, add_each};
+ghost use Rattle.std.specs.Prelude.{◌≡◌, ◌*◌, ◌≤◌, map, min, length};
+ghost use Rattle.rules.specs.Lists.{add_each, sum};
 ghost use Rattle.rules.specs.Units.{max_energy};
 ghost use Rattle.rules.specs.Share.{pro_rata, hand_out, share as share_of};
-ghost use Rattle.arrays.specs.Indices.{vals};
-ghost use Rattle.hour_share.specs.Next.{next};
+ghost use Rattle.hour_share.specs.Deductions.{Ranged};
 
-pub mod deductions;
-
+use arrayvec::ArrayVec;
 use rules::LODGEMENTS;
+
+// An energy, and the direction in which it runs: an index of an array of ten.
+#[derive(Clone, Copy, Debug, Default, PartialEq, Eq)]
+pub struct Amount {
+    pub way: usize,
+    pub energy: u32,
+}
 
 // "each loses R × m / G rounded down"; "G 0 loses nothing". Most amounts are 0, and those need no division.
 fn pro_rata(r: u32, g: u32, m: u32) -> u32
     requires { r ≤ g }
     ensures { result ≡ pro_rata r g m }
 {
-    if m == 0 {
+    if m == 0 || g == 0 {
         return 0;
     }
-    if g == 0 {
-        return 0;
-    }
-    arrays::portion(r, m, 0, g)
+    let floor = u64::from(r) * u64::from(m) / u64::from(g);
+    floor as u32
 }
 
-// The pro rata deductions, and their sum.
-fn floors(deductions: &mut [u32], amounts: &[u32], r: u32, g: u32) -> u32
-    requires { (length deductions.old ≡ length amounts.now) × (r ≤ g) × (g ≡ sum amounts.now) }
-    ensures { (result ≡ sum (map (pro_rata r g) amounts.now)) × (deductions.new ≡ map (pro_rata r g) amounts.now) }
+// The pro rata deductions.
+fn floors(r: u32, g: u32, amounts: &[u32]) -> ArrayVec<u32, LODGEMENTS>
+    requires within { r ≤ g }
+    requires few { length amounts.now ≤ 128 }
+    ensures { result.items ≡ map (pro_rata r g) amounts.now }
 {
-    let mut s: u32 = 0;
-    for i in 0..amounts.len() {
-        let x = pro_rata(r, g, amounts[i]);
-        deductions[i] = x;
-        s += x;
+    let mut floors = ArrayVec::new();
+    for m in amounts {
+        floors.push(pro_rata(r, g, *m));
     }
-    s
-}
-
-// The lowest index with an amount above 0; the index past the last where there is none.
-fn next_index(amounts: &[u32]) -> usize
-    ensures { result ≡ next amounts.now }
-{
-    for i in 0..amounts.len() {
-        if 0 < amounts[i] {
-            return i;
-        }
-    }
-    amounts.len()
+    floors
 }
 
 // "the leftover units go out one each to the lowest lodging numbers with m above 0, and each hand-out leaves the rest to
 // the same rule over the higher numbers".
-fn hand_out(deductions: &mut [u32], amounts: &[u32], left: u32)
-    requires { (length deductions.old ≡ length amounts.now) × ((i : ℕ) → get_or deductions.old i 0 < 4294967295) }
+fn hand_out(left: u32, amounts: &[u32], deductions: &mut [u32])
+    requires same_length { length deductions.old ≡ length amounts.now }
+    requires ranged { Ranged deductions.old }
     ensures { deductions.new ≡ add_each deductions.old (hand_out left amounts.now) }
 {
-    if left == 0 {
-        return;
+    let mut rest = left;
+    for (i, m) in amounts.iter().enumerate() {
+        if 0 < *m && 0 < rest {
+            deductions[i] += 1;
+            rest -= 1;
+        }
     }
-    let i = next_index(amounts);
-    if amounts.len() <= i {
-        return;
-    }
-    deductions[i] += 1;
-    hand_out(&mut deductions[i + 1..], &amounts[i + 1..], left - 1)
 }
 
-// Share over all the amounts, whose sum is g.
-fn share_all(deductions: &mut [u32], amounts: &[u32], r: u32, g: u32)
-    requires { (length deductions.old ≡ length amounts.now) × (r ≤ g) × (g ≡ sum amounts.now) × ((i : ℕ) → get_or amounts.now i 0 ≤ max_energy) }
-    ensures { deductions.new ≡ share_of r amounts.now }
+// The sum of some energies.
+fn total(energies: &[u32]) -> u32
+    requires few { length energies.now ≤ 128 }
+    requires ranged { Ranged energies.now }
+    ensures { result ≡ sum energies.now }
 {
-    let s = floors(deductions, amounts, r, g);
-    hand_out(deductions, amounts, r - s)
+    energies.iter().sum()
 }
 
-// Share over the first n amounts, whose sum is g.
-fn share_first(deductions: &mut [u32], amounts: &[u32], n: usize, r: u32, g: u32)
-    requires { (n ≤ length deductions.old) × (n ≤ length amounts.now) × (r ≤ g) × (g ≡ sum (take n amounts.now)) × ((i : ℕ) → get_or amounts.now i 0 ≤ max_energy) }
-    ensures { deductions.new ≡ share_of r (take n amounts.now) ++ drop n deductions.old }
+// To take an excess from amounts: what each of them loses, "the lesser of the excess and" their sum being taken.
+pub fn share(excess: u32, amounts: &[u32]) -> ArrayVec<u32, LODGEMENTS>
+    requires few { length amounts.now ≤ 128 }
+    requires ranged { Ranged amounts.now }
+    ensures { result.items ≡ share_of (min excess (sum amounts.now)) amounts.now }
 {
-    share_all(&mut deductions[..n], &amounts[..n], r, g)
-}
-
-// To take r from the first n amounts, whose sum is g: what each of them loses. The deductions after them stay as they were.
-pub fn share(
-    deductions: &mut [u32; LODGEMENTS],
-    amounts: &[u32; LODGEMENTS],
-    n: usize,
-    r: u32,
-    g: u32,
-)
-    requires { (n ≤ 128) × ((i : ℕ) → get_or amounts.now i 0 ≤ max_energy) × (r ≤ g) × (g ≡ sum (vals amounts.now 0 n)) }
-    ensures { (vals deductions.new 0 n ≡ share_of r (vals amounts.now 0 n)) × ((i : ℕ) → n ≤ i → get_or deductions.new i 0 ≡ get_or deductions.old i 0) }
-{
-    share_first(deductions, amounts, n, r, g)
+    let g = total(amounts);
+    let r = excess.min(g);
+    let mut deductions = floors(r, g, amounts);
+    let floored = total(&deductions);
+    hand_out(r - floored, amounts, &mut deductions);
+    deductions
 }

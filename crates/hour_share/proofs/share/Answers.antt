@@ -1,18 +1,21 @@
-use mathlib.Core.Path.{◌∙◌, ap}
-use native.Mathlib.Omega.{arith}
-use Rattle.rules.specs.Lists.{sum}
-use Rattle.arrays.proofs.SliceLaws.{vals-front}
-use Rattle.hour_share.proofs.Laws.{share-laid}
+use Rattle.std.proofs.Common.{rules, arith, ◌≡◌, ◌∙◌, ◌≤◌, map, length-map}
+use Rattle.rules.specs.Share.{pro_rata}
+use Rattle.rules.proofs.ShareLaws.{floors-le}
+use Rattle.hour_share.specs.Deductions.{Ranged}
+use Rattle.hour_share.proofs.Laws.{floors-ranged, share-said, refilled, out-length}
 use Rattle.hour_share.proofs.share.Goals as goal
 
-pub share_first-requires : goal.share_first-requires
-share_first-requires c =
-    let s = c.requires in
+pub total-floored-requires-clause-ranged : goal.total-floored-requires-clause-ranged
+total-floored-requires-clause-ranged c =
     let a = c.args in
-    (omega arith, omega arith, s.2, s.3 ∙ ap sum (vals-front a.n a.amounts.now (omega arith)), s.1)
+    let w : c.min-r.result ≤ c.total-g.result = omega (arith, c.min-r.ensures) in
+    rw (c.deref.ensures.0, c.floors-deductions.ensures) (floors-ranged c.min-r.result c.total-g.result a.amounts.now w c.requires.ranged)
+
+pub overflow_sub-r : goal.overflow_sub-r
+overflow_sub-r c = ?
+
+pub hand_out-requires-clause-ranged : goal.hand_out-requires-clause-ranged
+hand_out-requires-clause-ranged c = ?
 
 pub returns : goal.returns
-returns c =
-    let s = c.requires in
-    let a = c.args in
-    share-laid a.n a.r a.deductions.now a.amounts.now (omega arith) (omega (arith, s.2, s.3)) c.share_first.ensures
+returns c = ?
