@@ -109,3 +109,27 @@ out-length (d ∷ ds) [] k e = absurd (omega arith)
 out-length (d ∷ ds) (m ∷ ms) zero e = ap suc (out-length ds ms zero (omega arith))
 out-length (d ∷ ds) (zero ∷ ms) (suc k) e = ap suc (out-length ds ms (suc k) (omega arith))
 out-length (d ∷ ds) (suc m ∷ ms) (suc k) e = ap suc (out-length ds ms k (omega arith))
+
+-- A row of deductions added to another, index by index
+
+module _ (xs ss : List ℕ) (i : ℕ) where
+  pub added-next : length ss ≡ length xs → i < length xs
+      → (let after = set ss i (get_or ss i 0 + get_or xs i 0) in
+      take (i + 1) after ++ add_each (drop (i + 1) xs) (drop (i + 1) after) ≡ take i ss ++ add_each (drop i xs) (drop i ss))
+  unfolding add_each
+  added-next e h =
+      let o : get_or ss i 0 + get_or xs i 0 ≡ get_or xs i 0 + get_or ss i 0 = omega arith in
+      rw (
+        add-one i,
+        take-suc-set ss i (get_or ss i 0 + get_or xs i 0) (omega arith),
+        drop-set-lt (suc i) ss i (get_or ss i 0 + get_or xs i 0) (omega arith),
+        append_snoc (take i ss),
+        drop-cons xs i 0 h,
+        drop-cons ss i 0 (omega arith),
+        o,
+      )
+
+  pub added-end : {x : List ℕ} → length ss ≡ length xs → length xs ≤ i → take i ss ++ add_each (drop i xs) (drop i ss) ≡ x → ss ≡ x
+  unfolding add_each
+  added-end e h p =
+      sym (append-nil ss) ∙ (rw (take_all i ss (omega arith), drop_of_length-le ss {i = i} (omega arith), drop_of_length-le xs {i = i} h) at p)

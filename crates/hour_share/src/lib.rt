@@ -1,11 +1,13 @@
 // Share: taking an energy from several amounts pro rata.
 #![tactic(auto)]
 
-ghost use Rattle.std.specs.Prelude.{◌≡◌, ◌*◌, ◌≤◌, map, min, length};
-ghost use Rattle.rules.specs.Lists.{add_each, sum};
+ghost use Rattle.std.specs.Prelude.{◌≡◌, ◌*◌, ◌≤◌, ℕ, map, min, length, get_or};
+ghost use Rattle.std.specs.Fn.{FnReturnsAt};
+ghost use Rattle.rules.specs.Lists.{All, add_each, sum};
 ghost use Rattle.rules.specs.Units.{max_energy};
 ghost use Rattle.rules.specs.Share.{pro_rata, hand_out, share as share_of};
-ghost use Rattle.hour_share.specs.Deductions.{Ranged};
+ghost use Rattle.hour_share.specs.Deductions.{Ranged, InRange, energy_in, deductions_from};
+ghost use Rattle.hour_share.specs.declared.Amount.{Amount};
 
 use arrayvec::ArrayVec;
 use rules::LODGEMENTS;
@@ -15,6 +17,19 @@ use rules::LODGEMENTS;
 pub struct Amount {
     pub way: usize,
     pub energy: u32,
+}
+
+impl Amount {
+    // What it counts for in direction w, 0 where it runs in another.
+    pub fn energy_in(self, w: usize) -> u32
+        ensures { result ≡ energy_in w self }
+    {
+        if self.way == w {
+            self.energy
+        } else {
+            0
+        }
+    }
 }
 
 // "each loses R × m / G rounded down"; "G 0 loses nothing". Most amounts are 0, and those need no division.
@@ -79,4 +94,76 @@ pub fn share(excess: u32, amounts: &[u32]) -> ArrayVec<u32, LODGEMENTS>
     let floored = total(&deductions);
     hand_out(r - floored, amounts, &mut deductions);
     deductions
+}
+
+// What each counts for in direction w.
+fn energies_in(w: usize, amounts: &[Amount]) -> ArrayVec<u32, LODGEMENTS>
+    requires { length amounts.now ≤ 128 }
+    ensures { result.items ≡ map (energy_in w) amounts.now }
+{
+    let mut energies = ArrayVec::new();
+    for a in amounts {
+        energies.push(a.energy_in(w));
+    }
+    energies
+}
+
+// Nothing lost by any.
+fn nothing(amounts: &[Amount]) -> ArrayVec<u32, LODGEMENTS>
+    requires { length amounts.now ≤ 128 }
+    ensures { result.items ≡ map (λ a. 0) amounts.now }
+{
+    let mut deductions = ArrayVec::new();
+    for _ in amounts {
+        deductions.push(0);
+    }
+    deductions
+}
+
+// Deductions added to others, index by index.
+fn add(deductions: &[u32], sums: &mut [u32])
+    requires same_length { length sums.old ≡ length deductions.now }
+    requires ranged { Ranged deductions.now }
+    requires room { (i : ℕ) → get_or sums.old i 0 ≤ 9 * max_energy }
+    ensures { sums.new ≡ add_each deductions.now sums.old }
+{
+    for (i, d) in deductions.iter().enumerate() {
+        sums[i] += *d;
+    }
+}
+
+// What each loses in all directions, of their excesses; the directions are added from the last to the first, as the rules do.
+fn in_all(over: &[u32; 10], amounts: &[Amount]) -> ArrayVec<u32, LODGEMENTS>
+    requires few { length amounts.now ≤ 128 }
+    requires ranged { All InRange amounts.now }
+    ensures { result.items ≡ deductions_from over.now amounts.now 2 }
+{
+    let mut sums = nothing(amounts);
+    for w in (2..10).rev() {
+        if 0 < over[w] {
+            let lost = share(over[w], &energies_in(w, amounts));
+            add(&lost, &mut sums);
+        }
+    }
+    sums
+}
+
+// The same of any holders: `of` says what each of them has, and in which direction it gives way.
+pub fn deductions<T, F: Fn(&T) -> Amount>(
+    over: &[u32; 10],
+    holders: &[T],
+    of: F,
+) -> ArrayVec<u32, LODGEMENTS>
+    ghost amount: { T → Amount }
+    requires callable { F.IsAlwaysCallable of }
+    requires few { length holders.now ≤ 128 }
+    requires said { All (λ x. (a : Amount) → FnReturnsAt F.Fn of x a → a ≡ amount x) holders.now }
+    requires ranged { All (λ x. InRange (amount x)) holders.now }
+    ensures { result.items ≡ deductions_from over.now (map amount holders.now) 2 }
+{
+    let mut amounts: ArrayVec<Amount, LODGEMENTS> = ArrayVec::new();
+    for x in holders {
+        amounts.push(of(x));
+    }
+    in_all(over, amounts.as_slice())
 }
