@@ -1,16 +1,20 @@
 -- The loops of Share give the rules' Share.
-use Rattle.std.proofs.Common.{◌≡◌, ℕ, zero, suc, ◌+◌, ◌*◌, ◌-◌, ◌/◌, ◌≤◌, ◌<◌, List, [], ◌∷◌, ◌++◌, map, length, get_or, take, drop, set, refl, sym, ap, ◌∙◌, append-nil, arith, add-one, drop-cons}
+use Rattle.std.proofs.Common.{◌≡◌, Bool, cond, eqb, ltb, min, ℕ, zero, suc, ◌+◌, ◌*◌, ◌-◌, ◌/◌, ◌≤◌, ◌<◌, List, [], ◌∷◌, ◌++◌, map, length, get_or, take, drop, set, refl, sym, ap, ◌∙◌, append-nil, arith, add-one, drop-cons}
 use native.Mathlib.Nat.{div-zero, zero-div}
 use lib.ListN.{drop_of_length-le}
 use lib.Seq.{take-suc, take-suc-set, take_all, append_snoc, drop-set-lt}
 use Rattle.std.specs.List.{sum as fold_sum, refill}
 use Rattle.std.proofs.lemmas.List.Recursion.{is_sum_by}
-use Rattle.rules.specs.Lists.{sum, add_each}
+use Rattle.rules.specs.Lists.{All, none, more, sum, add_each, from}
 use Rattle.rules.specs.Units.{max_energy}
-use Rattle.rules.proofs.ShareLaws.{pro-rata-le}
+use Rattle.rules.proofs.ShareLaws.{pro-rata-le, share-le}
 use Rattle.arrays.proofs.SliceLaws.{map-small}
 use Rattle.rules.specs.Share.{pro_rata, hand_out, share}
-use Rattle.hour_share.specs.Deductions.{Ranged}
+use Rattle.rules.proofs.SumLaws.{cond-le}
+use Rattle.arrays.proofs.IndexLaws.{from_next}
+use borrow.Author.Tests.{lt-ltb, le-ltb}
+use Rattle.hour_share.specs.declared.Amount.{Amount}
+use Rattle.hour_share.specs.Deductions.{Ranged, InRange, energy_in, deductions_in, deductions_over, deductions_from}
 
 -- "G 0 loses nothing", and so does an amount of 0
 pub none_held : (r g m : ℕ) → m ≡ 0 → 0 ≡ pro_rata r g m
@@ -133,3 +137,52 @@ module _ (xs ss : List ℕ) (i : ℕ) where
   unfolding add_each
   added-end e h p =
       sym (append-nil ss) ∙ (rw (take_all i ss (omega arith), drop_of_length-le ss {i = i} (omega arith), drop_of_length-le xs {i = i} h) at p)
+
+-- In one direction, and in one more
+
+pub in-range : {ams : List Amount} (w : ℕ) → All InRange ams → Ranged (map (energy_in w) ams)
+unfolding energy_in
+in-range w none i = omega arith
+in-range w (more {x = a} h t) zero = omega (arith, cond-le (eqb a.way w) a.energy, h)
+in-range w (more h t) (suc i) = in-range w t i
+
+module _ (over : List ℕ) (ams : List Amount) where
+  pub deductions-start : (w : ℕ) → 10 ≤ w → map (λ (a : Amount). 0) ams ≡ deductions_from over ams w
+  unfolding deductions_from deductions_over from
+  deductions-start w h = let o : 10 - w ≡ 0 = omega arith in rw o
+
+  deductions-here : (w : ℕ) → w < 10 → deductions_from over ams w
+      ≡ cond (ltb 0 (get_or over w 0)) (add_each (deductions_in ams (get_or over w 0) w) (deductions_from over ams (w + 1))) (deductions_from over ams (w + 1))
+  unfolding deductions_from deductions_over
+  deductions-here w h = rw (from_next 10 w h)
+
+  pub deductions-more : (w : ℕ) (s : List ℕ) {lost next : List ℕ} → w < 10 → 0 < get_or over w 0
+      → lost ≡ share (min (get_or over w 0) (sum (map (energy_in w) ams))) (map (energy_in w) ams) → s ≡ deductions_from over ams (w + 1) → next ≡ add_each lost s → next ≡ deductions_from over ams w
+  unfolding deductions_in
+  deductions-more w s h k el es en = rw (deductions-here w h, lt-ltb 0 (get_or over w 0) k, en, el, es)
+
+  pub deductions-same : (w : ℕ) → w < 10 → get_or over w 0 ≤ 0 → deductions_from over ams (w + 1) ≡ deductions_from over ams w
+  deductions-same w h k = rw (deductions-here w h, le-ltb 0 (get_or over w 0) k)
+
+pub zeros-of : (ams : List Amount) (i : ℕ) → get_or (map (λ (a : Amount). 0) ams) i 0 ≤ 0
+zeros-of [] i = omega arith
+zeros-of (a ∷ ams) zero = omega arith
+zeros-of (a ∷ ams) (suc i) = zeros-of ams i
+
+-- with one row more, sums grow by the largest energy at most
+pub sums-small : (b : ℕ) (xs ss : List ℕ) → Ranged xs → ((i : ℕ) → get_or ss i 0 ≤ b) → (i : ℕ) → get_or (add_each xs ss) i 0 ≤ b + max_energy
+unfolding add_each
+sums-small b [] ss r h i = omega (arith, h i)
+sums-small b (x ∷ xs) [] r h i = omega (arith, r i)
+sums-small b (x ∷ xs) (s ∷ ss) r h zero = omega (arith, r 0, h 0)
+sums-small b (x ∷ xs) (s ∷ ss) r h (suc i) = sums-small b xs ss (λ j. r (suc j)) (λ j. h (suc j)) i
+
+pub sums-length : (xs ss : List ℕ) → length xs ≡ length ss → length (add_each xs ss) ≡ length ss
+unfolding add_each
+sums-length [] ss e = refl
+sums-length (x ∷ xs) [] e = absurd (omega arith)
+sums-length (x ∷ xs) (s ∷ ss) e = ap suc (sums-length xs ss (omega arith))
+
+-- no deduction is above its amount
+pub lost-ranged : (r : ℕ) (ms : List ℕ) → r ≤ sum ms → Ranged ms → Ranged (share r ms)
+lost-ranged r ms h k i = omega (arith, share-le r ms h i, k i)

@@ -21,6 +21,7 @@ pub struct Amount {
 
 impl Amount {
     // What it counts for in direction w, 0 where it runs in another.
+    #[tactic(auto, unfolding(crate::specs::Deductions::energy_in))]
     pub fn energy_in(self, w: usize) -> u32
         ensures { result ≡ energy_in w self }
     {
