@@ -1,5 +1,6 @@
 -- The loops of Share give the rules' Share.
-use Rattle.std.proofs.Common.{◌≡◌, Bool, cond, eqb, ltb, min, ℕ, zero, suc, ◌+◌, ◌*◌, ◌-◌, ◌/◌, ◌≤◌, ◌<◌, List, [], ◌∷◌, ◌++◌, map, length, get_or, take, drop, set, refl, sym, ap, ◌∙◌, append-nil, arith, add-one, drop-cons}
+use Rattle.std.proofs.Common.{◌≡◌, cond, eqb, ltb, min, ℕ, zero, suc, ◌+◌, ◌*◌, ◌-◌, ◌/◌, ◌≤◌, ◌<◌, List, [], ◌∷◌, ◌++◌, map, length, get_or, take, drop, set, refl, sym, ap, ◌∙◌, append-nil, arith, add-one, drop-cons}
+use Rattle.std.proofs.lemmas.List.{length-map}
 use native.Mathlib.Nat.{div-zero, zero-div}
 use lib.ListN.{drop_of_length-le}
 use lib.Seq.{take-suc, take-suc-set, take_all, append_snoc, drop-set-lt}
@@ -7,14 +8,14 @@ use Rattle.std.specs.List.{sum as fold_sum, refill}
 use Rattle.std.proofs.lemmas.List.Recursion.{is_sum_by}
 use Rattle.rules.specs.Lists.{All, none, more, sum, add_each, from}
 use Rattle.rules.specs.Units.{max_energy}
-use Rattle.rules.proofs.ShareLaws.{pro-rata-le, share-le}
+use Rattle.rules.proofs.ShareLaws.{pro-rata-le, share-le, share-length}
 use Rattle.arrays.proofs.SliceLaws.{map-small}
 use Rattle.rules.specs.Share.{pro_rata, hand_out, share}
 use Rattle.rules.proofs.SumLaws.{cond-le}
 use Rattle.arrays.proofs.IndexLaws.{from_next}
 use borrow.Author.Tests.{lt-ltb, le-ltb}
 use Rattle.hour_share.specs.declared.Amount.{Amount}
-use Rattle.hour_share.specs.Deductions.{Ranged, InRange, energy_in, deductions_in, deductions_over, deductions_from}
+use Rattle.hour_share.specs.Deductions.{Ranged, AmountInRange, energy_in, deductions_in, deductions_over, deductions_from}
 
 -- "G 0 loses nothing", and so does an amount of 0
 pub none_held : (r g m : ℕ) → m ≡ 0 → 0 ≡ pro_rata r g m
@@ -140,7 +141,7 @@ module _ (xs ss : List ℕ) (i : ℕ) where
 
 -- In one direction, and in one more
 
-pub in-range : {ams : List Amount} (w : ℕ) → All InRange ams → Ranged (map (energy_in w) ams)
+pub in-range : {ams : List Amount} (w : ℕ) → All AmountInRange ams → Ranged (map (energy_in w) ams)
 unfolding energy_in
 in-range w none i = omega arith
 in-range w (more {x = a} h t) zero = omega (arith, cond-le (eqb a.way w) a.energy, h)
@@ -157,8 +158,7 @@ module _ (over : List ℕ) (ams : List Amount) where
   deductions-here w h = rw (from_next 10 w h)
 
   pub deductions-more : (w : ℕ) (s : List ℕ) {lost next : List ℕ} → w < 10 → 0 < get_or over w 0
-      → lost ≡ share (min (get_or over w 0) (sum (map (energy_in w) ams))) (map (energy_in w) ams) → s ≡ deductions_from over ams (w + 1) → next ≡ add_each lost s → next ≡ deductions_from over ams w
-  unfolding deductions_in
+      → lost ≡ deductions_in ams (get_or over w 0) w → s ≡ deductions_from over ams (w + 1) → next ≡ add_each lost s → next ≡ deductions_from over ams w
   deductions-more w s h k el es en = rw (deductions-here w h, lt-ltb 0 (get_or over w 0) k, en, el, es)
 
   pub deductions-same : (w : ℕ) → w < 10 → get_or over w 0 ≤ 0 → deductions_from over ams (w + 1) ≡ deductions_from over ams w
@@ -186,3 +186,22 @@ sums-length (x ∷ xs) (s ∷ ss) e = ap suc (sums-length xs ss (omega arith))
 -- no deduction is above its amount
 pub lost-ranged : (r : ℕ) (ms : List ℕ) → r ≤ sum ms → Ranged ms → Ranged (share r ms)
 lost-ranged r ms h k i = omega (arith, share-le r ms h i, k i)
+
+-- what each loses in one direction
+module _ (excess w : ℕ) (ams : List Amount) where
+  pub lost-said : {x ms : List ℕ} → ms ≡ map (energy_in w) ams → x ≡ share (min excess (sum ms)) ms → x ≡ deductions_in ams excess w
+  unfolding deductions_in
+  lost-said em ex = rw (ex, em)
+
+  pub lost-length : length (deductions_in ams excess w) ≡ length ams
+  unfolding deductions_in
+  lost-length = share-length _ (map (energy_in w) ams) (omega arith) ∙ length-map ams (energy_in w)
+
+  pub lost-small : All AmountInRange ams → Ranged (deductions_in ams excess w)
+  unfolding deductions_in
+  lost-small h = lost-ranged _ (map (energy_in w) ams) (omega arith) (in-range w h)
+
+-- what is said of each after a map
+pub all-mapped : {A B : Type 0} {P : B → Type 0} (f : A → B) {xs : List A} → All (λ x. P (f x)) xs → All P (map f xs)
+all-mapped f none = none
+all-mapped f (more h t) = more h (all-mapped f t)

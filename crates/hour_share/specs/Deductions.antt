@@ -9,8 +9,8 @@ use Rattle.hour_share.specs.declared.Amount.{Amount}
 abbrev pub Ranged : List ℕ → Type 0
 Ranged energies = (i : ℕ) → get_or energies i 0 ≤ max_energy
 
-abbrev pub InRange : Amount → Type 0
-InRange a = a.energy ≤ max_energy
+abbrev pub AmountInRange : Amount → Type 0
+AmountInRange a = a.energy ≤ max_energy
 
 -- what an amount counts for in direction w, 0 where it runs in another
 unfoldable pub energy_in : ℕ → Amount → ℕ

@@ -6,7 +6,7 @@ ghost use Rattle.std.specs.Fn.{FnReturnsAt};
 ghost use Rattle.rules.specs.Lists.{All, add_each, sum};
 ghost use Rattle.rules.specs.Units.{max_energy};
 ghost use Rattle.rules.specs.Share.{pro_rata, hand_out, share as share_of};
-ghost use Rattle.hour_share.specs.Deductions.{Ranged, InRange, energy_in, deductions_from};
+ghost use Rattle.hour_share.specs.Deductions.{Ranged, AmountInRange, energy_in, deductions_in, deductions_from};
 ghost use Rattle.hour_share.specs.declared.Amount.{Amount};
 
 use arrayvec::ArrayVec;
@@ -25,11 +25,7 @@ impl Amount {
     pub fn energy_in(self, w: usize) -> u32
         ensures { result ≡ energy_in w self }
     {
-        if self.way == w {
-            self.energy
-        } else {
-            0
-        }
+        if self.way == w { self.energy } else { 0 }
     }
 }
 
@@ -109,6 +105,18 @@ fn energies_in(w: usize, amounts: &[Amount]) -> ArrayVec<u32, LODGEMENTS>
     energies
 }
 
+// What each loses in direction w, of its excess.
+fn lost_in(excess: u32, w: usize, amounts: &[Amount]) -> ArrayVec<u32, LODGEMENTS>
+    requires few { length amounts.now ≤ 128 }
+    requires ranged { All AmountInRange amounts.now }
+    ensures value { result.items ≡ deductions_in amounts.now excess w }
+    ensures same_length { length result.items ≡ length amounts.now }
+    ensures ranged_after { Ranged result.items }
+{
+    let energies = energies_in(w, amounts);
+    share(excess, &energies)
+}
+
 // Nothing lost by any.
 fn nothing(amounts: &[Amount]) -> ArrayVec<u32, LODGEMENTS>
     requires { length amounts.now ≤ 128 }
@@ -136,13 +144,13 @@ fn add(deductions: &[u32], sums: &mut [u32])
 // What each loses in all directions, of their excesses; the directions are added from the last to the first, as the rules do.
 fn in_all(over: &[u32; 10], amounts: &[Amount]) -> ArrayVec<u32, LODGEMENTS>
     requires few { length amounts.now ≤ 128 }
-    requires ranged { All InRange amounts.now }
+    requires ranged { All AmountInRange amounts.now }
     ensures { result.items ≡ deductions_from over.now amounts.now 2 }
 {
     let mut sums = nothing(amounts);
     for w in (2..10).rev() {
         if 0 < over[w] {
-            let lost = share(over[w], &energies_in(w, amounts));
+            let lost = lost_in(over[w], w, amounts);
             add(&lost, &mut sums);
         }
     }
@@ -159,7 +167,7 @@ pub fn deductions<T, F: Fn(&T) -> Amount>(
     requires callable { F.IsAlwaysCallable of }
     requires few { length holders.now ≤ 128 }
     requires said { All (λ x. (a : Amount) → FnReturnsAt F.Fn of x a → a ≡ amount x) holders.now }
-    requires ranged { All (λ x. InRange (amount x)) holders.now }
+    requires ranged { All (λ x. AmountInRange (amount x)) holders.now }
     ensures { result.items ≡ deductions_from over.now (map amount holders.now) 2 }
 {
     let mut amounts: ArrayVec<Amount, LODGEMENTS> = ArrayVec::new();

@@ -1,4 +1,4 @@
-use Rattle.std.proofs.Common.{◌≡◌, ℕ, ◌≤◌, ◌++◌, length, take, drop, get_or}
+use Rattle.std.proofs.Common.{◌≡◌, ℕ, ◌≤◌, ◌++◌, take, drop, get_or}
 use Rattle.rules.specs.Lists.{add_each}
 use Rattle.rules.specs.Units.{max_energy}
 use Rattle.rules.specs.Share.{hand_out}

@@ -1,7 +1,6 @@
-use Rattle.std.proofs.Common.{◌+◌, ◌∷◌, [], ap, ◌∙◌, arith, add-one, sym, map}
+use Rattle.std.proofs.Common.{arith, add-one}
 use lib.Seq.{take-suc}
 use mathlib.Core.List.{map-append}
-use Rattle.hour_share.specs.declared.Amount.{Amount}
 use Rattle.hour_share.proofs.nothing.Goals as goal
 
 pub loop-preserved : goal.loop-preserved

@@ -1,4 +1,3 @@
-use Rattle.std.proofs.Common.{arith, rules}
 use Rattle.hour_share.proofs.Laws.{none_held, none-deducted, deducted}
 use Rattle.hour_share.proofs.pro_rata.Goals as goal
 use Rattle.hour_share.proofs.pro_rata.Goals.{then-m-eq0-via-then-m-eq0, then-m-eq0-via-else-m-eq0+then-g-eq0}

@@ -1,6 +1,6 @@
-use Rattle.std.proofs.Common.{arith, ◌≡◌, ◌∙◌, ◌≤◌, ◌-◌, ap, length}
+use Rattle.std.proofs.Common.{arith, ◌∙◌, ◌≤◌, ◌-◌, ap, length}
 use Rattle.std.proofs.lemmas.List.{length-map}
-use Rattle.rules.specs.Share.{pro_rata, share as share_of}
+use Rattle.rules.specs.Share.{pro_rata}
 use Rattle.rules.specs.Lists.{sum}
 use Rattle.rules.proofs.ShareLaws.{floors-le}
 use Rattle.hour_share.proofs.Laws.{floors-ranged, share-said, refilled, out-length}
