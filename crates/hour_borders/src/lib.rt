@@ -55,13 +55,13 @@ pub fn amount(holder: &Holder, energy: u32) -> Amount
 
 // The energy of some holders by way: `of` says what each of them has, and in which direction it runs.
 fn flows<T, F: Fn(&T) -> Amount>(holders: &[T], of: F) -> [u32; 10]
-    ghost amount: { T → Amount }
     requires callable { F.IsAlwaysCallable of }
     requires few { length holders.now ≤ 128 }
-    requires said { All (λ x. (a : Amount) → FnReturnsAt F.Fn of x a → a ≡ amount x) holders.now }
-    requires within { All (λ x. (amount x).way < 10) holders.now }
-    requires ranged { All (λ x. AmountInRange (amount x)) holders.now }
-    ensures sums { (w : ℕ) → get_or result w 0 ≡ sum_of (energy_in w) (map amount holders.now) }
+    requires within { All (λ x. (a : Amount) → FnReturnsAt F.Fn of x a → a.way < 10) holders.now }
+    requires ranged { All (λ x. (a : Amount) → FnReturnsAt F.Fn of x a → AmountInRange a) holders.now }
+    ensures sums { (amount : T → Amount)
+        → All (λ x. (a : Amount) → FnReturnsAt F.Fn of x a → a ≡ amount x) holders.now
+        → (w : ℕ) → get_or result w 0 ≡ sum_of (energy_in w) (map amount holders.now) }
     ensures small { Small result }
 {
     let mut flows = [0u32; 10];
