@@ -1,28 +1,28 @@
 -- Maxima and excesses by index are those of the rules' directions.
 use Prim.Native.Nat.{ℕ, zero, suc, ◌+◌, ◌-◌, ◌/◌, ◌%◌, ◌≤◌, ◌<◌}
 use mathlib.Core.Path.{◌≡◌, refl, ap, ap₂, sym, ◌∙◌}
-use mathlib.Core.Bool.{Bool, true, false, cond, not}
-use mathlib.Core.List.{List, [], ◌∷◌, map, map-map}
+use mathlib.Core.Bool.{Bool, true, false, cond, not, ◌||◌}
+use mathlib.Core.List.{List, [], ◌∷◌, map}
 use native.Mathlib.Omega.{arith}
 use lib.Dec.{ltb, eqb}
-use lib.ListN.{get_or, set, replicate, length, length-set}
-use lib.Seq.{get_or-set_same, get_or-set_other}
+use lib.ListN.{get_or, set, take, drop, replicate, length, length-set}
+use lib.Seq.{drop-cons, get_or-set_same, get_or-set_other}
 use Rattle.std.specs.Prelude.{Option, None, Some, is_some}
 use Rattle.std.specs.Option.{unwrap_or}
-use borrow.Author.Tests.{eqb-true, eqb-false, lt-ltb, le-ltb, ltb-true, ltb-false}
+use Rattle.std.specs.List.{list_any}
+use borrow.Author.Tests.{eqb-true, eqb-false, ltb-true, ltb-false}
 use Rattle.rules.specs.Lists.{All, none, more, keep, any, from}
 use Rattle.rules.specs.Match.{Offer}
 use Rattle.rules.specs.Borders.{Directed, Execution, flow}
 use Rattle.rules.specs.Split.{legacy_flow, maximum_of}
 use Rattle.rules.specs.Withdrawal.{excess_of, overruns}
 use Rattle.rules.proofs.BoolLaws.{by_bool}
-use Rattle.rules.proofs.ListLaws.{all_keep}
 use Rattle.rules.proofs.SplitLaws.{maximum-by-flows}
 use Rattle.rules.proofs.BalanceLaws.{excess-flows}
-use Rattle.arrays.proofs.IndexLaws.{from_all, from_next, from_end, map-all, zeros}
+use Rattle.arrays.proofs.IndexLaws.{from_all}
 use Rattle.hour_borders.specs.Ways.{way_of, directed, energies_of, published_in, over_in}
 use Rattle.hour_borders.specs.Flows.{MarketFlows, BorderFlows, LegacyFlows, ExecutionFlows}
-use Rattle.hour_borders.specs.Limits.{across_of, maximum_in, excess_over, excess_in, non_empty}
+use Rattle.hour_borders.specs.Limits.{across_of, maximum_in, excess_in, non_empty}
 use Rattle.hour_borders.proofs.WayLaws.{way_back, way-low}
 
 -- A loop that writes the indices of the four borders
@@ -199,3 +199,12 @@ unfolding non_empty keep any
 some-over a [] = refl
 some-over a (w ∷ ws) = by_bool (ltb 0 (get_or a w 0)) (λ t. rw t) (λ t. rw t (some-over a ws))
 
+-- a test of the indices from i on is one of the energies there
+any-along : (p : ℕ → Bool) (a : List ℕ) (n i : ℕ) → i + n ≤ length a → any (λ w. p (get_or a w 0)) (from i n) ≡ list_any p (take n (drop i a))
+unfolding any from
+any-along p a zero i h = refl
+any-along p a (suc n) i h = rw (drop-cons a i 0 (omega arith)) (ap (λ b. p (get_or a i 0) || b) (any-along p a n (suc i) (omega arith)))
+
+pub passed-said : (a : List ℕ) → length a ≡ 10 → list_any (λ e. ltb 0 e) (take 8 (drop 2 a)) ≡ non_empty (over_in a)
+unfolding over_in
+passed-said a h = sym (some-over a (from 2 8) ∙ any-along (λ e. ltb 0 e) a 8 2 (omega arith))

@@ -1,4 +1,4 @@
-use Rattle.std.proofs.Common.{arith, ◌≡◌, ◌∙◌}
+use Rattle.std.proofs.Common.{arith}
 use Rattle.hour_borders.specs.Limits.{excess_in}
 use Rattle.hour_borders.proofs.LimitLaws.{fill-next, excesses-said, outer-none}
 use Rattle.hour_borders.proofs.excesses.Goals as goal
