@@ -1,11 +1,12 @@
-use borrow.Author.Tests.{eq-eqb, ne_eqb}
-use Rattle.withdraw_keep.specs.Kept.{runs_over}
+use Rattle.std.proofs.Common.{◌≡◌, sym, ◌∙◌, ap, arith, ltb}
+use Rattle.hour_offers.specs.View.{offer_in}
+use Rattle.withdraw_keep.proofs.KeptLaws.{among-over, among-domestic}
 use Rattle.withdraw_keep.proofs.runs_over.Goals as goal
 
-pub returns-then-border-eq0 : goal.returns-then-border-eq0
-unfolding runs_over
-returns-then-border-eq0 c = rw (eq-eqb _ _ c.if-border-eq0.true)
+pub returns-then-holder-gt0 : goal.returns-then-holder-gt0
+returns-then-holder-gt0 c = rw (c.way.ensures.0) (sym (among-over c.args.over.now (offer_in c.args.offer.now) (omega arith) c.requires))
 
-pub returns : goal.returns
-unfolding runs_over
-returns c = rw (ne_eqb _ _ c.if-border-eq0.false, ← c.way-w.ensures.0)
+pub returns-else-holder-gt0 : goal.returns-else-holder-gt0
+returns-else-holder-gt0 c =
+    let z : c.args.offer.now.holder.border ≡ 0 = omega arith in
+    ap (ltb 0) z ∙ sym (among-domestic c.args.over.now (offer_in c.args.offer.now) z)
