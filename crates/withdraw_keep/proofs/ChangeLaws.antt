@@ -1,5 +1,5 @@
 -- Offers of which only what is offered changes are those of an hour still.
-use Rattle.std.proofs.Common.{ℕ, zero, suc, ◌≡◌, refl, ap, ◌<◌, ◌≤◌, max, List, [], ◌∷◌, ◌++◌, map, take, drop, length, get_or, arith}
+use Rattle.std.proofs.Common.{ℕ, zero, suc, ◌≡◌, refl, ap, ◌≤◌, max, List, [], ◌∷◌, ◌++◌, map, take, drop, length, arith}
 use Rattle.rules.specs.Lists.{All, none, more, Each, each0, each}
 use Rattle.rules.specs.Match.{Offer}
 use Rattle.rules.proofs.ElementLaws.{each-pairwise}
@@ -29,12 +29,6 @@ changed-sound e s = record {
 }
 
 -- Of a loop that writes each element
-
--- what is still to come is as it was
-pub ahead-read : {A : Type 0} (f : A → A) (xs : List A) (i : ℕ) (d : A) → i < length xs → get_or (map f (take i xs) ++ drop i xs) i d ≡ get_or xs i d
-ahead-read f [] i d h = absurd (omega arith)
-ahead-read f (x ∷ xs) zero d h = refl
-ahead-read f (x ∷ xs) (suc i) d h = ahead-read f xs i d (omega arith)
 
 -- at the end each is written
 pub all-written : {A : Type 0} (f : A → A) (xs : List A) (i : ℕ) → length xs ≤ i → map f (take i xs) ++ drop i xs ≡ map f xs

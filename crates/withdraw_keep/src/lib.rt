@@ -1,7 +1,7 @@
 // Step 1 of a withdrawal (document 01, "Withdrawal step"): offers in a direction passed keep only what is matched.
 #![tactic(auto)]
 
-ghost use Rattle.std.specs.Prelude.{◌≡◌, ◌<◌, map};
+ghost use Rattle.std.specs.Prelude.{◌≡◌, map};
 ghost use Rattle.rules.specs.Withdrawal.{keep_matched, runs_among};
 ghost use Rattle.hour_offers.specs.View.{offer_in, offers_in};
 ghost use Rattle.hour_offers.specs.Sound.{Sound};
@@ -18,17 +18,15 @@ pub enum Group {
 
 // Whether an offer runs in a direction passed; a domestic one is at no border.
 pub fn runs_over(over: &[u32; 10], offer: &Offer) -> bool
-    requires { offer.now.holder.border < 5 }
     ensures { result ≡ runs_among (over_in over.now) (offer_in offer.now) }
 {
     let holder = &offer.holder;
-    0 < holder.border && 0 < over[hour_borders::way(holder.border, holder.purchase)]
+    (1..=4).contains(&holder.border) && 0 < over[hour_borders::way(holder.border, holder.purchase)]
 }
 
 // What an offer keeps offered.
 #[tactic(auto, unfolding(rules::specs::Withdrawal::keep_matched, rules::specs::Match::with_energies))]
 fn kept(offer: &Offer, over: &[u32; 10]) -> u32
-    requires { offer.now.holder.border < 5 }
     ensures { result ≡ (keep_matched (over_in over.now) (offer_in offer.now)).offered }
 {
     if runs_over(over, offer) && !offer.holder.legacy {
@@ -40,9 +38,8 @@ fn kept(offer: &Offer, over: &[u32; 10]) -> u32
 
 // 1. "On each such border, offers in that direction, not legacy, keep only what is matched."
 pub fn keep_matched(offers: &mut [Offer], over: &[u32; 10])
-    requires { Sound (offers_in offers.old) }
     ensures kept { offers_in offers.new ≡ map (keep_matched (over_in over.now)) (offers_in offers.old) }
-    ensures sound { Sound (offers_in offers.new) }
+    ensures sound { Sound (offers_in offers.old) → Sound (offers_in offers.new) }
 {
     for offer in offers.iter_mut() {
         offer.offered = kept(offer, over);

@@ -1,12 +1,14 @@
-use Rattle.std.proofs.Common.{◌≡◌, sym, ◌∙◌, ap, arith, ltb}
+use Rattle.std.proofs.Common.{sym, ◌∙◌, rules, ◌<◌}
 use Rattle.hour_offers.specs.View.{offer_in}
-use Rattle.withdraw_keep.proofs.KeptLaws.{among-over, among-domestic}
+use Rattle.withdraw_keep.proofs.KeptLaws.{among-over, among-outside}
 use Rattle.withdraw_keep.proofs.runs_over.Goals as goal
 
-pub returns-then-holder-gt0 : goal.returns-then-holder-gt0
-returns-then-holder-gt0 c = rw (c.way.ensures.0) (sym (among-over c.args.over.now (offer_in c.args.offer.now) (omega arith) c.requires))
+pub returns-then-contains : goal.returns-then-contains
+returns-then-contains c =
+    let h : 0 < c.args.offer.now.holder.border = search rules in
+    let k : c.args.offer.now.holder.border < 5 = search rules in
+    rw (c.way.ensures.0) (sym (among-over c.args.over.now (offer_in c.args.offer.now) h k))
 
-pub returns-else-holder-gt0 : goal.returns-else-holder-gt0
-returns-else-holder-gt0 c =
-    let z : c.args.offer.now.holder.border ≡ 0 = omega arith in
-    ap (ltb 0) z ∙ sym (among-domestic c.args.over.now (offer_in c.args.offer.now) z)
+pub returns-else-contains : goal.returns-else-contains
+returns-else-contains c =
+    c.if-contains.false ∙ sym (among-outside c.args.over.now (offer_in c.args.offer.now) (λ h k. search rules))
