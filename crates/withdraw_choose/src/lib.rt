@@ -1,22 +1,20 @@
 // Step 2 of a withdrawal (document 01, "Withdrawal step"): which offers give way.
 #![tactic(auto)]
 
-ghost use Rattle.std.specs.Prelude.{◌≡◌, ◌<◌, ◌==◌, ◌&&◌, not, min, max, Bool, cond};
-ghost use Rattle.std.specs.Bool.{beq};
-ghost use Rattle.rules.specs.Withdrawal.{extreme, runs_among, prices_over, purchases_below, sales_above, group_of};
+ghost use Rattle.std.specs.Prelude.{◌≡◌, ◌^◌, ◌<◌, ◌&&◌, not, min, max, true, false, sum, map, filter, nat_lt};
+ghost use Rattle.std.specs.List.{sum_by, reduce};
+ghost use Rattle.rules.specs.Withdrawal.{group_of};
 ghost use Rattle.hour_offers.specs.View.{offer_in, offers_in};
-ghost use Rattle.hour_offers.specs.Sound.{Sound};
 ghost use Rattle.hour_borders.specs.Ways.{over_in};
 ghost use Rattle.withdraw_keep.specs.Group.{group_in};
-ghost use Rattle.withdraw_choose.specs.Prices.{price_in};
+ghost use Rattle.withdraw_choose.specs.Prices.{priced_of};
 
 use hour_offers::Offer;
 use withdraw_keep::Group;
 
 // Whether an offer is "among matched, non-legacy offers there in the direction passed", of one side.
 fn is_priced(purchase: bool, over: &[u32; 10], offer: &Offer) -> bool
-    requires { offer.now.holder.border < 5 }
-    ensures { result ≡ (beq offer.now.holder.purchase purchase && (0 < offer.now.matched) && not offer.now.holder.legacy && runs_among (over_in over.now) (offer_in offer.now)) }
+    ensures { result ≡ priced_of purchase (over_in over.now) (offer_in offer.now) }
 {
     let holder = &offer.holder;
     holder.purchase == purchase
@@ -27,8 +25,7 @@ fn is_priced(purchase: bool, over: &[u32; 10], offer: &Offer) -> bool
 
 // 2. "the lowest purchase price" among these.
 fn lowest_purchase_price(offers: &[Offer], over: &[u32; 10]) -> Option<u32>
-    requires { Sound (offers_in offers.now) }
-    ensures { price_in result ≡ extreme min (prices_over true (over_in over.now) (offers_in offers.now)) }
+    ensures { result ≡ reduce min (map (λ o. o.price) (filter (λ o. priced_of true (over_in over.now) (offer_in o)) offers.now)) }
 {
     offers
         .iter()
@@ -39,8 +36,7 @@ fn lowest_purchase_price(offers: &[Offer], over: &[u32; 10]) -> Option<u32>
 
 // "and the highest sale price".
 fn highest_sale_price(offers: &[Offer], over: &[u32; 10]) -> Option<u32>
-    requires { Sound (offers_in offers.now) }
-    ensures { price_in result ≡ extreme max (prices_over false (over_in over.now) (offers_in offers.now)) }
+    ensures { result ≡ reduce max (map (λ o. o.price) (filter (λ o. priced_of false (over_in over.now) (offer_in o)) offers.now)) }
 {
     offers
         .iter()
@@ -51,8 +47,8 @@ fn highest_sale_price(offers: &[Offer], over: &[u32; 10]) -> Option<u32>
 
 // "C is all matched purchases in the hour below the first".
 fn purchases_below(price: u32, offers: &[Offer]) -> u32
-    requires { Sound (offers_in offers.now) }
-    ensures { result ≡ purchases_below price (offers_in offers.now) }
+    requires { sum_by (λ o. o.matched) offers.now < 2 ^ 32 }
+    ensures { result ≡ sum (map (λ o. o.matched) (filter (λ o. o.holder.purchase && nat_lt o.price price) offers.now)) }
 {
     offers
         .iter()
@@ -63,8 +59,8 @@ fn purchases_below(price: u32, offers: &[Offer]) -> u32
 
 // "V' all matched sales above the second."
 fn sales_above(price: u32, offers: &[Offer]) -> u32
-    requires { Sound (offers_in offers.now) }
-    ensures { result ≡ sales_above price (offers_in offers.now) }
+    requires { sum_by (λ o. o.matched) offers.now < 2 ^ 32 }
+    ensures { result ≡ sum (map (λ o. o.matched) (filter (λ o. not o.holder.purchase && nat_lt price o.price) offers.now)) }
 {
     offers
         .iter()
@@ -75,7 +71,7 @@ fn sales_above(price: u32, offers: &[Offer]) -> u32
 
 // "With both prices, purchases go if C ≤ V', else sales; with one, its side goes"; "with neither price", legacy offers.
 pub fn choose(offers: &[Offer], over: &[u32; 10]) -> Group
-    requires { Sound (offers_in offers.now) }
+    requires { sum_by (λ o. o.matched) offers.now < 2 ^ 32 }
     ensures { group_in result ≡ group_of (over_in over.now) (offers_in offers.now) }
 {
     let lowest = lowest_purchase_price(offers, over);
