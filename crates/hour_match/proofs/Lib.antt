@@ -1,4 +1,1 @@
-pub mod ViewLaws
-pub mod OrderLaws
-pub mod MatchLaws
-pub mod WalkLaws
+
