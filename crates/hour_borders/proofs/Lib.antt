@@ -1,3 +1,0 @@
-pub mod WayLaws
-pub mod FlowLaws
-pub mod LimitLaws
