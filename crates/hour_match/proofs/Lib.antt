@@ -1,1 +1,9 @@
-
+pub mod SortLaws
+pub mod ViewLaws
+pub mod OrderLaws
+pub mod KeyLaws
+pub mod WalkLaws
+pub mod FillLaws
+pub mod MatchLaws
+pub mod PriceLaws
+pub mod KeptLaws

@@ -163,12 +163,12 @@ pub fn deductions<T, F: Fn(&T) -> Amount>(
     holders: &[T],
     of: F,
 ) -> ArrayVec<u32, LODGEMENTS>
-    ghost amount: { T → Amount }
     requires callable { F.IsAlwaysCallable of }
     requires few { length holders.now ≤ 128 }
-    requires said { All (λ x. (a : Amount) → FnReturnsAt F.Fn of x a → a ≡ amount x) holders.now }
-    requires ranged { All (λ x. AmountInRange (amount x)) holders.now }
-    ensures { result.items ≡ deductions_from over.now (map amount holders.now) 2 }
+    requires ranged { All (λ x. (a : Amount) → FnReturnsAt F.Fn of x a → AmountInRange a) holders.now }
+    ensures { (amount : T → Amount)
+        → All (λ x. (a : Amount) → FnReturnsAt F.Fn of x a → a ≡ amount x) holders.now
+        → result.items ≡ deductions_from over.now (map amount holders.now) 2 }
 {
     let mut amounts: ArrayVec<Amount, LODGEMENTS> = ArrayVec::new();
     for x in holders {

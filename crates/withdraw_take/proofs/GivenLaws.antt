@@ -1,18 +1,29 @@
 -- Who gives way, and what is taken, direction by direction.
-use Rattle.std.proofs.Common.{ℕ, zero, suc, ◌+◌, ◌-◌, ◌≡◌, refl, sym, ◌∙◌, ap, ◌<◌, ◌≤◌, max, min, Bool, true, false, cond, not, ◌&&◌, ◌||◌, List, [], ◌∷◌, ◌++◌, map, take, drop, length, get_or, set, ltb, eqb, arith}
-use Rattle.rules.specs.Lists.{any, keep, from, sum, add_each}
+use Rattle.std.proofs.Common.{ap₂, add-one, ℕ, zero, suc, ◌+◌, ◌-◌, ◌≡◌, refl, sym, ◌∙◌, ap, ◌<◌, ◌≤◌, max, Bool, true, false, cond, ◌&&◌, ◌||◌, List, [], ◌∷◌, map, take, length, get_or, set, ltb, eqb, arith}
+use Rattle.rules.specs.Lists.{any, keep, from, add_each}
 use Rattle.rules.specs.Match.{Offer, with_energies}
-use Rattle.rules.specs.Borders.{Directed, runs, at_border, keeps}
-use Rattle.rules.specs.Share.{share}
+use Rattle.rules.specs.Borders.{Directed, at_border, keeps}
 use Rattle.rules.specs.Withdrawal.{Group, runs_in, runs_among, in_group, gives_way, amounts, deductions, all_deductions, remain, take_from}
+use Rattle.rules.specs.Lists.{Each, each0, each}
 use Rattle.rules.proofs.BoolLaws.{by_bool}
-use Rattle.std.proofs.lemmas.List.{length-map, map-set, get_or-map}
+use Rattle.rules.proofs.ElementLaws.{each-refl}
+use lib.Seq.{take_all}
+use Rattle.hour_offers.specs.declared.Offer.{Offer as Held}
+use Rattle.hour_offers.specs.View.{offer_in, offers_in}
+use Rattle.hour_offers.specs.Sound.{Sound}
+use Rattle.withdraw_keep.proofs.ChangeLaws.{Changed, changed-sound}
+use Rattle.std.proofs.lemmas.List.{length-map, map-set}
+use Rattle.std.proofs.Math.ListN.{get_or-map}
+use Rattle.rules.specs.Units.{max_energy}
+use Rattle.rules.proofs.SumLaws.{cond-le}
+use native.Mathlib.Nat.{le_trans}
+use Rattle.hour_share.specs.Deductions.{AmountInRange}
 use Rattle.hour_share.proofs.Laws.{sums-length, lost-length}
 use Rattle.hour_share.specs.declared.Amount.{Amount}
 use Rattle.hour_share.specs.Deductions.{energy_in, deductions_in, deductions_over, deductions_from}
 use Rattle.hour_borders.specs.Ways.{way_of, directed, over_in}
 use Rattle.hour_borders.proofs.WayLaws.{runs-directed}
-use Rattle.withdraw_take.specs.Given.{gives_in, amount_of}
+use Rattle.withdraw_take.specs.Given.{gives_in, given_of}
 
 -- an offer gives way in one of the directions passed if it runs in one and is of the group
 pub gives-among : (g : Group) (ds : List Directed) (o : Offer) → gives_in g ds o ≡ (runs_among ds o && in_group g o)
@@ -29,27 +40,27 @@ gives-among g (d ∷ ds) o = rw (gives-among g ds o) (either-both (runs_in d o) 
 
 module _ (g : Group) (over : List ℕ) where
   -- what an offer that gives way in a direction counts for
-  energy : (w : ℕ) (o : Offer) → energy_in w (amount_of g o) ≡ cond (gives_way g (directed over w) o) (at_border o.holder o.matched) 0
+  energy : (w : ℕ) (o : Offer) → energy_in w (given_of g o) ≡ cond (gives_way g (directed over w) o) (at_border o.holder o.matched) 0
   unfolding energy_in gives_way runs_in at_border
   energy w o =
       rw (runs-directed over w o.holder)
       (by_bool (eqb (way_of o.holder.border o.holder.purchase) w) (λ t. rw t refl) (λ t. rw t refl))
 
-  energies : (w : ℕ) (os : List Offer) → map (energy_in w) (map (amount_of g) os) ≡ amounts g (directed over w) os
+  energies : (w : ℕ) (os : List Offer) → map (energy_in w) (map (given_of g) os) ≡ amounts g (directed over w) os
   unfolding amounts
   energies w [] = refl
   energies w (o ∷ os) = rw (energy w o) (ap (λ l. cond (gives_way g (directed over w) o) (at_border o.holder o.matched) 0 ∷ l) (energies w os))
 
   -- "is taken by Share"
-  lost : (w : ℕ) (os : List Offer) → deductions_in (map (amount_of g) os) (get_or over w 0) w ≡ deductions g os (directed over w)
+  lost : (w : ℕ) (os : List Offer) → deductions_in (map (given_of g) os) (get_or over w 0) w ≡ deductions g os (directed over w)
   unfolding deductions_in deductions directed
   lost w os = rw (energies w os)
 
-  nothing : (os : List Offer) → map {B = ℕ} (λ a. 0) (map (amount_of g) os) ≡ map (λ o. 0) os
+  nothing : (os : List Offer) → map {B = ℕ} (λ a. 0) (map (given_of g) os) ≡ map (λ o. 0) os
   nothing [] = refl
   nothing (o ∷ os) = ap (λ l. 0 ∷ l) (nothing os)
 
-  lost-over : (ws : List ℕ) (os : List Offer) → deductions_over over (map (amount_of g) os) ws ≡ all_deductions g os (map (directed over) (keep (λ w. ltb 0 (get_or over w 0)) ws))
+  lost-over : (ws : List ℕ) (os : List Offer) → deductions_over over (map (given_of g) os) ws ≡ all_deductions g os (map (directed over) (keep (λ w. ltb 0 (get_or over w 0)) ws))
   unfolding deductions_over all_deductions keep
   lost-over [] os = nothing os
   lost-over (w ∷ ws) os =
@@ -58,30 +69,33 @@ module _ (g : Group) (over : List ℕ) where
       (λ t. rw (t, lost-over ws os))
 
   -- in all directions passed
-  pub all-lost : (os : List Offer) → deductions_from over (map (amount_of g) os) 2 ≡ all_deductions g os (over_in over)
+  pub all-lost : (os : List Offer) → deductions_from over (map (given_of g) os) 2 ≡ all_deductions g os (over_in over)
   unfolding deductions_from over_in
   all-lost os = lost-over (from 2 8) os
 
 -- each loses something, or nothing
-over-length : (over : List ℕ) (as : List Amount) (ws : List ℕ) → length (deductions_over over as ws) ≡ length as
-unfolding deductions_over
-over-length over as [] = length-map as (λ a. 0)
-over-length over as (w ∷ ws) =
-    by_bool (ltb 0 (get_or over w 0))
-    (λ t. rw t (sums-length (deductions_in as (get_or over w 0) w) (deductions_over over as ws) (lost-length as (get_or over w 0) w ∙ sym (over-length over as ws)) ∙ over-length over as ws))
-    (λ t. rw t (over-length over as ws))
+either-long : (b : Bool) (ks ls : List ℕ) {n : ℕ} → length ks ≡ n → length ls ≡ n → length (cond b (add_each ks ls) ls) ≡ n
+either-long true ks ls h k = sums-length ks ls (h ∙ sym k) ∙ k
+either-long false ks ls h k = k
 
-pub lost-long : (over : List ℕ) (as : List Amount) (w : ℕ) → length (deductions_from over as w) ≡ length as
+over-long : (over : List ℕ) (ms : List Amount) (ws : List ℕ) → length (deductions_over over ms ws) ≡ length ms
+unfolding deductions_over
+over-long over ms [] = length-map ms (λ a. 0)
+over-long over ms (w ∷ ws) =
+    either-long (ltb 0 (get_or over w 0)) (deductions_in ms (get_or over w 0) w) (deductions_over over ms ws) (lost-length (get_or over w 0) w ms) (over-long over ms ws)
+
+-- each of the offers
+pub lost-long : (g : Group) (over : List ℕ) (os : List Offer) → length (all_deductions g os (over_in over)) ≡ length os
 unfolding deductions_from
-lost-long over as w = over-length over as (from w (10 - w))
+lost-long g over os = ap length (sym (all-lost g over os)) ∙ over-long over (map (given_of g) os) (from 2 8) ∙ length-map os (given_of g)
 
 -- One offer more that is written
 
 module _ (p : Offer → Bool) where
-  remain-none : (os : List Offer) → remain p [] os ≡ os
+  pub left-none : (os : List Offer) → remain p [] os ≡ os
   unfolding remain
-  remain-none [] = refl
-  remain-none (o ∷ os) = refl
+  left-none [] = refl
+  left-none (o ∷ os) = refl
 
   left : ℕ → Offer → Offer
   left k o = with_energies (cond (p o) (keeps o.holder o.matched k) o.offered) o.matched o
@@ -99,5 +113,60 @@ module _ (p : Offer → Bool) where
   unfolding remain left
   remain-more ks [] i d h e = absurd (omega arith)
   remain-more [] (o ∷ os) i d h e = absurd (omega arith)
-  remain-more (k ∷ ks) (o ∷ os) zero d h e = ap (λ l. left k o ∷ l) (sym (remain-none os))
+  remain-more (k ∷ ks) (o ∷ os) zero d h e = ap (λ l. left k o ∷ l) (sym (left-none os))
   remain-more (k ∷ ks) (o ∷ os) (suc i) d h e = ap (λ l. left k o ∷ l) (remain-more ks os i d (omega arith) (omega arith))
+
+module _ (p : Offer → Bool) (ks : List ℕ) (os ps : List Held) (i k r : ℕ) (y : Held) where
+  -- one more offer with what remains offered of it
+  pub left-more : i < length os → length ks ≡ length os → k ≡ get_or ks i 0 → offers_in ps ≡ remain p (take i ks) (offers_in os) → y ≡ get_or ps i y
+      → r ≡ cond (p (offer_in y)) (y.matched - k) y.offered
+      → offers_in (set ps i (record { holder = y.holder; price = y.price; offered = r; matched = y.matched })) ≡ remain p (take (i + 1) ks) (offers_in os)
+  unfolding keeps with_energies left
+  left-more h e ek ep ey er =
+      let n : i < length (offers_in os) = rw (length-map os offer_in) h in
+      let o : offer_in y ≡ get_or (offers_in os) i (offer_in y) =
+      ap offer_in ey ∙ sym (get_or-map offer_in ps i y) ∙ ap (λ l. get_or l i (offer_in y)) ep ∙ remain-read p ks (offers_in os) i (offer_in y) n in
+      let z : left p k (offer_in y) ≡ left p (get_or ks i 0) (get_or (offers_in os) i (offer_in y)) = ap₂ (left p) ek o in
+      rw (er, map-set offer_in ps i (record { holder = y.holder; price = y.price; offered = cond (p (offer_in y)) (y.matched - k) y.offered; matched = y.matched }), ep, add-one i)
+      (ap (set (remain p (take i ks) (offers_in os)) i) z ∙ remain-more p ks (offers_in os) i (offer_in y) n (e ∙ sym (length-map os offer_in)))
+
+-- at the end each is written
+pub all-left : (p : Offer → Bool) (ks : List ℕ) (os : List Offer) (i : ℕ) → length ks ≤ i → remain p (take i ks) os ≡ remain p ks os
+all-left p ks os i h = ap (λ l. remain p l os) (take_all i ks h)
+
+-- "is taken by Share", of each offer
+pub taken : (g : Group) (over : List ℕ) (os : List Offer) → remain (gives_in g (over_in over)) (all_deductions g os (over_in over)) os ≡ take_from g (over_in over) os
+unfolding take_from
+taken g over os = refl
+
+map-read : {A B C : Type 0} (r : A → B) (f : B → C) (xs : List A) → map f (map r xs) ≡ map (λ x. f (r x)) xs
+map-read r f [] = refl
+map-read r f (x ∷ xs) = ap (λ l. f (r x) ∷ l) (map-read r f xs)
+
+-- what each loses is the rules'
+pub lost-said : (g : Group) (over : List ℕ) (os : List Held) → deductions_from over (map (λ o. given_of g (offer_in o)) os) 2 ≡ all_deductions g (offers_in os) (over_in over)
+lost-said g over os = ap (λ l. deductions_from over l 2) (sym (map-read offer_in (given_of g) os)) ∙ all-lost g over (offers_in os)
+
+-- the offers are those of an hour still
+unchanged : (o : Offer) → Changed o o
+unchanged o = record { holder = refl; price = refl; matched = refl; offered = omega arith }
+
+left-le : (b : Bool) (o : Offer) (k : ℕ) → cond b (keeps o.holder o.matched k) o.offered ≤ max o.offered o.matched
+unfolding keeps
+left-le true o k = omega arith
+left-le false o k = omega arith
+
+remain-changed : (p : Offer → Bool) (ks : List ℕ) (os : List Offer) → Each Changed os (remain p ks os)
+unfolding remain with_energies
+remain-changed p [] [] = each0
+remain-changed p [] (o ∷ os) = each-refl unchanged (o ∷ os)
+remain-changed p (k ∷ ks) [] = each0
+remain-changed p (k ∷ ks) (o ∷ os) = each (record { holder = refl; price = refl; matched = refl; offered = left-le (p o) o k }) (remain-changed p ks os)
+
+pub taken-sound : (g : Group) (ds : List Directed) {os : List Offer} → Sound os → Sound (take_from g ds os)
+unfolding take_from
+taken-sound g ds {os} s = changed-sound (remain-changed (gives_in g ds) (all_deductions g os ds) os) s
+
+-- what gives way is no more than is matched
+pub given-small : (g : Group) (o : Offer) → o.matched ≤ max_energy → AmountInRange (given_of g o)
+given-small g o h = le_trans (cond-le (in_group g o) o.matched) h

@@ -1,5 +1,5 @@
 -- Steps 3 and 4: who gives way, and with what.
-use Rattle.std.specs.Prelude.{ℕ, Bool, cond, List}
+use Rattle.std.specs.Prelude.{Bool, cond, List}
 use Rattle.rules.specs.Lists.{any}
 use Rattle.rules.specs.Match.{Offer}
 use Rattle.rules.specs.Borders.{Directed}
@@ -12,5 +12,5 @@ abbrev pub gives_in : Group → List Directed → Offer → Bool
 gives_in g ds o = any (λ d. gives_way g d o) ds
 
 -- what an offer of the group has matched, in the direction in which it runs; the others have nothing
-abbrev pub amount_of : Group → Offer → Amount
-amount_of g o = record { way = way_of o.holder.border o.holder.purchase; energy = cond (in_group g o) o.matched 0 }
+abbrev pub given_of : Group → Offer → Amount
+given_of g o = record { way = way_of o.holder.border o.holder.purchase; energy = cond (in_group g o) o.matched 0 }

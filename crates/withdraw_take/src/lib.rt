@@ -4,15 +4,17 @@
 ghost use Rattle.std.specs.Prelude.{◌≡◌, ◌≤◌, ◌-◌, if◌then◌else◌, length};
 ghost use Rattle.rules.specs.Lists.{All};
 ghost use Rattle.rules.specs.Units.{max_energy};
-ghost use Rattle.rules.specs.Withdrawal.{in_group, take_from};
+ghost use Rattle.rules.specs.Withdrawal.{in_group, all_deductions, take_from};
 ghost use Rattle.hour_offers.specs.View.{offer_in, offers_in};
 ghost use Rattle.hour_offers.specs.Sound.{Sound};
 ghost use Rattle.hour_borders.specs.Ways.{over_in};
 ghost use Rattle.withdraw_keep.specs.Group.{group_in};
-ghost use Rattle.withdraw_take.specs.Given.{gives_in, amount_of};
+ghost use Rattle.withdraw_take.specs.Given.{gives_in, given_of};
 
+use arrayvec::ArrayVec;
 use hour_offers::Offer;
 use hour_share::Amount;
+use rules::LODGEMENTS;
 use withdraw_keep::Group;
 
 // Whether an offer is of the group.
@@ -37,18 +39,15 @@ fn gives_way(over: &[u32; 10], group: Group, offer: &Offer) -> bool
 }
 
 // What an offer gives way with, in the direction in which it runs.
-fn amount(group: Group, offer: &Offer) -> Amount
-    ensures { result ≡ amount_of (group_in group) (offer_in offer.now) }
+fn given(group: Group, offer: &Offer) -> Amount
+    ensures { result ≡ given_of (group_in group) (offer_in offer.now) }
 {
-    let holder = &offer.holder;
-    Amount {
-        way: hour_borders::way(holder.border, holder.purchase),
-        energy: if is_inside(group, offer) {
-            offer.matched
-        } else {
-            0
-        },
-    }
+    let energy = if is_inside(group, offer) {
+        offer.matched
+    } else {
+        0
+    };
+    hour_borders::amount(&offer.holder, energy)
 }
 
 // What remains offered of an offer: where it gives way, "what remains offered is matched less taken".
@@ -62,6 +61,15 @@ fn remaining(over: &[u32; 10], group: Group, offer: &Offer, deduction: u32) -> u
     }
 }
 
+// What each offer loses in all directions passed.
+fn deductions(over: &[u32; 10], group: Group, offers: &[Offer]) -> ArrayVec<u32, LODGEMENTS>
+    requires few { length offers.now ≤ 128 }
+    requires in_range { All (λ o. o.matched ≤ max_energy) (offers_in offers.now) }
+    ensures { result.items ≡ all_deductions (group_in group) (offers_in offers.now) (over_in over.now) }
+{
+    hour_share::deductions(over, offers, move |offer| given(group, offer))
+}
+
 // 3. and 4. Each direction's excess is taken from those that give way in it.
 pub fn take_from(offers: &mut [Offer], over: &[u32; 10], group: Group)
     requires few { length offers.old ≤ 128 }
@@ -69,7 +77,7 @@ pub fn take_from(offers: &mut [Offer], over: &[u32; 10], group: Group)
     ensures taken { offers_in offers.new ≡ take_from (group_in group) (over_in over.now) (offers_in offers.old) }
     ensures sound { Sound (offers_in offers.old) → Sound (offers_in offers.new) }
 {
-    let deductions = hour_share::deductions(over, offers, |offer| amount(group, offer));
+    let deductions = deductions(over, group, offers);
     for (i, offer) in offers.iter_mut().enumerate() {
         offer.offered = remaining(over, group, offer, deductions[i]);
     }

@@ -7,7 +7,7 @@ pub returns-then-contains : goal.returns-then-contains
 returns-then-contains c =
     let h : 0 < c.args.offer.now.holder.border = search rules in
     let k : c.args.offer.now.holder.border < 5 = search rules in
-    rw (c.way.ensures.0) (sym (among-over c.args.over.now (offer_in c.args.offer.now) h k))
+    rw (c.way.ensures.index) (sym (among-over c.args.over.now (offer_in c.args.offer.now) h k))
 
 pub returns-else-contains : goal.returns-else-contains
 returns-else-contains c =
