@@ -1,16 +1,12 @@
 -- Offers of which only what is offered changes are those of an hour still.
-use Rattle.std.proofs.Common.{ℕ, zero, suc, ◌≡◌, refl, ap, ◌≤◌, max, List, [], ◌∷◌, ◌++◌, map, take, drop, length, arith}
+use Rattle.std.proofs.Common.{ℕ, zero, suc, ◌≡◌, refl, ap, ◌≤◌, List, [], ◌∷◌, ◌++◌, map, take, drop, length, arith}
 use Rattle.rules.specs.Lists.{All, none, more, Each, each0, each}
 use Rattle.rules.specs.Match.{Offer}
 use Rattle.rules.proofs.ElementLaws.{each-pairwise}
+use Rattle.rules.proofs.MatchLaws.{Within}
+use Rattle.rules.proofs.WithdrawalLaws.{Lowered}
 use Rattle.hour_offers.specs.Sound.{InRange, Sound}
-
--- an offer and what a step makes of it: it offers no more than before, or than is matched
-pub record Changed (before after : Offer) : Type 0 where
-  pub holder : after.holder ≡ before.holder
-  pub price : after.price ≡ before.price
-  pub matched : after.matched ≡ before.matched
-  pub offered : after.offered ≤ max before.offered before.matched
+use Rattle.withdraw_keep.specs.Change.{Changed}
 
 each-long : {R : Offer → Offer → Type 0} {os ps : List Offer} → Each R os ps → length ps ≡ length os
 each-long each0 = refl
@@ -27,6 +23,11 @@ changed-sound e s = record {
   rising = each-pairwise (λ a b x y r q h. rw (r.holder, q.holder) h) e s.rising;
   in_range = changed-ranges e s.in_range;
 }
+
+-- where no more is matched than offered, no offer offers more
+pub changed-lowered : {os ps : List Offer} → Each Changed os ps → Within os → Each Lowered os ps
+changed-lowered each0 none = each0
+changed-lowered (each r t) (more h k) = each (record { holder = r.holder; price = r.price; offered = let x = r.offered in omega arith }) (changed-lowered t k)
 
 -- Of a loop that writes each element
 

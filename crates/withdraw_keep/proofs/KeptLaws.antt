@@ -8,13 +8,14 @@ use Rattle.rules.specs.Withdrawal.{runs_in, runs_among, keep_matched}
 use Rattle.rules.proofs.ElementLaws.{all-every, each_map}
 use Rattle.hour_offers.specs.declared.Offer.{Offer as Held}
 use Rattle.hour_offers.specs.View.{offer_in, offers_in}
-use Rattle.hour_offers.specs.Sound.{Sound}
 use Rattle.rules.specs.Borders.{runs}
 use Rattle.rules.specs.Lists.{any, keep, from}
 use Rattle.rules.proofs.BoolLaws.{by_bool}
 use Rattle.hour_borders.specs.Ways.{way_of, directed, over_in}
 use Rattle.hour_borders.proofs.WayLaws.{runs-directed, among-ways, among_none}
-use Rattle.withdraw_keep.proofs.ChangeLaws.{changed-sound, read-mapped}
+use Rattle.withdraw_keep.specs.Change.{Changed}
+use Rattle.withdraw_keep.proofs.ChangeLaws.{read-mapped}
+use Rattle.rules.specs.Lists.{Each}
 
 way-far : (b : ℕ) (e : Bool) → 4 < b → 10 ≤ way_of b e
 unfolding way_of
@@ -63,8 +64,8 @@ kept-le : (b : Bool) (m e : ℕ) → cond b m e ≤ max e m
 kept-le true m e = omega arith
 kept-le false m e = omega arith
 
--- and those of an hour still
-pub kept-sound : (ds : List Directed) {os : List Offer} → Sound os → Sound (map (keep_matched ds) os)
+-- no offer offers more than before, or than is matched
+pub kept-changed : (ds : List Directed) (os : List Offer) → Each Changed os (map (keep_matched ds) os)
 unfolding keep_matched with_energies
-kept-sound ds {os} s =
-    changed-sound (each_map (keep_matched ds) (all-every (λ o. record { holder = refl; price = refl; matched = refl; offered = kept-le (runs_among ds o && not o.holder.legacy) o.matched o.offered }) os)) s
+kept-changed ds os =
+    each_map (keep_matched ds) (all-every (λ o. record { holder = refl; price = refl; matched = refl; offered = kept-le (runs_among ds o && not o.holder.legacy) o.matched o.offered }) os)

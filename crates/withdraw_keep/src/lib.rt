@@ -2,10 +2,11 @@
 #![tactic(auto)]
 
 ghost use Rattle.std.specs.Prelude.{◌≡◌, map};
+ghost use Rattle.rules.specs.Lists.{Each};
 ghost use Rattle.rules.specs.Withdrawal.{keep_matched, runs_among};
 ghost use Rattle.hour_offers.specs.View.{offer_in, offers_in};
-ghost use Rattle.hour_offers.specs.Sound.{Sound};
 ghost use Rattle.hour_borders.specs.Ways.{over_in};
+ghost use Rattle.withdraw_keep.specs.Change.{Changed};
 
 use hour_offers::Offer;
 
@@ -39,7 +40,7 @@ fn kept(offer: &Offer, over: &[u32; 10]) -> u32
 // 1. "On each such border, offers in that direction, not legacy, keep only what is matched."
 pub fn keep_matched(offers: &mut [Offer], over: &[u32; 10])
     ensures kept { offers_in offers.new ≡ map (keep_matched (over_in over.now)) (offers_in offers.old) }
-    ensures sound { Sound (offers_in offers.old) → Sound (offers_in offers.new) }
+    ensures changed { Each Changed (offers_in offers.old) (offers_in offers.new) }
 {
     for offer in offers.iter_mut() {
         offer.offered = kept(offer, over);

@@ -10,8 +10,7 @@ use Rattle.rules.proofs.ElementLaws.{each-refl}
 use lib.Seq.{take_all}
 use Rattle.hour_offers.specs.declared.Offer.{Offer as Held}
 use Rattle.hour_offers.specs.View.{offer_in, offers_in}
-use Rattle.hour_offers.specs.Sound.{Sound}
-use Rattle.withdraw_keep.proofs.ChangeLaws.{Changed, changed-sound}
+use Rattle.withdraw_keep.specs.Change.{Changed}
 use Rattle.std.proofs.lemmas.List.{length-map, map-set}
 use Rattle.std.proofs.Math.ListN.{get_or-map}
 use Rattle.rules.specs.Units.{max_energy}
@@ -147,7 +146,6 @@ map-read r f (x ∷ xs) = ap (λ l. f (r x) ∷ l) (map-read r f xs)
 pub lost-said : (g : Group) (over : List ℕ) (os : List Held) → deductions_from over (map (λ o. given_of g (offer_in o)) os) 2 ≡ all_deductions g (offers_in os) (over_in over)
 lost-said g over os = ap (λ l. deductions_from over l 2) (sym (map-read offer_in (given_of g) os)) ∙ all-lost g over (offers_in os)
 
--- the offers are those of an hour still
 unchanged : (o : Offer) → Changed o o
 unchanged o = record { holder = refl; price = refl; matched = refl; offered = omega arith }
 
@@ -163,9 +161,10 @@ remain-changed p [] (o ∷ os) = each-refl unchanged (o ∷ os)
 remain-changed p (k ∷ ks) [] = each0
 remain-changed p (k ∷ ks) (o ∷ os) = each (record { holder = refl; price = refl; matched = refl; offered = left-le (p o) o k }) (remain-changed p ks os)
 
-pub taken-sound : (g : Group) (ds : List Directed) {os : List Offer} → Sound os → Sound (take_from g ds os)
+-- no offer offers more than before, or than is matched
+pub taken-changed : (g : Group) (ds : List Directed) (os : List Offer) → Each Changed os (take_from g ds os)
 unfolding take_from
-taken-sound g ds {os} s = changed-sound (remain-changed (gives_in g ds) (all_deductions g os ds) os) s
+taken-changed g ds os = remain-changed (gives_in g ds) (all_deductions g os ds) os
 
 -- what gives way is no more than is matched
 pub given-small : (g : Group) (o : Offer) → o.matched ≤ max_energy → AmountInRange (given_of g o)

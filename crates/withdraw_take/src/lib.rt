@@ -2,12 +2,12 @@
 #![tactic(auto)]
 
 ghost use Rattle.std.specs.Prelude.{◌≡◌, ◌≤◌, ◌-◌, if◌then◌else◌, length};
-ghost use Rattle.rules.specs.Lists.{All};
+ghost use Rattle.rules.specs.Lists.{All, Each};
 ghost use Rattle.rules.specs.Units.{max_energy};
 ghost use Rattle.rules.specs.Withdrawal.{in_group, all_deductions, take_from};
 ghost use Rattle.hour_offers.specs.View.{offer_in, offers_in};
-ghost use Rattle.hour_offers.specs.Sound.{Sound};
 ghost use Rattle.hour_borders.specs.Ways.{over_in};
+ghost use Rattle.withdraw_keep.specs.Change.{Changed};
 ghost use Rattle.withdraw_keep.specs.Group.{group_in};
 ghost use Rattle.withdraw_take.specs.Given.{gives_in, given_of};
 
@@ -75,7 +75,7 @@ pub fn take_from(offers: &mut [Offer], over: &[u32; 10], group: Group)
     requires few { length offers.old ≤ 128 }
     requires in_range { All (λ o. o.matched ≤ max_energy) (offers_in offers.old) }
     ensures taken { offers_in offers.new ≡ take_from (group_in group) (over_in over.now) (offers_in offers.old) }
-    ensures sound { Sound (offers_in offers.old) → Sound (offers_in offers.new) }
+    ensures changed { Each Changed (offers_in offers.old) (offers_in offers.new) }
 {
     let deductions = deductions(over, group, offers);
     for (i, offer) in offers.iter_mut().enumerate() {

@@ -5,7 +5,7 @@ use Rattle.hour_offers.specs.View.{offer_in, offers_in}
 use Rattle.hour_borders.specs.Ways.{over_in}
 use Rattle.withdraw_keep.specs.Group.{group_in}
 use Rattle.withdraw_take.specs.Given.{gives_in}
-use Rattle.withdraw_take.proofs.GivenLaws.{left-more, left-none, all-left, taken, taken-sound, lost-long}
+use Rattle.withdraw_take.proofs.GivenLaws.{left-more, left-none, all-left, taken, taken-changed, lost-long}
 use Rattle.withdraw_take.proofs.take_from.Goals as goal
 
 pub loop-i-init : goal.loop-i-init
@@ -34,4 +34,4 @@ returns c =
     ∙ all-left (gives_in (group_in a.group) (over_in a.over.now)) ks.result.items (offers_in a.offers.now) c.loop-i.i (omega arith)
     ∙ ap (λ l. remain (gives_in (group_in a.group) (over_in a.over.now)) l (offers_in a.offers.now)) ks.ensures
     ∙ taken (group_in a.group) a.over.now (offers_in a.offers.now) in
-    record { taken = e; sound = λ h. rw e (taken-sound (group_in a.group) (over_in a.over.now) h) }
+    record { taken = e; changed = rw e (taken-changed (group_in a.group) (over_in a.over.now) (offers_in a.offers.now)) }
