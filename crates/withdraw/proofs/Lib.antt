@@ -1,3 +1,0 @@
-pub mod FlowLaws
-pub mod StepLaws
-pub mod RoundLaws
