@@ -22,7 +22,8 @@ use Rattle.arrays.proofs.IndexLaws.{from_all}
 use Rattle.hour_offers.specs.declared.Holder.{Holder as Own}
 use Rattle.hour_offers.specs.View.{execution_in}
 use Rattle.hour.specs.declared.Hour.{Hour}
-use Rattle.hour.specs.View.{fresh_in, hour_in, directed, energies_of, published_in}
+use Rattle.hour_borders.specs.Ways.{directed, energies_of, published_in}
+use Rattle.hour.specs.View.{fresh_in, hour_in}
 use Rattle.hour.proofs.ReadyLaws.{energy-of}
 use Rattle.session.specs.Bare.{bare_notice}
 use Rattle.session.specs.declared.Session.{Session}

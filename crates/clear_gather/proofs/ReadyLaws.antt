@@ -25,7 +25,8 @@ use Rattle.std.specs.Prelude.{is_some, unwrap_or, None}
 use Rattle.hour_offers.specs.declared.Holder.{Holder as Own}
 use Rattle.hour_offers.specs.View.{execution_in}
 use Rattle.hour.specs.declared.Hour.{Hour}
-use Rattle.hour.specs.View.{fresh_in, hour_in, directed, energies_of, published_in}
+use Rattle.hour_borders.specs.Ways.{directed, energies_of, published_in}
+use Rattle.hour.specs.View.{fresh_in, hour_in}
 use Rattle.hour.proofs.ReadyLaws.{energy-of}
 use Rattle.hour.specs.Ready.{Between, OfferReady, ExecutionReady, Ready}
 use Rattle.clear_gather.proofs.ListLaws.{all-within}

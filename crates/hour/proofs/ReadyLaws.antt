@@ -25,7 +25,8 @@ use Rattle.hour_offers.specs.declared.Execution.{Execution}
 use Rattle.hour_offers.specs.View.{offer_in, execution_in}
 use Rattle.hour.specs.Ranges.{within, holder_ready, offer_ready, execution_ready, rises, capacity_ready, offers_ready, executions_ready, capacities_ready}
 use Rattle.hour.specs.declared.Hour.{Hour}
-use Rattle.hour.specs.View.{fresh_in, hour_in, directed, energies_of, published_in}
+use Rattle.hour.specs.View.{fresh_in, hour_in}
+use Rattle.hour_borders.specs.Ways.{directed, energies_of, published_in}
 use Rattle.hour.specs.Ready.{Between, HolderReady, OfferReady, ExecutionReady, Ready, is_ready}
 
 -- Lists

@@ -34,8 +34,8 @@ pub record ExecutionReady (x : Execution) : Type 0 where
   pub holder : HolderReady 1 x.holder
   pub energy : Between 1 max_energy x.energy
 
--- An hour that a session can hold: what holds of every hour gathered from one (`hour-ready` of crates/gathering/proofs/ReadyLaws.antt), as far
--- as one pass over the hour can tell. What stands after the counts, and as capacity where none is published, is not looked at, and
+-- An hour that a session can hold: what holds of every hour gathered from one (`hour-ready` of crates/clear_gather/proofs/ReadyLaws.antt), as far
+-- as one pass over the hour can tell. What an offer has as matched is not looked at, and
 -- no figure depends on it.
 -- Not asked, though every session's hour has it, since no figure of the hour depends on it either:
 -- that no number is both an offer's and an execution's (Match looks at numbers of offers only, Share at the order of one kind);

@@ -1,7 +1,7 @@
 -- An hour as the code has it, read as the rules' hour; the rules' figures as the code has them, and read back.
-use Rattle.std.specs.Prelude.{ℕ, ◌/◌, ◌%◌, Bool, cond, ◌&&◌, List, [], ◌∷◌, map, eqb, Option, Some, None, get_or, is_some, unwrap_or}
+use Rattle.std.specs.Prelude.{ℕ, ◌/◌, ◌%◌, Bool, cond, ◌&&◌, List, [], ◌∷◌, map, eqb, Option, Some, None}
 use Rattle.std.specs.Bool.{beq}
-use Rattle.rules.specs.Lists.{from, keep}
+use Rattle.rules.specs.Lists.{from}
 use Rattle.rules.specs.Match as M
 use Rattle.rules.specs.Borders as B
 use Rattle.rules.specs.Clearing as C
@@ -9,6 +9,7 @@ use Rattle.hour_offers.specs.declared.Holder.{Holder}
 use Rattle.hour_offers.specs.declared.Offer.{Offer}
 use Rattle.hour_offers.specs.declared.Execution.{Execution}
 use Rattle.hour_offers.specs.View.{holder_in, offers_in, executions_in}
+use Rattle.hour_borders.specs.Ways.{published_in}
 use Rattle.session.specs.Image.{by_way}
 use Rattle.hour.specs.declared.Hour.{Hour}
 use Rattle.hour.specs.declared.Figures.{Figures}
@@ -16,16 +17,6 @@ use Rattle.hour.specs.declared.Figures.{Figures}
 -- an offer before its hour is cleared, whatever stands as matched
 abbrev pub fresh_in : Offer → M.Offer
 fresh_in o = record { holder = holder_in o.holder; price = o.price; offered = o.offered; matched = 0 }
-
--- STUB until hour_borders has it
-unfoldable pub directed : List ℕ → ℕ → B.Directed
-directed a w = record { border = w / 2; export = eqb (w % 2) 0; energy = get_or a w 0 }
-
-unfoldable pub energies_of : List (Option ℕ) → List ℕ
-energies_of a = map (λ o. unwrap_or o 0) a
-
-unfoldable pub published_in : List (Option ℕ) → List B.Directed
-published_in a = map (directed (energies_of a)) (keep (λ w. is_some (get_or a w None)) (from 2 8))
 
 -- the rules' hour
 unfoldable pub hour_in : Hour → C.Hour
