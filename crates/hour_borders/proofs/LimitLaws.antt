@@ -106,7 +106,7 @@ energy-at [] w = refl
 energy-at (o ∷ a) zero = refl
 energy-at (o ∷ a) (suc w) = energy-at a w
 
-by_option : {C : Type 0} (o : Option ℕ) → (o ≡ None → C) → ((m : ℕ) → o ≡ Some m → C) → C
+pub by_option : {C : Type 0} (o : Option ℕ) → (o ≡ None → C) → ((m : ℕ) → o ≡ Some m → C) → C
 by_option None f g = f refl
 by_option (Some m) f g = g m refl
 

@@ -1,7 +1,7 @@
 // Executions cut back to what the borders leave them (document 01, "Executions").
 #![tactic(auto)]
 
-ghost use Rattle.std.specs.Prelude.{◌≡◌, List, Option, ℕ, ◌+◌, ◌≤◌, get_or, length, map};
+ghost use Rattle.std.specs.Prelude.{◌≡◌, List, Option, ℕ, ◌+◌, ◌≤◌, ◌<◌, get_or, length, map};
 ghost use Rattle.rules.specs.Lists.{All, Each};
 ghost use Rattle.rules.specs.Match.{Offer};
 ghost use Rattle.rules.specs.Executions.{less_each, cut_all};
@@ -18,7 +18,7 @@ use hour_offers::Execution;
 fn together(market: &[u32; 10], executions: &[u32; 10]) -> [u32; 10]
     requires market_small { Small market.now }
     requires executions_small { Small executions.now }
-    ensures { (w : ℕ) → get_or result w 0 ≡ get_or market.now w 0 + get_or executions.now w 0 }
+    ensures { (w : ℕ) → w < 10 → get_or result w 0 ≡ get_or market.now w 0 + get_or executions.now w 0 }
 {
     let mut both = *market;
     for (w, e) in executions.iter().enumerate() {
