@@ -1,2 +1,3 @@
 mod RangeLaws
 pub mod ReadyLaws
+pub mod LaidLaws
