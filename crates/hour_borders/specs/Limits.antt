@@ -13,7 +13,7 @@ across_of w = way_of (w / 2) (not (eqb (w % 2) 0))
 unfoldable pub maximum_in : Option ℕ → List ℕ → List ℕ → ℕ → ℕ → Option ℕ
 maximum_in capacity executions market legacy w =
     option_map (λ c. market_maximum c
-        (sub_ℕ (get_or executions w 0) (get_or executions (across_of w) 0)) (sub_ℕ (get_or market w 0) (get_or market (across_of w) 0)) legacy) capacity
+    (sub_ℕ (get_or executions w 0) (get_or executions (across_of w) 0)) (sub_ℕ (get_or market w 0) (get_or market (across_of w) 0)) legacy) capacity
 
 -- how far a flow, less that against it, passes a maximum; 0 where there is none
 abbrev pub excess_over : Option ℕ → ℕ → ℕ → ℕ

@@ -1,7 +1,8 @@
 // Energy at the borders in one hour: directions, flows, maxima, excesses (document 01, "Split" and "Withdrawal step").
 #![tactic(auto)]
 
-ghost use Rattle.std.specs.Prelude.{◌≡◌, Bool, List, Option, map, cond, ℕ, ◌≤◌, ◌<◌, get_or, length};
+ghost use Rattle.std.specs.Prelude.{◌≡◌, Bool, List, Option, map, cond, ℕ, ◌≤◌, ◌<◌, get_or, length, ltb};
+ghost use Rattle.std.specs.List.{list_any};
 ghost use Rattle.std.specs.Fn.{FnReturnsAt};
 ghost use Rattle.rules.specs.Lists.{All, sum_of};
 ghost use Rattle.rules.specs.Match.{Offer as RuleOffer};
@@ -36,11 +37,7 @@ pub fn across(w: usize) -> usize
     ensures index { result ≡ across_of w }
     ensures within { result < 10 }
 {
-    if w % 2 == 0 {
-        w + 1
-    } else {
-        w - 1
-    }
+    if w % 2 == 0 { w + 1 } else { w - 1 }
 }
 
 // An energy of a holder in the direction in which it runs, a purchase being an export.
@@ -55,13 +52,13 @@ pub fn amount(holder: &Holder, energy: u32) -> Amount
 
 // The energy of some holders by way: `of` says what each of them has, and in which direction it runs.
 fn flows<T, F: Fn(&T) -> Amount>(holders: &[T], of: F) -> [u32; 10]
-    ghost amount: { T → Amount }
     requires callable { F.IsAlwaysCallable of }
     requires few { length holders.now ≤ 128 }
-    requires said { All (λ x. (a : Amount) → FnReturnsAt F.Fn of x a → a ≡ amount x) holders.now }
-    requires within { All (λ x. (amount x).way < 10) holders.now }
-    requires ranged { All (λ x. AmountInRange (amount x)) holders.now }
-    ensures sums { (w : ℕ) → get_or result w 0 ≡ sum_of (energy_in w) (map amount holders.now) }
+    requires within { All (λ x. (a : Amount) → FnReturnsAt F.Fn of x a → a.way < 10) holders.now }
+    requires ranged { All (λ x. (a : Amount) → FnReturnsAt F.Fn of x a → AmountInRange a) holders.now }
+    ensures sums { (amount : T → Amount)
+        → All (λ x. (a : Amount) → FnReturnsAt F.Fn of x a → a ≡ amount x) holders.now
+        → (w : ℕ) → get_or result w 0 ≡ sum_of (energy_in w) (map amount holders.now) }
     ensures small { Small result }
 {
     let mut flows = [0u32; 10];
@@ -131,12 +128,7 @@ fn maximum_at(
     ensures { result ≡ maximum_in capacity executions.now market.now legacy w }
 {
     let capacity = capacity?;
-    Some(hour_split::market_maximum(
-        capacity,
-        flow_at(executions, w),
-        flow_at(market, w),
-        legacy,
-    ))
+    Some(hour_split::market_maximum(capacity, flow_at(executions, w), flow_at(market, w), legacy))
 }
 
 // "Market export maximum" of each border, and its mirror, from the flows of the first match.
@@ -185,9 +177,16 @@ pub fn excesses(maxima: &[Option<u32>; 10], market: &[u32; 10]) -> [u32; 10]
     over
 }
 
+// Whether one of some energies is above 0.
+fn any_left(energies: &[u32]) -> bool
+    ensures { result ≡ list_any (λ e. ltb 0 e) energies.now }
+{
+    energies.iter().any(|e| 0 < *e)
+}
+
 // Whether "a market balance passes its maximum".
 pub fn passed(over: &[u32; 10]) -> bool
     ensures { result ≡ non_empty (over_in over.now) }
 {
-    over[2..].iter().any(|e| 0 < *e)
+    any_left(&over[2..])
 }

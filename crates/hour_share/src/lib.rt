@@ -145,7 +145,8 @@ fn add(deductions: &[u32], sums: &mut [u32])
 fn in_all(over: &[u32; 10], amounts: &[Amount]) -> ArrayVec<u32, LODGEMENTS>
     requires few { length amounts.now ≤ 128 }
     requires ranged { All AmountInRange amounts.now }
-    ensures { result.items ≡ deductions_from over.now amounts.now 2 }
+    ensures value { result.items ≡ deductions_from over.now amounts.now 2 }
+    ensures same_length { length result.items ≡ length amounts.now }
 {
     let mut sums = nothing(amounts);
     for w in (2..10).rev() {
@@ -166,9 +167,10 @@ pub fn deductions<T, F: Fn(&T) -> Amount>(
     requires callable { F.IsAlwaysCallable of }
     requires few { length holders.now ≤ 128 }
     requires ranged { All (λ x. (a : Amount) → FnReturnsAt F.Fn of x a → AmountInRange a) holders.now }
-    ensures { (amount : T → Amount)
+    ensures value { (amount : T → Amount)
         → All (λ x. (a : Amount) → FnReturnsAt F.Fn of x a → a ≡ amount x) holders.now
         → result.items ≡ deductions_from over.now (map amount holders.now) 2 }
+    ensures same_length { length result.items ≡ length holders.now }
 {
     let mut amounts: ArrayVec<Amount, LODGEMENTS> = ArrayVec::new();
     for x in holders {

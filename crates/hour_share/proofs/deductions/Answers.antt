@@ -1,4 +1,4 @@
-use Rattle.std.proofs.Common.{ℕ, ◌≤◌, List, arith, refl, ◌≡◌, ◌+◌, ◌∙◌, map, take, ap, add-one, length}
+use Rattle.std.proofs.Common.{ℕ, ◌≤◌, List, arith, refl, ◌≡◌, ◌∙◌, map, take, ap, add-one, length}
 use lib.Seq.{take-suc, take_all}
 use mathlib.Core.List.{map-append}
 use Rattle.rules.specs.Lists.{none}
@@ -34,7 +34,10 @@ in_all-requires-clause-ranged g c = rw c.as_slice.ensures.value c.loop-x.invaria
 all_passed : {A B : Type 0} (f : A → B) (i : ℕ) (xs : List A) {ys zs : List B} → length xs ≤ i → zs ≡ ys → ys ≡ map f (take i xs) → zs ≡ map f xs
 all_passed f i xs h q e = q ∙ e ∙ ap (map f) (take_all i xs h)
 
-pub returns : goal.returns
-returns g c amount k =
+pub returns-clause-value : goal.returns-clause-value
+returns-clause-value g c amount k =
     let e = all_passed amount c.loop-x.x-index c.args.holders.now (omega arith) c.as_slice.ensures.value (c.loop-x.invariant.said amount k) in
-    c.in_all.ensures ∙ ap (λ (ms : List Amount). deductions_from c.args.over.now ms 2) e
+    c.in_all.ensures.value ∙ ap (λ (ms : List Amount). deductions_from c.args.over.now ms 2) e
+
+pub returns-clause-same_length : goal.returns-clause-same_length
+returns-clause-same_length g c = omega (arith, ap length c.as_slice.ensures.value)

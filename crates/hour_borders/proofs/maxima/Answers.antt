@@ -1,0 +1,13 @@
+use Rattle.std.proofs.Common.{arith, ap}
+use Rattle.std.specs.Option.{unwrap_or}
+use Rattle.hour_borders.proofs.LimitLaws.{maxima-said, energy-at}
+use Rattle.hour_borders.proofs.maxima.Goals as goal
+
+pub maximum_at-requires-clause-capacity_small : goal.maximum_at-requires-clause-capacity_small
+maximum_at-requires-clause-capacity_small c m e =
+    omega (arith, c.requires.capacities_small c.loop-w.w, energy-at c.args.capacities.now c.loop-w.w, ap (λ o. unwrap_or o 0) e)
+
+pub returns : goal.returns
+returns c first xs kx km kl =
+    let a = c.args in
+    maxima-said a.capacities.now a.executions.now a.market.now a.legacy.now first xs kx km kl c.loop-w.maxima c.loop-w.w (omega arith) c.loop-w.invariant
