@@ -1,6 +1,6 @@
 -- Who gives way, and what is taken, direction by direction.
 use Rattle.std.proofs.Common.{ap₂, add-one, ℕ, zero, suc, ◌+◌, ◌-◌, ◌≡◌, refl, sym, ◌∙◌, ap, ◌<◌, ◌≤◌, max, Bool, true, false, cond, ◌&&◌, ◌||◌, List, [], ◌∷◌, map, take, length, get_or, set, ltb, eqb, arith}
-use Rattle.rules.specs.Lists.{any, keep, from, add_each}
+use Rattle.rules.specs.Lists.{any, keep, from}
 use Rattle.rules.specs.Match.{Offer, with_energies}
 use Rattle.rules.specs.Borders.{Directed, at_border, keeps}
 use Rattle.rules.specs.Withdrawal.{Group, runs_in, runs_among, in_group, gives_way, amounts, deductions, all_deductions, remain, take_from}
@@ -17,8 +17,6 @@ use Rattle.rules.specs.Units.{max_energy}
 use Rattle.rules.proofs.SumLaws.{cond-le}
 use native.Mathlib.Nat.{le_trans}
 use Rattle.hour_share.specs.Deductions.{AmountInRange}
-use Rattle.hour_share.proofs.Laws.{sums-length, lost-length}
-use Rattle.hour_share.specs.declared.Amount.{Amount}
 use Rattle.hour_share.specs.Deductions.{energy_in, deductions_in, deductions_over, deductions_from}
 use Rattle.hour_borders.specs.Ways.{way_of, directed, over_in}
 use Rattle.hour_borders.proofs.WayLaws.{runs-directed}
@@ -71,22 +69,6 @@ module _ (g : Group) (over : List ℕ) where
   pub all-lost : (os : List Offer) → deductions_from over (map (given_of g) os) 2 ≡ all_deductions g os (over_in over)
   unfolding deductions_from over_in
   all-lost os = lost-over (from 2 8) os
-
--- each loses something, or nothing
-either-long : (b : Bool) (ks ls : List ℕ) {n : ℕ} → length ks ≡ n → length ls ≡ n → length (cond b (add_each ks ls) ls) ≡ n
-either-long true ks ls h k = sums-length ks ls (h ∙ sym k) ∙ k
-either-long false ks ls h k = k
-
-over-long : (over : List ℕ) (ms : List Amount) (ws : List ℕ) → length (deductions_over over ms ws) ≡ length ms
-unfolding deductions_over
-over-long over ms [] = length-map ms (λ a. 0)
-over-long over ms (w ∷ ws) =
-    either-long (ltb 0 (get_or over w 0)) (deductions_in ms (get_or over w 0) w) (deductions_over over ms ws) (lost-length (get_or over w 0) w ms) (over-long over ms ws)
-
--- each of the offers
-pub lost-long : (g : Group) (over : List ℕ) (os : List Offer) → length (all_deductions g os (over_in over)) ≡ length os
-unfolding deductions_from
-lost-long g over os = ap length (sym (all-lost g over os)) ∙ over-long over (map (given_of g) os) (from 2 8) ∙ length-map os (given_of g)
 
 -- One offer more that is written
 

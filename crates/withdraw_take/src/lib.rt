@@ -65,7 +65,8 @@ fn remaining(over: &[u32; 10], group: Group, offer: &Offer, deduction: u32) -> u
 fn deductions(over: &[u32; 10], group: Group, offers: &[Offer]) -> ArrayVec<u32, LODGEMENTS>
     requires few { length offers.now ≤ 128 }
     requires in_range { All (λ o. o.matched ≤ max_energy) (offers_in offers.now) }
-    ensures { result.items ≡ all_deductions (group_in group) (offers_in offers.now) (over_in over.now) }
+    ensures value { result.items ≡ all_deductions (group_in group) (offers_in offers.now) (over_in over.now) }
+    ensures same_length { length result.items ≡ length offers.now }
 {
     hour_share::deductions(over, offers, move |offer| given(group, offer))
 }
