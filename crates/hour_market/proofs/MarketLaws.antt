@@ -1,0 +1,65 @@
+-- The parts of an hour's market together are the rules'.
+use Prim.Native.Nat.{ℕ, ◌≤◌}
+use mathlib.Core.Path.{◌≡◌, sym, ◌∙◌, ap}
+use mathlib.Core.Bool.{true, false}
+use mathlib.Core.List.{List, map}
+use Rattle.std.specs.Prelude.{Option}
+use Rattle.rules.specs.Lists.{All}
+use Rattle.rules.specs.Units.{max_energy}
+use Rattle.rules.specs.Match.{Offer, volume, match_all, hour_price}
+use Rattle.rules.specs.Borders.{Execution}
+use Rattle.rules.specs.Split.{maximum_of}
+use Rattle.rules.specs.Withdrawal.{Withdrawn, withdraw}
+use Rattle.rules.specs.Clearing as C
+use Rattle.rules.proofs.ListLaws.{all_map}
+use Rattle.rules.proofs.MatchLaws.{volume-again}
+use Rattle.rules.proofs.WithdrawalLaws.{match-lowered}
+use Rattle.hour_offers.specs.Sound.{Sound}
+use Rattle.hour_match.specs.Orders.{in_order}
+use Rattle.hour_match.specs.Walks.{Matched}
+use Rattle.hour_match.proofs.KeptLaws.{along-of, along-kept, match-sound}
+use Rattle.hour_borders.specs.Ways.{published_in}
+use Rattle.hour_borders.specs.Flows.{MatchedInRange}
+use Rattle.withdraw.specs.declared.Ended.{Ended}
+use Rattle.withdraw.specs.Steps.{Laid}
+use Rattle.withdraw.specs.Rounds.{Withdrew}
+use Rattle.hour_market.specs.Parts.{MarketCleared}
+
+pub offered-small : {os : List Offer} → Sound os → All (λ o. o.offered ≤ max_energy) os
+offered-small s = all_map (λ o h. h.offered) s.in_range
+
+pub matched-in-range : {os : List Offer} → Sound os → All MatchedInRange os
+matched-in-range s = all_map (λ o h. record { border = h.border; matched = h.matched }) s.in_range
+
+-- the offers after the first match
+module _ {os ps : List Offer} {v : ℕ} (s : Sound os) (m : Matched os ps v) where
+  pub first-sound : Sound ps
+  first-sound = rw m.offers (match-sound os s)
+
+  pub first-traded : v ≡ volume ps
+  first-traded = rw (m.offers, volume-again os) m.traded
+
+  pub first-laid : {sales purchases : List ℕ} → sales ≡ in_order false os → purchases ≡ in_order true os → Laid ps sales purchases
+  first-laid a b = record {
+    sound = first-sound;
+    within = m.within;
+    rising = rw m.offers ((along-kept (match-lowered os) {side = false} (along-of s a)).order);
+    falling = rw m.offers ((along-kept (match-lowered os) {side = true} (along-of s b)).order);
+  }
+
+-- the withdrawal is the rules', and so is the market's part
+module _ {os ps qs : List Offer} {v : ℕ} (m : Matched os ps v) (capacities maxima : List (Option ℕ)) (xs : List Execution) {sales purchases : List ℕ} {r : Ended}
+    (split : published_in maxima ≡ map (maximum_of ps xs) (published_in capacities))
+    (ended : Withdrew (published_in maxima) sales purchases ps qs r) where
+  withdrawn : withdraw (map (maximum_of (match_all os) xs) (published_in capacities)) (match_all os) ≡ record { offers = qs; steps = r.steps }
+  withdrawn = rw (← m.offers, ← split) ended.done
+
+  pub market-said : (f : List ℕ) {p : ℕ} → p ≡ hour_price qs
+      → MarketCleared os capacities xs qs (record { maxima = maxima; flows = f; steps = r.steps; price = p })
+  unfolding C.clear_hour
+  market-said f q = record {
+    offers = ap (λ w. w.offers) withdrawn;
+    maxima = rw (← m.offers) (sym split);
+    steps = ap (λ w. w.steps) withdrawn;
+    price = ap (λ (w : Withdrawn). hour_price w.offers) withdrawn ∙ sym q;
+  }
