@@ -7,8 +7,8 @@ use mathlib.Core.Logic.{⊎_elim}
 use native.Mathlib.Nat.{lt_trans, eq-or-lt_of_le}
 use native.Mathlib.Omega.{arith}
 use lib.Dec.{ltb, eqb}
-use lib.ListN.{get_or, length, take, length-take}
-use lib.Seq.{get_or-take}
+use lib.ListN.{get_or, length, take, length-take, length-map}
+use lib.Seq.{get_or-take, take_all}
 use borrow.Author.Tests.{leb-true, le-leb, lt-ltb, ltb-true, ltb-false, le-ltb, eqb-false, ne_eqb, not-true}
 use Rattle.std.specs.Prelude.{is_some, is_none, unwrap_or, Option, Some, None}
 use Rattle.std.specs.List.{list_all}
@@ -22,7 +22,8 @@ use Rattle.rules.proofs.ElementLaws.{all_both, all-unmapped, pairwise_map}
 use Rattle.arrays.proofs.IndexLaws.{from_all}
 use Rattle.hour_offers.specs.declared.Offer.{Offer}
 use Rattle.hour_offers.specs.declared.Execution.{Execution}
-use Rattle.hour_offers.specs.View.{offer_in, execution_in}
+use Rattle.hour_offers.specs.View.{offer_in, execution_in, executions_in}
+use Rattle.hour_offers.specs.Sound.{Sound, ExecutionInRange}
 use Rattle.hour.specs.Ranges.{within, holder_ready, offer_ready, execution_ready, rises, capacity_ready, offers_ready, executions_ready, capacities_ready}
 use Rattle.hour.specs.declared.Hour.{Hour}
 use Rattle.hour.specs.View.{fresh_in, hour_in}
@@ -225,3 +226,34 @@ ready-told h r =
       home-told h.capacities r.home,
       capacities-told h.capacities r.home r.capacities,
     )
+
+-- What it says of its parts
+
+capacity-small : (c : Option ℕ) → capacity_ready c ≡ true → unwrap_or c 0 ≤ max_energy
+unfolding capacity_ready
+capacity-small None e = omega arith
+capacity-small (Some x) e = leb-true _ _ e
+
+module _ {h : Hour} (r : Ready h) where
+  -- its offers and executions are such as are cleared
+  pub offers-sound : Sound (hour_in h).offers
+  unfolding hour_in
+  offers-sound = record {
+    few = rw (length-map h.offers.items fresh_in) (omega (arith, r.offering));
+    rising = r.offers-rise;
+    in_range = all-mapped fresh_in (all_map (λ o g. record { border = omega (arith, g.holder.border.1); price = g.price; offered = g.energy.1; matched = omega arith }) (all-unmapped fresh_in h.offers.items r.offers));
+  }
+
+  pub few-executions : length h.executions.items ≤ 128
+  few-executions = omega (arith, r.room)
+
+  pub executions-in-range : All ExecutionInRange (executions_in h.executions.items)
+  unfolding hour_in
+  executions-in-range = all_map (λ x g. record { border = omega (arith, g.holder.border.1); energy = g.energy.1 }) r.executions
+
+  -- its capacities are in their range, and 0 stands where there is none
+  pub capacities-small : length h.capacities ≡ 10 → (w : ℕ) → get_or (energies_of h.capacities) w 0 ≤ max_energy
+  unfolding hour_in capacity_ready
+  capacities-small l w =
+      rw (energy-of h.capacities w)
+      (capacity-small (get_or h.capacities w None) (rw (take_all 10 h.capacities (omega arith)) at (all-at-index capacity_ready None refl (take 10 h.capacities) (capacities-told h.capacities r.home r.capacities) w)))

@@ -1,0 +1,140 @@
+-- The parts of an hour's clearing together are the rules' `clear_hour`.
+use Prim.Native.Nat.{ℕ, ◌+◌, ◌/◌, ◌%◌, ◌≤◌, ◌<◌}
+use mathlib.Core.Path.{◌≡◌, refl, sym, ap, ◌∙◌}
+use mathlib.Core.Bool.{Bool, true, false, cond, false≢true}
+use mathlib.Core.List.{List, [], ◌∷◌, ◌++◌, map, map-map}
+use native.Mathlib.Nat.{le_trans}
+use native.Mathlib.Omega.{arith}
+use lib.Dec.{eqb}
+use lib.ListN.{get_or, length, take, drop}
+use Rattle.std.specs.Prelude.{Option, Some, None, is_some, unwrap_or}
+use Rattle.rules.specs.Lists.{All, Each, each0, each, none, more, keep, from}
+use Rattle.rules.specs.Units.{max_energy}
+use Rattle.rules.specs.Match as M
+use Rattle.rules.specs.Borders.{Directed, Execution as RuleExecution}
+use Rattle.rules.specs.Split.{maximum_of}
+use Rattle.rules.specs.Executions.{cut_all}
+use Rattle.rules.specs.Clearing as C
+use Rattle.rules.proofs.BoolLaws.{by_bool}
+use Rattle.rules.proofs.ListLaws.{all_map, all-mapped, all_keep, keep-passes, keep_same}
+use Rattle.rules.proofs.ElementLaws.{all_both}
+use Rattle.rules.proofs.HourLaws as H
+use Rattle.arrays.proofs.IndexLaws.{from_all, map-all}
+use Rattle.hour_offers.specs.declared.Offer.{Offer}
+use Rattle.hour_offers.specs.declared.Execution.{Execution}
+use Rattle.hour_offers.specs.View.{offers_in, executions_in}
+use Rattle.hour_offers.specs.Sound.{ExecutionInRange}
+use Rattle.std.specs.List.{refill}
+use Rattle.hour_borders.specs.Ways.{directed, energies_of, published_in}
+use Rattle.hour_borders.specs.Flows.{MarketFlows, ExecutionFlows}
+use Rattle.hour_borders.proofs.WayLaws.{published-once}
+use Rattle.hour_cut.specs.Cuts.{Enough, Lowered}
+use Rattle.hour_market.specs.declared.Market.{Market}
+use Rattle.hour_market.specs.Parts.{MarketCleared}
+use Rattle.hour.specs.declared.Hour.{Hour}
+use Rattle.hour.specs.declared.Figures.{Figures}
+use Rattle.hour.specs.Ready.{Ready, is_ready, figures_of}
+use Rattle.hour.specs.View.{hour_in, figures_in, figures_as, offer_as, execution_as}
+use Rattle.hour.proofs.ReadyLaws.{energy-of, ready-holds}
+use Rattle.hour.proofs.LaidLaws.{ten-at, figures-laid, figures-back}
+
+-- a ready hour is one of the rules'
+pub hour-sound : {h : Hour} → Ready h → H.Sound (hour_in h)
+unfolding hour_in
+hour-sound {h} r = record { rising = r.offers-rise; once = published-once h.capacities }
+
+module _ {h : Hour} (ready : Ready h) (os : List Offer) {r : Market}
+    (m : MarketCleared (hour_in h).offers h.capacities (executions_in h.executions.items) (offers_in os) r) where
+  -- R ≤ G at every cut
+  pub enough-said : All (Enough (offers_in os) (executions_in h.executions.items)) (published_in h.capacities)
+  unfolding hour_in
+  enough-said = rw (← m.offers) (all_map (λ c q. q.enough) (H.hour-cleared (hour_in h) (hour-sound ready)).borders)
+
+  -- the figures are the rules'
+  cleared-said : (xs : List Execution) (b : List ℕ) → executions_in xs ≡ cut_all (offers_in os) (published_in h.capacities) (executions_in h.executions.items)
+      → figures_in (record { offers = record { items = os }; executions = record { items = xs }; maxima = r.maxima; market = r.flows; bilateral = b; steps = r.steps; price = r.price }) ≡ C.clear_hour (hour_in h)
+  unfolding C.clear_hour figures_in hour_in
+  cleared-said xs b c = rw (c, ← m.offers, ← m.maxima, ← m.steps, ← m.price) refl
+
+  -- laid out
+  pub figures-said : (xs : List Execution) (b : List ℕ) → executions_in xs ≡ cut_all (offers_in os) (published_in h.capacities) (executions_in h.executions.items)
+      → length r.maxima ≡ 10 → ((w : ℕ) → w < 2 → get_or r.maxima w None ≡ None)
+      → length r.flows ≡ 10 → MarketFlows r.flows (offers_in os) → length b ≡ 10 → ExecutionFlows b (executions_in xs)
+      → record { offers = record { items = os }; executions = record { items = xs }; maxima = r.maxima; market = r.flows; bilateral = b; steps = r.steps; price = r.price }
+      ≡ figures_as (C.clear_hour (hour_in h))
+  figures-said xs b c l home lm fm lx fx = figures-laid _ l home lm fm lx fx ∙ ap figures_as (cleared-said xs b c)
+
+-- What follows of an hour's figures
+
+-- a number that another is made of, where there is one
+unfoldable pub made : (ℕ → ℕ) → Option ℕ → Option ℕ
+made f None = None
+made f (Some e) = Some (f e)
+
+made-some : (f : ℕ → ℕ) (o : Option ℕ) → is_some (made f o) ≡ is_some o
+unfolding made
+made-some f None = refl
+made-some f (Some e) = refl
+
+made-energy : (f : ℕ → ℕ) (o : Option ℕ) → is_some o ≡ true → unwrap_or (made f o) 0 ≡ f (unwrap_or o 0)
+unfolding made
+made-energy f None e = absurd (false≢true e)
+made-energy f (Some x) e = refl
+
+-- maxima are those of the published directions
+module _ (first : List M.Offer) (xs : List RuleExecution) (a : List (Option ℕ)) where
+  maximum-on : ℕ → ℕ → ℕ
+  maximum-on w e = (maximum_of first xs (record { border = w / 2; export = eqb (w % 2) 0; energy = e })).energy
+
+  abbrev maxima : List (Option ℕ)
+  maxima = map (λ w. made (maximum-on w) (get_or a w None)) (from 0 10)
+
+  maximum-at : (w : ℕ) → w < 10 → get_or maxima w None ≡ made (maximum-on w) (get_or a w None)
+  maximum-at w l = ten-at (λ w. made (maximum-on w) (get_or a w None)) None w l
+
+  maximum-as : (w : ℕ) → w < 10 → is_some (get_or a w None) ≡ true → maximum_of first xs (directed (energies_of a) w) ≡ directed (energies_of maxima) w
+  unfolding directed maximum_of maximum-on
+  maximum-as w l t =
+      ap (λ n. record { border = w / 2; export = eqb (w % 2) 0; energy = n })
+      (ap (maximum-on w) (energy-of a w) ∙ (sym (made-energy (maximum-on w) (get_or a w None) t) ∙ (ap (λ o. unwrap_or o 0) (sym (maximum-at w l)) ∙ sym (energy-of maxima w))))
+
+  maxima-published : map (maximum_of first xs) (published_in a) ≡ published_in maxima
+  unfolding published_in
+  maxima-published =
+      map-map (maximum_of first xs) (directed (energies_of a)) (keep (λ w. is_some (get_or a w None)) (from 2 8))
+      ∙ (map-all (λ w. maximum_of first xs (directed (energies_of a) w)) (directed (energies_of maxima))
+      (all_both (λ w t l. maximum-as w l t) (keep-passes (λ w. is_some (get_or a w None)) (from 2 8)) (all_keep (λ w. is_some (get_or a w None)) (from_all (λ w. w < 10) 2 8 (λ w h k. omega arith))))
+      ∙ ap (map (directed (energies_of maxima))) (keep_same _ _ (from_all _ 2 8 (λ w h k. sym (ap (λ o. is_some o) (maximum-at w (omega arith)) ∙ made-some (maximum-on w) (get_or a w None))))))
+
+-- the figures of a ready hour are read back
+pub figures-read : {h : Hour} → Ready h → figures_in (figures_as (C.clear_hour (hour_in h))) ≡ C.clear_hour (hour_in h)
+unfolding C.clear_hour hour_in
+figures-read {h} r = figures-back (C.clear_hour (hour_in h)) _ (maxima-published _ _ h.capacities)
+
+-- what holds of each of a list is carried to another
+each_all : {A B : Type 0} {R : A → B → Type 0} {P : A → Type 0} {Q : B → Type 0} → ((x : A) (y : B) → R x y → P x → Q y)
+    → {xs : List A} {ys : List B} → Each R xs ys → All P xs → All Q ys
+each_all f each0 none = none
+each_all f (each {x} {y} h t) (more k u) = more (f x y h k) (each_all f t u)
+
+-- matched and executed energies of a ready hour are in range
+module _ {h : Hour} (r : Ready h) where
+  pub matched-small : All (λ (o : Offer). o.matched ≤ max_energy) (figures_as (C.clear_hour (hour_in h))).offers.items
+  unfolding figures_as
+  matched-small = all-mapped offer_as (each_all (λ o p f k. le_trans f.matched (le_trans f.offered k.energy.1)) (H.hour-cleared (hour_in h) (hour-sound r)).offers r.offers)
+
+  pub executed-small : All (λ (x : Execution). x.energy ≤ max_energy) (figures_as (C.clear_hour (hour_in h))).executions.items
+  unfolding figures_as
+  executed-small = all-mapped execution_as (each_all (λ x y f k. le_trans f.energy k.energy.1) (H.hour-cleared (hour_in h) (hour-sound r)).executions r.executions)
+
+-- executions stay in their ranges where they are cut
+pub lowered-in-range : {xs ys : List RuleExecution} → Each Lowered xs ys → All ExecutionInRange xs → All ExecutionInRange ys
+lowered-in-range l a = each_all (λ x y h k. record { border = rw h.holder k.border; energy = le_trans h.energy k.energy }) l a
+
+-- a list written over another as long as it
+take-front : {A : Type 0} (ws ys : List A) → take (length ws) (ws ++ ys) ≡ ws
+take-front [] ys = refl
+take-front (w ∷ ws) ys = ap (λ l. w ∷ l) (take-front ws ys)
+
+pub refilled : {A : Type 0} (n : ℕ) (xs ws : List A) → n ≡ length ws → refill n xs ws ≡ ws
+refilled n xs ws e = rw e (take-front ws (drop (length ws) xs))
