@@ -8,7 +8,7 @@ use native.Mathlib.Nat.{lt_trans, eq-or-lt_of_le}
 use native.Mathlib.Omega.{arith}
 use lib.Dec.{ltb, eqb}
 use lib.ListN.{get_or, length, take, length-take, length-map}
-use lib.Seq.{get_or-take, take_all}
+use lib.Seq.{get_or-take}
 use borrow.Author.Tests.{leb-true, le-leb, lt-ltb, ltb-true, ltb-false, le-ltb, eqb-false, ne_eqb, not-true}
 use Rattle.std.specs.Prelude.{is_some, is_none, unwrap_or, Option, Some, None}
 use Rattle.std.specs.List.{list_all}
@@ -252,8 +252,8 @@ module _ {h : Hour} (r : Ready h) where
   executions-in-range = all_map (λ x g. record { border = omega (arith, g.holder.border.1); energy = g.energy.1 }) r.executions
 
   -- its capacities are in their range, and 0 stands where there is none
-  pub capacities-small : length h.capacities ≡ 10 → (w : ℕ) → get_or (energies_of h.capacities) w 0 ≤ max_energy
+  pub capacities-small : (w : ℕ) → w < 10 → get_or (energies_of h.capacities) w 0 ≤ max_energy
   unfolding hour_in capacity_ready
-  capacities-small l w =
+  capacities-small w l =
       rw (energy-of h.capacities w)
-      (capacity-small (get_or h.capacities w None) (rw (take_all 10 h.capacities (omega arith)) at (all-at-index capacity_ready None refl (take 10 h.capacities) (capacities-told h.capacities r.home r.capacities) w)))
+      (capacity-small (get_or h.capacities w None) (rw (get_or-take 10 h.capacities w None l) at (all-at-index capacity_ready None refl (take 10 h.capacities) (capacities-told h.capacities r.home r.capacities) w)))

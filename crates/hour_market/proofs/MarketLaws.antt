@@ -1,9 +1,14 @@
 -- The parts of an hour's market together are the rules'.
-use Prim.Native.Nat.{ℕ, ◌≤◌}
+use Prim.Native.Nat.{ℕ, ◌≤◌, ◌<◌}
 use mathlib.Core.Path.{◌≡◌, sym, ◌∙◌, ap}
 use mathlib.Core.Bool.{true, false}
 use mathlib.Core.List.{List, map}
-use Rattle.std.specs.Prelude.{Option}
+use native.Mathlib.Omega.{arith}
+use lib.Dec.{ltb}
+use lib.ListN.{get_or, length, length-map, get_or-eq_default}
+use borrow.Author.Tests.{ltb-true, ltb-false}
+use Rattle.std.specs.Prelude.{Option, unwrap_or}
+use Rattle.rules.proofs.BoolLaws.{by_bool}
 use Rattle.rules.specs.Lists.{All}
 use Rattle.rules.specs.Units.{max_energy}
 use Rattle.rules.specs.Match.{Offer, volume, match_all, hour_price}
@@ -18,8 +23,8 @@ use Rattle.hour_offers.specs.Sound.{Sound}
 use Rattle.hour_match.specs.Orders.{in_order}
 use Rattle.hour_match.specs.Walks.{Matched}
 use Rattle.hour_match.proofs.KeptLaws.{along-of, along-kept, match-sound}
-use Rattle.hour_borders.specs.Ways.{published_in}
-use Rattle.hour_borders.specs.Flows.{MatchedInRange}
+use Rattle.hour_borders.specs.Ways.{energies_of, published_in}
+use Rattle.hour_borders.specs.Flows.{MatchedInRange, Small}
 use Rattle.withdraw.specs.declared.Ended.{Ended}
 use Rattle.withdraw.specs.Steps.{Laid}
 use Rattle.withdraw.specs.Rounds.{Withdrew}
@@ -30,6 +35,14 @@ offered-small s = all_map (λ o h. h.offered) s.in_range
 
 pub matched-in-range : {os : List Offer} → Sound os → All MatchedInRange os
 matched-in-range s = all_map (λ o h. record { border = h.border; matched = h.matched }) s.in_range
+
+-- numbers that can be added, at every index
+pub small : (cs : List (Option ℕ)) → length cs ≡ 10 → ((w : ℕ) → w < 10 → get_or (energies_of cs) w 0 < 2147483648) → Small (energies_of cs)
+unfolding energies_of
+small cs l f w =
+    by_bool (ltb w 10)
+    (λ t. f w (ltb-true w 10 t))
+    (λ t. omega (arith, get_or-eq_default (map (λ o. unwrap_or o 0) cs) 0 {n = w} (omega (arith, ltb-false w 10 t, l, length-map cs (λ o. unwrap_or o 0)))))
 
 -- the offers after the first match
 module _ {os ps : List Offer} {v : ℕ} (s : Sound os) (m : Matched os ps v) where

@@ -26,7 +26,7 @@ pub struct Market {
 // the first match".
 pub fn clear(offers: &mut [Offer], capacities: &[Option<u32>; 10], executions: &[u32; 10]) -> Market
     requires sound { Sound (offers_in offers.old) }
-    requires capacities_small { Small (energies_of capacities.now) }
+    requires capacities_small { (w : ℕ) → w < 10 → get_or (energies_of capacities.now) w 0 < 2147483648 }
     requires executions_small { Small executions.now }
     ensures market_cleared { (xs : List Execution) → ExecutionFlows executions.now xs
         → MarketCleared (offers_in offers.old) capacities.now xs (offers_in offers.new) result }

@@ -22,7 +22,7 @@ clear-market-requires-clause-sound c =
     rw (c.deref_mut.ensures.value, c.fresh-offers.ensures, c.deref.ensures.0) (offers-sound c.requires)
 
 pub clear-market-requires-clause-capacities_small : goal.clear-market-requires-clause-capacities_small
-clear-market-requires-clause-capacities_small c w = omega (arith, capacities-small c.requires (let x : ℕ = c.well_formed in omega arith) w)
+clear-market-requires-clause-capacities_small c w l = omega (arith, capacities-small c.requires w l)
 
 pub cut-requires-clause-in_range : goal.cut-requires-clause-in_range
 cut-requires-clause-in_range c =

@@ -2,7 +2,7 @@ use Rattle.std.proofs.Common.{rules}
 use mathlib.Core.Path.{◌∙◌, sym}
 use Rattle.rules.proofs.ListLaws.{all_map}
 use Rattle.hour_match.proofs.KeptLaws.{along-of}
-use Rattle.hour_market.proofs.MarketLaws.{offered-small, matched-in-range, first-sound, first-traded, first-laid, market-said}
+use Rattle.hour_market.proofs.MarketLaws.{offered-small, matched-in-range, first-sound, first-traded, first-laid, market-said, small}
 use Rattle.hour_market.proofs.clear.Goals as goal
 
 pub order-sales-requires-clause-priced : goal.order-sales-requires-clause-priced
@@ -54,3 +54,6 @@ returns-clause-market_cleared c = λ xs k.
     market-said (c.match_offers-volume.ensures a b) c.args.capacities.now c.maxima-maxima.result xs
     (c.maxima-maxima.ensures.split _ xs k c.market_flows-market.ensures.flows c.legacy_flows-legacy.ensures.flows) w _
     (c.price_of-price.ensures (along-of w.laid.sound (c.deref-5.ensures.0 ∙ c.order-sales.ensures.ordered ∙ sym (c.deref-3.ensures.0 ∙ c.order-sales.ensures.ordered) ∙ w.laid.rising)) w.traded)
+
+pub maxima-maxima-requires-clause-capacities_small : goal.maxima-maxima-requires-clause-capacities_small
+maxima-maxima-requires-clause-capacities_small c = small c.args.capacities.now c.told-capacities c.requires.capacities_small
