@@ -1,7 +1,6 @@
 pub mod IndexLaws
 pub mod NumberLaws
 pub mod SliceLaws
-pub mod SortLaws
 pub mod TestLaws
 pub mod LayLaws
 pub mod ListingLaws

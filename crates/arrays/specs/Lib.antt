@@ -1,3 +1,2 @@
 pub mod Indices
-pub mod Sorting
 pub mod Listing

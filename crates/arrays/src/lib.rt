@@ -5,7 +5,6 @@ ghost use Rattle.std.specs.Prelude.{◌≡◌, ℕ, ◌+◌, ◌-◌, ◌*◌, �
 ghost use Rattle.rules.specs.Lists.{sum, any};
 ghost use Rattle.rules.specs.Units.{max_energy};
 ghost use Rattle.arrays.specs.Indices.{vals, rises};
-ghost use Rattle.arrays.specs.Sorting.{sort};
 ghost use Rattle.arrays.specs.Listing.{Listed};
 
 use rules::LODGEMENTS;
@@ -70,20 +69,6 @@ pub fn total(a: &[u32; LODGEMENTS], n: usize) -> u32
         s += a[i];
     }
     s
-}
-
-// x among the first k numbers of an array, which are sorted.
-pub fn insert(a: &mut [u32; LODGEMENTS], k: usize, x: u32)
-    requires { (k < 128) × (length a.old ≡ 128) }
-    ensures { (length a.new ≡ 128) × ((xs : List ℕ) → take k a.old ≡ sort xs → take (k + 1) a.new ≡ sort (x ∷ xs)) }
-{
-    let mut c = x;
-    for j in 0..k {
-        let y = a[j];
-        a[j] = lower(c, y);
-        c = higher(c, y);
-    }
-    a[k] = c;
 }
 
 // Whether one of the first n numbers is above a bound.

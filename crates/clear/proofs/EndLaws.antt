@@ -1,7 +1,7 @@
 -- The hours of a session that stands for a closed book, one after the other, and the call's ways out.
-use Prim.Native.Nat.{ℕ, suc, ◌+◌, ◌≤◌, ◌<◌}
+use Prim.Native.Nat.{ℕ, zero, suc, ◌+◌, ◌≤◌, ◌<◌}
 use mathlib.Core.Path.{◌≡◌, refl, sym, ap, ap₂, ◌∙◌}
-use mathlib.Core.Bool.{true, cond, not}
+use mathlib.Core.Bool.{Bool, true, false, cond, not, false≢true}
 use mathlib.Core.List.{List, [], ◌∷◌, ◌++◌, map, map-map}
 use mathlib.Core.Option.{none as nothing}
 use native.Mathlib.Omega.{arith}
@@ -9,7 +9,7 @@ use native.Mathlib.Numerals.{add-one}
 use lib.Dec.{eqb}
 use lib.ListN.{get_or, length, take, set, replicate, length-map, length-take}
 use borrow.Author.Tests.{not-false}
-use Rattle.rules.specs.Lists.{sum, sum_of, from, keep}
+use Rattle.rules.specs.Lists.{All, sum, sum_of, from, keep}
 use Rattle.rules.specs.Refusals.{row, first_row}
 use Rattle.rules.specs.Units as U
 use Rattle.rules.specs.Match.{Offer}
@@ -19,7 +19,7 @@ use Rattle.rules.specs.Closing as C
 use Rattle.rules.specs.Clearing as R
 use Rattle.rules.specs.Queries.{matched_at, executed_at}
 use Rattle.rules.specs.DayBook as D
-use Rattle.rules.proofs.BoolLaws.{neither}
+use Rattle.rules.proofs.BoolLaws.{by_bool, neither}
 use Rattle.rules.proofs.ListLaws.{all_head}
 use Rattle.rules.proofs.RefusalLaws.{accepted-rows}
 use Rattle.rules.proofs.BookLaws.{frozen-judgements, frozen-figures}
@@ -27,7 +27,7 @@ use Rattle.hour.specs.declared.Hour.{Hour}
 use Rattle.hour.specs.declared.Figures.{Figures}
 use Rattle.hour.specs.Ready.{is_ready, figures_of}
 use Rattle.hour.specs.View.{hour_in, figures_in, figures_as}
-use Rattle.hour.proofs.ReadyLaws.{ready-told}
+use Rattle.hour.proofs.ReadyLaws.{ready-told, ready-holds}
 use Rattle.session.specs.declared.Session.{Session}
 use Rattle.session.specs.declared.Unit.{Unit}
 use Rattle.session.specs.declared.HourFigures.{HourFigures}
@@ -39,17 +39,15 @@ use Rattle.session.specs.Parts.{Entered}
 use Rattle.session.proofs.LaidLaws.{map_last, set-pad}
 use Rattle.session.proofs.ImageLaws.{hours-as, units-as, enrolled-as}
 use Rattle.clear.specs.declared.HourEnd.{HourEnd}
-use Rattle.hour_borders.specs.declared.Executions.{Executions}
-use Rattle.arrays.specs.declared.Indices.{Indices}
-use Rattle.clear_gather.specs.declared.Gathered.{Gathered}
-use Rattle.clear_gather.specs.Columns.{Column}
-use Rattle.clear_gather.specs.Built.{UnitIndices, Holders, Held, holders_in, picked_at, unit_at, Gather}
-use Rattle.clear_gather.proofs.UnitLaws.{unit-indexed}
-use Rattle.clear_store.specs.Shown.{Indexed, cleared_as}
+use Rattle.hour_offers.specs.declared.Holder.{Holder}
+use Rattle.hour_offers.specs.declared.Offer.{Offer as Own}
+use Rattle.hour_offers.specs.declared.Execution.{Execution as OwnExecution}
+use Rattle.clear_gather.specs.Built.{Holders, Built}
+use Rattle.clear_gather.proofs.CountLaws.{from_last}
+use Rattle.clear_store.specs.Shown.{cleared_as}
 use Rattle.clear.specs.Hours.{HourAs, HoursAs}
-use Rattle.hour.proofs.LaidLaws.{length_from, from_last}
+use Rattle.std.specs.Prelude.{Some, None, is_some, unwrap_or}
 use Rattle.hour_clear.proofs.ClearLaws.{figures-read, matched-small, executed-small}
-use Rattle.clear_store.proofs.FigureLaws.{sum-last}
 use Rattle.clear_gather.proofs.HourLaws.{hour-as}
 use Rattle.clear_gather.proofs.ReadyLaws.{hour-ready}
 
@@ -70,58 +68,50 @@ figures-as b h =
     (sym (map-map (λ (u : Unit). sum_of (λ (o : Offer). o.matched) (keep (λ o. eqb o.holder.unit u.number) (R.figures_at b h).offers)) I.unit_of b.units))
     (sym (map-map (λ (u : Unit). sum_of (λ (x : Execution). x.energy) (keep (λ x. eqb x.holder.unit u.number) (R.figures_at b h).executions)) I.unit_of b.units))
 
--- the holders of an hour are at the indices of their units
-module _ (s : Session) (b : B.Book) (e : s ≡ I.image b) (sound : I.Sound b) (index : List ℕ) (hs : List Unit) (unit-indices : UnitIndices s index) (holders : Holders s hs) (p : Indices) (inside : (i : ℕ) → i < p.count → get_or p.at i 0 < s.standing) where
-  all-indexed : (x : Executions) (r : List ℕ) → Held s.lodgements hs p x → Column (picked_at index p.at) 0 p.count 128 r → Indexed s.units s.enrolled x.unit r x.count
-  unfolding picked_at unit_at
-  all-indexed x r h c i q l m =
-      let n : i < p.count = omega (arith, h.count) in
-      rw (c.at i n, h.units.at i n) (unit-indexed s b e sound index hs unit-indices holders (get_or p.at i 0) q (inside i n) m)
-
--- the figures of a ready hour are the rules', laid out
-figures-ready : (h : Hour) → is_ready h ≡ true → figures_of h ≡ figures_as (R.clear_hour (hour_in h))
+-- figures that clearing gives are those of a ready hour
+figures-given : (h : Hour) (f : Figures) → is_ready h ≡ true → Some f ≡ figures_of h → f ≡ figures_as (R.clear_hour (hour_in h))
 unfolding figures_of
-figures-ready h t = rw t
+figures-given h f t e = ap (λ o. unwrap_or o f) e ∙ rw t refl
 
-pub hour-told : (s : Session) (index : List ℕ) (hs : List Unit) (k : ℕ) (g : Gathered) (f : Figures) (r : HourFigures) → UnitIndices s index → Holders s hs → Gather s hs index k g
-    → f ≡ figures_of g.hour
-    → ((us : List Unit) → s.enrolled ≤ length us
-    → Indexed us s.enrolled g.hour.offers.unit g.offering g.hour.offers.count
-    → Indexed us s.enrolled g.hour.executions.unit g.executing g.hour.executions.count
-    → f ≡ figures_as (figures_in g.hour f) → r ≡ cleared_as (figures_in g.hour f) (take s.enrolled us))
+figures-none : (h : Hour) (f : Figures) → is_ready h ≡ false → Some f ≡ figures_of h → ⊥
+unfolding figures_of
+figures-none h f t e = false≢true (sym (ap (λ o. is_some o) e ∙ rw t refl))
+
+pub hour-told : (s : Session) (hs : List Holder) (k : ℕ) (h : Hour) (f : Figures) (r : HourFigures) → Holders s hs → Built s hs k h → Some f ≡ figures_of h
+    → (f ≡ figures_as (figures_in f) → r ≡ cleared_as (figures_in f) (take s.enrolled s.units))
     → HourAs s k (record { steps = f.steps; figures = r })
 unfolding figures_in R.figures_at
-hour-told s index hs k x f r unit-indices holders t q p b sound closed e =
-    let h : Hour = x.hour in
-    let ready = hour-ready s b e sound closed hs holders k h t.built in
-    let laid : f ≡ figures_as (R.clear_hour (hour_in h)) = q ∙ figures-ready h (ready-told h ready) in
-    let read : figures_in h f ≡ R.clear_hour (hour_in h) = ap (figures_in h) laid ∙ figures-read ready in
-    let a : figures_in h f ≡ R.figures_at b (suc k) = read ∙ figured in
-    (kept (laid ∙ ap figures_as (sym read)) ∙ (ap₂ cleared_as a (units-as s b e) ∙ sym (figures-as b (suc k))), steps a)
-  where
-    figured : R.clear_hour (hour_in x.hour) ≡ R.figures_at b (suc k)
-    figured = ap R.clear_hour (hour-as s b e closed hs holders k x.hour t.built sound.directions)
+hour-told s hs k h f r holders t q kept b sound closed e =
+    let ready = hour-ready s b e sound closed hs holders k h t in
+    let laid : f ≡ figures_as (R.clear_hour (hour_in h)) = figures-given h f (ready-told h ready) q in
+    let read : figures_in f ≡ R.clear_hour (hour_in h) = ap figures_in laid ∙ figures-read ready in
+    let a : figures_in f ≡ R.figures_at b (suc k) = read ∙ ap R.clear_hour (hour-as s b e closed hs holders k h t sound.directions) in
+    (kept (laid ∙ ap figures_as (sym read)) ∙ (ap₂ cleared_as a (units-as s b e) ∙ sym (figures-as b (suc k))), ap (λ (x : R.Figures). x.steps) a)
 
-    steps : figures_in x.hour f ≡ R.figures_at b (suc k) → f.steps ≡ (R.figures_at b (suc k)).steps
-    steps a = ap (λ (x : R.Figures). x.steps) a
+-- every hour of a sound book is ready
+pub hour-none : (s : Session) (hs : List Holder) (k : ℕ) (h : Hour) (r : HourEnd) → Holders s hs → Built s hs k h → None ≡ figures_of h → HourAs s k r
+unfolding figures_of
+hour-none s hs k h r holders t q b sound closed e =
+    absurd (false≢true (ap (λ o. is_some o) q ∙ rw (ready-told h (hour-ready s b e sound closed hs holders k h t)) refl))
 
-    long : s.enrolled ≤ length s.units
-    long =
-        let l : length (take s.enrolled s.units) ≡ s.enrolled = ap length (units-as s b e) ∙ (length-map b.units I.unit_of ∙ enrolled-as s b e) in
-        omega (arith, l, length-take s.enrolled s.units)
-
-    kept : f ≡ figures_as (figures_in x.hour f) → r ≡ cleared_as (figures_in x.hour f) (take s.enrolled s.units)
-    kept =
-        let y = t.built in
-        p s.units long
-        (all-indexed s b e sound index hs unit-indices holders y.indices y.chosen.inside (holders_in x.hour.offers) x.offering y.holders t.offering)
-        (all-indexed s b e sound index hs unit-indices holders y.indices' y.chosen'.inside x.hour.executions x.executing y.holders' t.executing)
-
--- energies in range, whether the hour was ready or not
-pub figures-small : (h : Hour) (f : Figures) → f ≡ figures_of h → ((i : ℕ) → get_or f.matched i 0 ≤ U.max_energy) × ((i : ℕ) → get_or f.executed i 0 ≤ U.max_energy)
-figures-small h f q = rw q (matched-small h, executed-small h)
+-- energies in range, whatever hour is cleared
+pub figures-small : (h : Hour) (f : Figures) → Some f ≡ figures_of h → All (λ (o : Own). o.matched ≤ U.max_energy) f.offers.items × All (λ (x : OwnExecution). x.energy ≤ U.max_energy) f.executions.items
+figures-small h f q =
+    by_bool (is_ready h)
+    (λ t. let r = ready-holds h t in rw (figures-given h f t q) (matched-small r, executed-small r))
+    (λ t. absurd (figures-none h f t q))
 
 -- The loop over the hours
+
+length_from : (a n : ℕ) → length (from a n) ≡ n
+unfolding from
+length_from a zero = refl
+length_from a (suc n) = ap suc (length_from (suc a) n)
+
+sum-last : (f : ℕ → ℕ) (l : List ℕ) (x : ℕ) → sum_of f (l ++ (x ∷ [])) ≡ sum_of f l + f x
+unfolding sum_of sum
+sum-last f [] x = omega arith
+sum-last f (y ∷ l) x = ap (λ n. f y + n) (sum-last f l x) ∙ omega arith
 
 pub hours-start : (s : Session) (x : HourFigures) → x ≡ I.no_figures → HoursAs s 0 (replicate 25 x) 0
 unfolding pad from sum_of sum

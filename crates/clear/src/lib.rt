@@ -1,21 +1,21 @@
 // Clearing a session's day, hour by hour (document 01, "Clearing, hour by hour").
 #![tactic(auto)]
 
-ghost use Rattle.std.specs.Prelude.{◌<◌};
+ghost use Rattle.std.specs.Prelude.{◌<◌, ◌≤◌, length};
 ghost use Rattle.rules.specs.DayBook.{clear};
 ghost use Rattle.session.specs.Steps.{Met};
 ghost use Rattle.session.specs.Parts.{Within, Entered};
 ghost use Rattle.session_changes.specs.Changes.{clearing_effect};
-ghost use Rattle.clear_gather.specs.Built.{DayOf, day_in};
+ghost use Rattle.clear_gather.specs.Built.{Holders};
 ghost use Rattle.clear.specs.Hours.{HourAs, HoursAs};
 
 pub mod stages;
 
 use crate::stages::judge_clear;
 use answer::steps;
-use hour_borders::Executions;
+use hour_offers::Holder;
 use rules::row::GATE;
-use rules::{HOURS, LODGEMENTS};
+use rules::HOURS;
 use session::{Effect, HourFigures, Ruling, Session};
 use session_changes::{ClearingChange, ClearingEffect, clearing_refused, with_clearing};
 
@@ -33,57 +33,39 @@ pub struct DayEnd {
     pub figures: [HourFigures; HOURS],
 }
 
-// The hour at index k. `all` and what is lent are what the day's hours read of the lodgements (`clear_gather::Day`). An hour that no session
-// of calls has, one that is not ready, gets figures of 0.
-fn clear_hour<'a>(
-    s: Session,
-    k: usize,
-    all: Executions,
-    index: &'a [u32; LODGEMENTS],
-    offer: &'a [bool; LODGEMENTS],
-    execution: &'a [bool; LODGEMENTS],
-    energy: &'a [u32; LODGEMENTS * HOURS],
-    price: &'a [u32; LODGEMENTS * HOURS],
-) -> HourEnd
-    requires { Within s × (k < 25) }
-    ensures { DayOf s (day_in all index.now offer.now execution.now energy.now price.now) → HourAs s k result }
+// The hour at index k, `holders` being those of the standing lodgements. An hour that no session of calls has, one that is not ready, gets
+// figures of 0.
+fn clear_hour(s: &Session, holders: &[Holder], k: usize) -> HourEnd
+    requires { Within s.now × (length holders.now ≤ 128) × (k < 25) }
+    ensures { Holders s.now holders.now → HourAs s.now k result }
 {
-    let g = clear_gather::hour_at(s, k, all, index, offer, execution, energy, price);
-    let h = g.hour;
-    let c = hour_clear::clear(h);
-    let f = c.figures;
-    let figures = clear_store::stored(s.enrolled, h, f, &g.offering, &g.executing);
-    HourEnd {
-        steps: f.steps,
-        figures,
+    let hour = clear_gather::hour_at(s, holders, k);
+    match hour_clear::clear(&hour) {
+        Some(figures) => HourEnd {
+            steps: figures.steps,
+            figures: clear_store::stored(&s.units[..s.enrolled], &figures),
+        },
+        None => HourEnd {
+            steps: 0,
+            figures: session::no_figures(),
+        },
     }
 }
 
 // Every hour of the day, 1 to H.
-fn clear_hours(s: Session) -> DayEnd
-    requires { Within s }
-    ensures { HoursAs s s.hours result.figures result.steps }
+fn clear_hours(s: &Session) -> DayEnd
+    requires { Within s.now }
+    ensures { HoursAs s.now s.now.hours result.figures result.steps }
 {
-    let d = clear_gather::day_of(s);
-    let all = d.holders;
+    let holders = clear_gather::holders_of(&s.units[..s.enrolled], &s.lodgements[..s.standing]);
     let none = session::no_figures();
     let n = s.hours as usize;
     let mut figures = [none; HOURS];
     let mut steps: u64 = 0;
     for k in 0..n {
-        let e = clear_hour(
-            s,
-            k,
-            all,
-            &d.index,
-            &d.offer,
-            &d.execution,
-            &d.energy,
-            &d.price,
-        );
-        let f = e.figures;
-        figures[k] = f;
-        steps += arrays::wide(e.steps);
+        let end = clear_hour(s, &holders, k);
+        figures[k] = end.figures;
+        steps += u64::from(end.steps);
     }
     DayEnd { steps, figures }
 }
@@ -93,7 +75,7 @@ fn enter_clear(s: Session) -> ClearingEffect
     requires { Within s }
     ensures { Entered s clear (clearing_effect s result) }
 {
-    let d = clear_hours(s);
+    let d = clear_hours(&s);
     let figures = d.figures;
     let change = ClearingChange {
         figures: figures,

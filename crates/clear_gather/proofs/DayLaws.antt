@@ -5,13 +5,13 @@ use mathlib.Core.Bool.{Bool, true, false, cond, not, ◌&&◌, beq}
 use mathlib.Core.List.{List, [], map, map-map}
 use native.Mathlib.Omega.{arith}
 use lib.Dec.{ltb}
-use lib.ListN.{get_or, length, take, length-map}
+use lib.ListN.{get_or, length, length-map}
 use Rattle.rules.specs.Lists.{keep, from}
 use Rattle.rules.specs.Units as U
 use Rattle.rules.specs.Lodging as L
 use Rattle.rules.specs.Book as B
 use Rattle.rules.specs.Closing as C
-use Rattle.rules.proofs.ListLaws.{keep-map, keep-keep, keep_same, hourly-suc}
+use Rattle.rules.proofs.ListLaws.{keep-map, keep-keep, keep_same, all_keep, hourly-suc}
 use Rattle.rules.proofs.ElementLaws.{all-every}
 use Rattle.arrays.proofs.IndexLaws.{from_all, map-all}
 use Rattle.session.specs.Bare.{bare_energies}
@@ -21,10 +21,16 @@ use Rattle.session.specs.Laid.{pad}
 use Rattle.session.specs.Image as I
 use Rattle.session.specs.Parts.{number_is}
 use Rattle.session.proofs.IndexLaws.{get_or-map}
-use Rattle.session.proofs.ImageLaws.{units-as, standing-as}
-use Rattle.arrays.specs.declared.Indices.{Indices}
-use Rattle.clear_gather.specs.Built.{unit_among, holder_in, Holders, counts, counts_at, energy_on, Chosen}
-use Rattle.clear_gather.proofs.ListLaws.{front-indices, all-indices, laid-at, first-map}
+use Rattle.session.proofs.ImageLaws.{units-as, lodgements-as}
+use Rattle.rules.specs.Match as M
+use Rattle.rules.specs.Clearing as R
+use Rattle.hour_offers.specs.declared.Holder.{Holder}
+use Rattle.hour_offers.specs.View.{holder_in}
+use Rattle.clear_gather.specs.Built.{unit_among, holder_of, no_holder, Holders, counts, counts_at, energy_on, chosen}
+use Rattle.clear_gather.proofs.ListLaws.{all-indices, laid-at, first-map}
+
+abbrev holder_with : ℕ → Unit → M.Holder
+holder_with n u = record { number = n; unit = u.number; border = u.border; purchase = u.purchase; legacy = u.legacy }
 
 abbrev pub blank : L.Lodgement
 blank = record { key = record { execution = false; default = false; unit = 0; contract = 0 }; number = 0; energies = []; prices = [] }
@@ -109,34 +115,38 @@ module _ (s : Session) (b : B.Book) (e : s ≡ I.image b) where
       ∙ ap C.is_accepted (get_or-map judged blank C.hidden b.standing i h)))
       )
 
-  -- the unit of a lodgement
-  among-as : (n : ℕ) → unit_among (take s.enrolled s.units) n ≡ I.unit_of (U.unit_of b.units n)
+  -- whose a lodgement's energies are
+  among-as : (n : ℕ) → unit_among (map I.unit_of b.units) n ≡ I.unit_of (U.unit_of b.units n)
   unfolding unit_among U.unit_of U.has_number
-  among-as n = rw (units-as s b e) (first-map U.nobody I.unit_of (number_is n) b.units)
+  among-as n = first-map U.nobody I.unit_of (number_is n) b.units
 
-  pub holder-at : (hs : List Unit) → Holders s hs → (i : ℕ) → i < length b.standing → get_or hs i I.no_unit ≡ I.unit_of (U.unit_of b.units (standing b i).key.unit)
-  unfolding holder_in
+  pub holders-as : (hs : List Holder) → Holders s hs → hs ≡ map (λ l. holder_of (map I.unit_of b.units) (I.lodgement_as l)) b.standing
+  holders-as hs c = c ∙ (rw (units-as s b e, lodgements-as s b e) (map-map (holder_of (map I.unit_of b.units)) I.lodgement_as b.standing))
+
+  pub holder-at : (hs : List Holder) → Holders s hs → (i : ℕ) → i < length b.standing → holder_in (get_or hs i no_holder) ≡ R.holder_of b.units (standing b i)
+  unfolding R.holder_of holder_of
   holder-at hs c i h =
-      c.at i (omega (arith, standing-as s b e))
-      ∙ (ap (λ l. unit_among (take s.enrolled s.units) l.key.unit) (lodgement-at i h) ∙ among-as (standing b i).key.unit)
+      ap (λ (x : List Holder). holder_in (get_or x i no_holder)) (holders-as hs c)
+      ∙ (ap holder_in (get_or-map (λ l. holder_of (map I.unit_of b.units) (I.lodgement_as l)) blank no_holder b.standing i h)
+      ∙ ap (λ (u : Unit). holder_with (standing b i).number u) (among-as (standing b i).key.unit))
+
+  pub holders-long : (hs : List Holder) → Holders s hs → length hs ≡ length b.standing
+  holders-long hs c = ap length (holders-as hs c) ∙ length-map b.standing _
 
   module _ (closed : b.closed ≡ true) (execution : Bool) (k : ℕ) where
     counts-as : (i : ℕ) → i < length b.standing → counts_at s.verdicts s.lodgements s.energies execution k i ≡ chosen_in b execution k (standing b i)
     unfolding counts_at counts energy_on chosen_in
     counts-as i h = rw (verdict-at closed i h, lodgement-at i h, energies-at i h)
 
-    indices-as : keep (counts_at s.verdicts s.lodgements s.energies execution k) (from 0 s.standing) ≡ keep (λ i. chosen_in b execution k (standing b i)) (from 0 (length b.standing))
-    indices-as =
-        rw (← (standing-as s b e))
-        (keep_same _ _ (from_all _ 0 (length b.standing) (λ i l h. counts-as i (omega arith))))
+    indices-as : keep (counts_at s.verdicts s.lodgements s.energies execution k) (from 0 (length b.standing)) ≡ keep (λ i. chosen_in b execution k (standing b i)) (from 0 (length b.standing))
+    indices-as = keep_same _ _ (from_all _ 0 (length b.standing) (λ i l h. counts-as i (omega arith)))
 
     -- what is gathered from the indices is of the lodgements that the rules choose, in their order
-    module _ {A : Type 0} (f : L.Lodgement → A) (own : ℕ → A) (p : Indices) (c : Chosen s.verdicts s.lodgements s.energies s.standing execution k p) where
-      pub gathered : ((i : ℕ) → i < p.count → get_or p.at i 0 < length b.standing → own i ≡ f (standing b (get_or p.at i 0)))
-          → map own (from 0 p.count) ≡ map f (keep (chosen_in b execution k) b.standing)
-      gathered same =
-          map-all own (λ i. f (standing b (get_or p.at i 0))) (from_all _ 0 p.count (λ i a h. same i (omega arith) (omega (arith, c.inside i (omega arith), standing-as s b e))))
-          ∙ (sym (map-map (λ j. f (standing b j)) (λ i. get_or p.at i 0) (from 0 p.count))
-          ∙ (ap (map (λ j. f (standing b j))) (front-indices 0 p.at p.count (omega (arith, c.few, c.long)) ∙ (c.named ∙ indices-as))
-          ∙ (sym (map-map f (standing b) (keep (λ i. chosen_in b execution k (standing b i)) (from 0 (length b.standing))))
-          ∙ ap (map f) (sym (keep-map (standing b) (chosen_in b execution k) (from 0 (length b.standing))) ∙ ap (keep (chosen_in b execution k)) (all-indices blank b.standing)))))
+    pub gathered : {A : Type 0} (f : L.Lodgement → A) (own : ℕ → A) (n : ℕ) → n ≡ length b.standing → ((i : ℕ) → i < length b.standing → own i ≡ f (standing b i))
+        → map own (chosen s n execution k) ≡ map f (keep (chosen_in b execution k) b.standing)
+    gathered f own n l same =
+        ap (λ m. map own (chosen s m execution k)) l
+        ∙ (ap (map own) indices-as
+        ∙ (map-all own (λ i. f (standing b i)) (all_keep (λ i. chosen_in b execution k (standing b i)) (from_all _ 0 (length b.standing) (λ i a h. same i (omega arith))))
+        ∙ (sym (map-map f (standing b) (keep (λ i. chosen_in b execution k (standing b i)) (from 0 (length b.standing))))
+        ∙ ap (map f) (sym (keep-map (standing b) (chosen_in b execution k) (from 0 (length b.standing))) ∙ ap (keep (chosen_in b execution k)) (all-indices blank b.standing)))))

@@ -1,8 +1,7 @@
-pub mod ColumnLaws
-pub mod IndexLaws
-pub mod ListLaws
+mod ListLaws
+pub mod HolderLaws
+pub mod CountLaws
 pub mod DayLaws
 pub mod HourLaws
 pub mod OfferLaws
 pub mod ReadyLaws
-pub mod UnitLaws

@@ -6,9 +6,9 @@ use mathlib.Core.List.{List}
 use mathlib.Core.Option.{some, none as nothing}
 use native.Mathlib.Omega.{arith}
 use lib.Dec.{ltb, eqb}
-use lib.ListN.{get_or, length, replicate, length-map}
-use borrow.Author.Tests.{ltb-true, ltb-false, eqb-false}
-use Rattle.rules.specs.Lists.{All, none, more, Pairwise, any, first, keep, from, hourly}
+use lib.ListN.{get_or, length, length-map}
+use borrow.Author.Tests.{lt-ltb, ltb-true, ltb-false, eqb-false}
+use Rattle.rules.specs.Lists.{All, none, more, Pairwise, any, first, keep, hourly}
 use Rattle.rules.specs.Units as U
 use Rattle.rules.specs.Message.{top_price}
 use Rattle.rules.specs.Lodging as L
@@ -20,21 +20,21 @@ use Rattle.rules.proofs.BoolLaws.{by_bool, neither}
 use Rattle.rules.proofs.ListLaws.{all_map, all-mapped, all_keep, keep-passes, get_or-pad}
 use Rattle.rules.proofs.ListLaws as RL
 use Rattle.rules.proofs.ElementLaws.{all_both, pairwise-keep, pairwise_map}
-use Rattle.arrays.proofs.IndexLaws.{from_all, zeros}
-use Rattle.hour_match.specs.View as M
-use Rattle.hour_borders.specs.View as X
-use Rattle.hour_borders.specs.Ways.{directed, published_in}
+use Rattle.arrays.proofs.IndexLaws.{from_all}
+use Rattle.std.specs.Prelude.{is_some, unwrap_or, None}
+use Rattle.hour_offers.specs.declared.Holder.{Holder as Own}
+use Rattle.hour_offers.specs.View.{execution_in}
 use Rattle.hour.specs.declared.Hour.{Hour}
-use Rattle.hour.specs.View.{hour_in}
+use Rattle.hour_borders.specs.Ways.{directed, energies_of, published_in}
+use Rattle.hour.specs.View.{fresh_in, hour_in}
+use Rattle.hour.proofs.ReadyLaws.{energy-of}
 use Rattle.hour.specs.Ready.{Between, OfferReady, ExecutionReady, Ready}
-use Rattle.hour.proofs.LaidLaws.{all-within, length_from}
+use Rattle.clear_gather.proofs.ListLaws.{all-within}
 use Rattle.session.specs.declared.Session.{Session}
-use Rattle.session.specs.declared.Unit.{Unit}
 use Rattle.session.specs.Laid.{pad}
 use Rattle.session.specs.Image as I
-use Rattle.clear_gather.specs.Built.{Holders, given_at, capacity_at, Built}
-use Rattle.clear_gather.proofs.IndexLaws.{notice-none}
-use Rattle.clear_gather.proofs.HourLaws.{notice-as, hour-as}
+use Rattle.clear_gather.specs.Built.{Holders, capacity_on, Built}
+use Rattle.clear_gather.proofs.HourLaws.{given_at, capacity-as, way-of, hour-as}
 use Rattle.clear_gather.proofs.OfferLaws.{few-offers, all_room}
 
 -- What a sound book gives
@@ -135,43 +135,40 @@ module _ (b : B.Book) (sound : S.Sound b) (h : ℕ) where
       }) (keep-passes (λ l. l.key.execution) (keep is_named (C.accepted_at b))) (all_keep (λ l. l.key.execution) named-fits))
 
 -- a direction's capacity
-capacity-small : (H k : ℕ) (q : U.Published) → S.OfDay H q → get_or (I.notice_as q).energies k 0 ≤ U.max_energy
+capacity-small : (H k : ℕ) (q : U.Published) → S.OfDay H q → unwrap_or (given_at (I.notice_as q) k) 0 ≤ U.max_energy
 unfolding I.notice_as pad
-capacity-small H k nothing S.absent = omega (arith, zeros 25 k)
+capacity-small H k nothing S.absent = omega arith
 capacity-small H k (some es) (S.energies n a) = rw (get_or-pad es (25 - length es) k) (all-within U.max_energy a k)
 
-module _ (s : Session) (b : B.Book) (e : s ≡ I.image b) (sound : I.Sound b) (closed : b.closed ≡ true) (hs : List Unit) (holders : Holders s hs) (k : ℕ) (h : Hour) (t : Built s hs k h) where
+module _ (s : Session) (b : B.Book) (e : s ≡ I.image b) (sound : I.Sound b) (closed : b.closed ≡ true) (hs : List Own) (holders : Holders s hs) (k : ℕ) (h : Hour) (t : Built s hs k h) where
   same : hour_in h ≡ R.hour_of_day b (C.accepted_at b) (suc k)
   same = hour-as s b e closed hs holders k h t sound.directions
 
   -- as many as the rules' hour has
-  offers-count : h.offers.count ≡ length (keep (λ l. not l.key.execution) (keep (λ l. ltb 0 (L.energy_at l (suc k))) (C.accepted_at b)))
-  unfolding hour_in M.offers_of R.hour_of_day
+  offers-count : length h.offers.items ≡ length (keep (λ l. not l.key.execution) (keep (λ l. ltb 0 (L.energy_at l (suc k))) (C.accepted_at b)))
+  unfolding hour_in R.hour_of_day
   offers-count =
-      sym (length_from 0 h.offers.count) ∙ sym (length-map (from 0 h.offers.count) (M.offer_at h.offers h.offered (replicate 128 0))) ∙ ap (λ x. length x.offers) same
+      sym (length-map h.offers.items fresh_in) ∙ ap (λ x. length x.offers) same
       ∙ length-map (keep (λ l. not l.key.execution) (keep (λ l. ltb 0 (L.energy_at l (suc k))) (C.accepted_at b))) (R.offer_at b.units (suc k))
 
-  executions-count : h.executions.count ≡ length (keep (λ l. l.key.execution) (keep (λ l. ltb 0 (L.energy_at l (suc k))) (C.accepted_at b)))
-  unfolding hour_in X.executions_of R.hour_of_day
+  executions-count : length h.executions.items ≡ length (keep (λ l. l.key.execution) (keep (λ l. ltb 0 (L.energy_at l (suc k))) (C.accepted_at b)))
+  unfolding hour_in R.hour_of_day
   executions-count =
-      sym (length_from 0 h.executions.count) ∙ sym (length-map (from 0 h.executions.count) (X.execution_at h.executions h.energy)) ∙ ap (λ x. length x.executions) same
+      sym (length-map h.executions.items execution_in) ∙ ap (λ x. length x.executions) same
       ∙ length-map (keep (λ l. l.key.execution) (keep (λ l. ltb 0 (L.energy_at l (suc k))) (C.accepted_at b))) (R.execution_at b.units (suc k))
 
-  home : (w : ℕ) → w < 2 → get_or h.published w false ≡ false
-  unfolding given_at
-  home w l = t.capacities.flags.at w (omega arith) ∙ ap (λ n. n.given) (sym (notice-none s.capacities w l))
+  home : (w : ℕ) → w < 2 → get_or h.capacities w None ≡ None
+  unfolding capacity_on
+  home w l = way-of s b e sound.directions k h.capacities t.capacities w (omega arith) ∙ rw (lt-ltb w 2 l) refl
 
-  capacity-range : (w : ℕ) → w < 10 → get_or h.capacity w 0 ≤ U.max_energy
-  unfolding capacity_at
-  capacity-range w l =
-      rw (t.capacities.energies.at w l)
-      (by_bool (ltb w 2) (λ q. rw (← (notice-none s.capacities w (ltb-true w 2 q))) (omega (arith, zeros 25 k)))
-      (λ q. rw (notice-as s b e sound.directions k w (ltb-false w 2 q) l)
-      (capacity-small (B.hours b) k (get_or b.capacities (w - 2) nothing) (RL.all-at (w - 2) nothing sound.ranges.capacities (omega (arith, sound.directions, ltb-false w 2 q))))))
+  capacity-range : (w : ℕ) → 2 ≤ w → w < 10 → unwrap_or (get_or h.capacities w None) 0 ≤ U.max_energy
+  capacity-range w m l =
+      rw (way-of s b e sound.directions k h.capacities t.capacities w l, capacity-as s b e sound.directions k w m l)
+      (capacity-small (B.hours b) k (get_or b.capacities (w - 2) nothing) (RL.all-at (w - 2) nothing sound.ranges.capacities (omega (arith, sound.directions))))
 
-  capacities-range : All (λ c. c.energy ≤ U.max_energy) (published_in h.published h.capacity)
+  capacities-range : All (λ c. c.energy ≤ U.max_energy) (published_in h.capacities)
   unfolding published_in directed
-  capacities-range = all-mapped (directed h.capacity) (all_keep (λ w. get_or h.published w false) (from_all _ 2 8 (λ w l m. capacity-range w (omega arith))))
+  capacities-range = all-mapped (directed (energies_of h.capacities)) (all_keep (λ w. is_some (get_or h.capacities w None)) (from_all _ 2 8 (λ w l m. rw (energy-of h.capacities w) (capacity-range w l (omega arith)))))
 
   pub hour-ready : Ready h
   unfolding hour_in R.hour_of_day R.offer_at R.execution_at R.holder_of C.accepted_at

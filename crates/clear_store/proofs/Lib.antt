@@ -1,1 +1,1 @@
-pub mod FigureLaws
+mod SumLaws

@@ -1,67 +1,83 @@
 // The figures of an hour as the session keeps them.
 #![tactic(auto)]
 
-ghost use Rattle.std.specs.Prelude.{◌≡◌, List, ℕ, ◌≤◌, get_or, take, length};
-ghost use Rattle.session.specs.declared.Unit.{Unit};
+ghost use Rattle.std.specs.Prelude.{◌≡◌, ◌≤◌, ℕ, map, eqb, length, unwrap_or};
+ghost use Rattle.rules.specs.Lists.{All, keep, sum_of};
 ghost use Rattle.rules.specs.Units.{max_energy};
+ghost use Rattle.session.specs.Laid.{pad};
 ghost use Rattle.hour.specs.View.{figures_in, figures_as};
-ghost use Rattle.clear_gather.specs.Columns.{Column};
-ghost use Rattle.clear_store.specs.Shown.{unit_energy, Indexed, cleared_as};
+ghost use Rattle.clear_store.specs.Shown.{cleared_as};
 
-use hour::{Figures, Hour};
-use rules::{LODGEMENTS, UNITS};
-use session::HourFigures;
+use hour::Figures;
+use hour_offers::{Execution, Offer};
+use rules::UNITS;
+use session::{HourFigures, Unit};
 
-// "a unit's matched [..] and executed energy in an hour": of each of the first `enrolled` units, at its index, `index` being the
-// indices of the holders' units.
-fn by_unit(
-    enrolled: usize,
-    n: usize,
-    index: &[u32; LODGEMENTS],
-    energy: &[u32; LODGEMENTS],
-) -> [u32; UNITS]
-    requires { (enrolled ≤ 64) × (n ≤ 128) × ((i : ℕ) → get_or energy.now i 0 ≤ max_energy) }
-    ensures { Column (unit_energy index.now energy.now n) 0 enrolled 64 result }
+// "a unit's matched [..] energy in an hour"
+fn matched_of(offers: &[Offer], unit: u32) -> u32
+    requires { (length offers.now ≤ 128) × All (λ o. o.matched ≤ max_energy) offers.now }
+    ensures { result ≡ sum_of (λ o. o.matched) (keep (λ o. eqb o.holder.unit unit) offers.now) }
 {
-    let mut a = [0u32; UNITS];
-    for i in 0..n {
-        let p = clear_gather::as_index(index[i]);
-        if enrolled <= p {
-            continue;
+    let mut energy = 0;
+    for offer in offers {
+        if offer.holder.unit == unit {
+            energy += offer.matched;
         }
-        a[p] += energy[i];
     }
-    a
+    energy
 }
 
-// What the session keeps of an hour's figures, `offering` and `executing` being the indices of the holders' units.
-pub fn stored<'a>(
-    enrolled: usize,
-    h: Hour,
-    f: Figures,
-    offering: &'a [u32; LODGEMENTS],
-    executing: &'a [u32; LODGEMENTS],
-) -> HourFigures
-    requires { (enrolled ≤ 64) × (h.offers.count ≤ 128) × (h.executions.count ≤ 128)
-        × ((i : ℕ) → get_or f.matched i 0 ≤ max_energy) × ((i : ℕ) → get_or f.executed i 0 ≤ max_energy) }
-    ensures { (us : List Unit) → enrolled ≤ length us
-        → Indexed us enrolled h.offers.unit offering.now h.offers.count
-        → Indexed us enrolled h.executions.unit executing.now h.executions.count
-        → f ≡ figures_as (figures_in h f) → result ≡ cleared_as (figures_in h f) (take enrolled us) }
+// "a unit's [..] executed energy in an hour"
+fn executed_of(executions: &[Execution], unit: u32) -> u32
+    requires { (length executions.now ≤ 128) × All (λ x. x.energy ≤ max_energy) executions.now }
+    ensures { result ≡ sum_of (λ x. x.energy) (keep (λ x. eqb x.holder.unit unit) executions.now) }
 {
-    let sold = f.matched;
-    let cut = f.executed;
-    let matched = by_unit(enrolled, h.offers.count, offering, &sold);
-    let executed = by_unit(enrolled, h.executions.count, executing, &cut);
-    let maxima = f.maxima;
-    let market = f.market;
-    let bilateral = f.bilateral;
+    let mut energy = 0;
+    for execution in executions {
+        if execution.holder.unit == unit {
+            energy += execution.energy;
+        }
+    }
+    energy
+}
+
+// What `energy_of` gives of each unit's number, at the unit's index.
+fn by_unit<F: Fn(u32) -> u32>(units: &[Unit], energy_of: F) -> [u32; UNITS]
+    requires { (length units.now ≤ 64) × F.IsAlwaysCallable energy_of }
+    ensures { (g : ℕ → ℕ) → ((n r : ℕ) → F.post energy_of n r → r ≡ g n) → result ≡ pad 64 0 (map (λ u. g u.number) units.now) }
+{
+    let mut energies = [0; UNITS];
+    for (i, unit) in units.iter().enumerate() {
+        energies[i] = energy_of(unit.number);
+    }
+    energies
+}
+
+// Maxima by way, 0 where there is none.
+fn plain(maxima: &[Option<u32>; 10]) -> [u32; 10]
+    ensures { result ≡ map (λ m. unwrap_or m 0) maxima.now }
+{
+    let mut energies = [0; 10];
+    for (way, maximum) in maxima.iter().enumerate() {
+        energies[way] = maximum.unwrap_or(0);
+    }
+    energies
+}
+
+// What the session keeps of an hour's figures, `units` being those registered.
+pub fn stored(units: &[Unit], figures: &Figures) -> HourFigures
+    requires { (length units.now ≤ 64) × All (λ o. o.matched ≤ max_energy) figures.now.offers.items
+        × All (λ x. x.energy ≤ max_energy) figures.now.executions.items }
+    ensures { figures.now ≡ figures_as (figures_in figures.now) → result ≡ cleared_as (figures_in figures.now) units.now }
+{
+    let offers = figures.offers.as_slice();
+    let executions = figures.executions.as_slice();
     HourFigures {
-        price: f.price,
-        market,
-        bilateral,
-        maxima,
-        matched,
-        executed,
+        price: figures.price,
+        market: figures.market,
+        bilateral: figures.bilateral,
+        maxima: plain(&figures.maxima),
+        matched: by_unit(units, |unit| matched_of(offers, unit)),
+        executed: by_unit(units, |unit| executed_of(executions, unit)),
     }
 }

@@ -1,3 +1,3 @@
-pub mod LaidLaws
+mod RangeLaws
 pub mod ReadyLaws
-pub mod RangeLaws
+pub mod LaidLaws

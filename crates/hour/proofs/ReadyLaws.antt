@@ -1,218 +1,259 @@
 -- The test of an hour and what it stands for.
-use Prim.Native.Nat.{ℕ, zero, suc, ◌+◌, ◌-◌, ◌≤◌, ◌<◌}
+use Prim.Native.Nat.{ℕ, zero, suc, ◌+◌, ◌≤◌, ◌<◌}
 use mathlib.Core.Path.{◌≡◌, refl}
-use mathlib.Core.Bool.{Bool, true, false, ◌&&◌, ◌||◌}
+use mathlib.Core.Bool.{Bool, true, not, false≢true}
 use mathlib.Core.List.{List, [], ◌∷◌, map}
+use mathlib.Core.Logic.{⊎_elim}
+use native.Mathlib.Nat.{lt_trans, eq-or-lt_of_le}
 use native.Mathlib.Omega.{arith}
-use lib.Dec.{leb, ltb, eqb}
-use lib.ListN.{get_or, replicate}
-use borrow.Author.Tests.{leb-true, le-leb, lt-leb, ltb-false, le-ltb, eqb-false, ne_eqb, not-true}
-use Rattle.rules.specs.Lists.{All, any, from}
-use Rattle.rules.specs.Units.{max_energy, max_price}
-use Rattle.rules.specs.Borders.{Directed}
+use lib.Dec.{ltb, eqb}
+use lib.ListN.{get_or, length, take, length-take, length-map}
+use lib.Seq.{get_or-take}
+use borrow.Author.Tests.{leb-true, le-leb, lt-ltb, ltb-true, ltb-false, le-ltb, eqb-false, ne_eqb, not-true}
+use Rattle.std.specs.Prelude.{is_some, is_none, unwrap_or, Option, Some, None}
+use Rattle.std.specs.List.{list_all}
+use Rattle.rules.specs.Lists.{All, none, more, Pairwise, empty, ahead, from}
+use Rattle.rules.specs.Units.{max_energy, max_price, bad_number}
+use Rattle.rules.specs.Match as M
+use Rattle.rules.specs.Borders as B
 use Rattle.rules.proofs.BoolLaws.{by_bool, both, neither}
-use Rattle.rules.proofs.ListLaws.{all_map, all-mapped, all_keep, all-unkept, keep-passes, any_false, of-any-false}
-use Rattle.rules.proofs.ElementLaws.{all_both, all-unmapped, Pairwise, empty, ahead, pairwise_map}
-use Rattle.arrays.specs.Indices.{vals}
-use Rattle.arrays.proofs.IndexLaws.{from_all, all-at}
-use Rattle.arrays.proofs.TestLaws.{above-none, of-above-none}
-use Rattle.hour_match.specs.View.{Sound, offer_at, offers_of}
-use Rattle.hour_borders.specs.View.{execution_at, executions_of}
-use Rattle.hour_borders.specs.Ways.{directed, published_in}
-use Rattle.hour.specs.Ranges.{outside, bad_holder, bad_lodgement, bad_at, lodgements_ready, bad_capacity, bad_at_way, capacities_ready}
-use Rattle.hour.proofs.RangeLaws.{within-range, of-within, row-holds, of_row}
+use Rattle.rules.proofs.ListLaws.{all_map, all-mapped, all_keep, all-unkept, keep-passes}
+use Rattle.rules.proofs.ElementLaws.{all_both, all-unmapped, pairwise_map}
+use Rattle.arrays.proofs.IndexLaws.{from_all}
+use Rattle.hour_offers.specs.declared.Offer.{Offer}
+use Rattle.hour_offers.specs.declared.Execution.{Execution}
+use Rattle.hour_offers.specs.View.{offer_in, execution_in, executions_in}
+use Rattle.hour_offers.specs.Sound.{Sound, ExecutionInRange}
+use Rattle.hour.specs.Ranges.{within, holder_ready, offer_ready, execution_ready, rises, capacity_ready, offers_ready, executions_ready, capacities_ready}
 use Rattle.hour.specs.declared.Hour.{Hour}
-use Rattle.hour.specs.View.{hour_in}
-use Rattle.hour.proofs.LaidLaws.{pairwise-at}
+use Rattle.hour.specs.View.{fresh_in, hour_in}
+use Rattle.hour_borders.specs.Ways.{directed, energies_of, published_in}
 use Rattle.hour.specs.Ready.{Between, HolderReady, OfferReady, ExecutionReady, Ready, is_ready}
 
--- Each way out of the test
+-- Lists
 
-module _ (h : Hour) where
-  abbrev offers_pass : Bool
-  offers_pass = lodgements_ready 0 h.offers.count h.offers.number h.offers.unit h.offers.border h.offers.legacy h.offered
+module _ {A : Type 0} (p : A → Bool) where
+  all-hold : (xs : List A) → list_all p xs ≡ true → All (λ x. p x ≡ true) xs
+  all-hold [] e = none
+  all-hold (x ∷ xs) e = let q = both _ _ e in more {x = x} q.0 (all-hold xs q.1)
 
-  abbrev dear : Bool
-  dear = any (ltb max_price) (vals h.offers.price 0 h.offers.count)
+  all-told : {xs : List A} → All (λ x. p x ≡ true) xs → list_all p xs ≡ true
+  all-told none = refl
+  all-told (more h t) = rw h (all-told t)
 
-  abbrev executions_pass : Bool
-  executions_pass = lodgements_ready 1 h.executions.count h.executions.number h.executions.unit h.executions.border h.executions.legacy h.energy
+  all-at-index : (d : A) → p d ≡ true → (xs : List A) → list_all p xs ≡ true → (i : ℕ) → p (get_or xs i d) ≡ true
+  all-at-index d e [] h i = e
+  all-at-index d e (x ∷ xs) h zero = (both _ _ h).0
+  all-at-index d e (x ∷ xs) h (suc i) = all-at-index d e xs (both _ _ h).1 i
 
-  pub many-fail : 64 < h.offers.count → false ≡ is_ready h
-  unfolding is_ready
-  many-fail k = rw (lt-leb h.offers.count 64 k)
+  all-from-indices : (d : A) (xs : List A) → ((i : ℕ) → i < length xs → p (get_or xs i d) ≡ true) → list_all p xs ≡ true
+  all-from-indices d [] f = refl
+  all-from-indices d (x ∷ xs) f = rw (f 0 (omega arith)) (all-from-indices d xs (λ i l. f (suc i) (omega arith)))
 
-  module _ (k : h.offers.count ≤ 64) where
-    few : leb h.offers.count 64 ≡ true
-    few = le-leb h.offers.count 64 k
+module _ {A : Type 0} (number : A → ℕ) where
+  rise-holds : (xs : List A) → rises (map number xs) ≡ true → Pairwise (λ x y. number x < number y) xs
+  unfolding rises
+  rise-holds [] e = empty
+  rise-holds (x ∷ []) e = ahead none empty
+  rise-holds (x ∷ y ∷ ys) e =
+      let q = both _ _ e in
+      let h : number x < number y = ltb-true _ _ q.0 in
+      elim (rise-holds (y ∷ ys) q.1) [ ahead a d ↦ ahead (more {x = y} h (all_map (λ z l. lt_trans h l) a)) (ahead a d) ]
 
-    pub room-fail : 128 - h.offers.count < h.executions.count → false ≡ is_ready h
-    unfolding is_ready
-    room-fail l = rw (few, lt-leb (h.offers.count + h.executions.count) 128 (omega arith))
-
-    module _ (l : h.executions.count ≤ 128 - h.offers.count) where
-      room : leb (h.offers.count + h.executions.count) 128 ≡ true
-      room = le-leb (h.offers.count + h.executions.count) 128 (omega arith)
-
-      pub offers-fail : offers_pass ≡ false → false ≡ is_ready h
-      unfolding is_ready
-      offers-fail a = rw (few, room, a)
-
-      pub price-fail : offers_pass ≡ true → dear ≡ true → false ≡ is_ready h
-      unfolding is_ready
-      price-fail a b = rw (few, room, a, b)
-
-      pub executions-fail : offers_pass ≡ true → dear ≡ false → executions_pass ≡ false → false ≡ is_ready h
-      unfolding is_ready
-      executions-fail a b c = rw (few, room, a, b, c)
-
-      pub capacities-decide : {r : Bool} → offers_pass ≡ true → dear ≡ false → executions_pass ≡ true → r ≡ capacities_ready h.published h.capacity → r ≡ is_ready h
-      unfolding is_ready
-      capacities-decide a b c e = rw (few, room, a, b, c) e
-
--- What it stands for
-
-some : (x : ℕ) → (x ≡ 0 → ⊥) → 1 ≤ x
-some zero f = absurd (f refl)
-some (suc x) f = omega arith
-
-module _ (first number unit border : ℕ) (purchase legacy : Bool) where
-  holder-holds : bad_holder first number unit border legacy ≡ false → HolderReady first (record { number = number; unit = unit; border = border; purchase = purchase; legacy = legacy })
-  unfolding bad_holder
-  holder-holds e =
-      let p = neither (outside 1 65535 number || outside 1 65535 unit || outside first 4 border) (legacy && eqb border 0) e in
-      let q = neither (outside 1 65535 number || outside 1 65535 unit) (outside first 4 border) p.0 in
-      let r = neither (outside 1 65535 number) (outside 1 65535 unit) q.0 in
-      record {
-        number = within-range 1 65535 number r.0;
-        unit = within-range 1 65535 unit r.1;
-        border = within-range first 4 border q.1;
-        legacy = λ t. some border (eqb-false border 0 (rw t at p.1));
-      }
-
-  holder-told : HolderReady first (record { number = number; unit = unit; border = border; purchase = purchase; legacy = legacy }) → bad_holder first number unit border legacy ≡ false
-  unfolding bad_holder
-  holder-told r =
-      rw (of-within 1 65535 number r.number.0 r.number.1, of-within 1 65535 unit r.unit.0 r.unit.1, of-within first 4 border r.border.0 r.border.1)
-      (by_bool legacy (λ t. rw t (ne_eqb border 0 (λ z. absurd (omega (arith, r.legacy t))))) (λ t. rw t))
-
-  module _ (energy : ℕ) where
-    lodgement-holds : bad_lodgement first number unit border legacy energy ≡ false
-        → HolderReady first (record { number = number; unit = unit; border = border; purchase = purchase; legacy = legacy }) × Between 1 max_energy energy
-    unfolding bad_lodgement
-    lodgement-holds e = let p = neither (bad_holder first number unit border legacy) (outside 1 max_energy energy) e in (holder-holds p.0, within-range 1 max_energy energy p.1)
-
-    lodgement-told : HolderReady first (record { number = number; unit = unit; border = border; purchase = purchase; legacy = legacy }) → Between 1 max_energy energy
-        → bad_lodgement first number unit border legacy energy ≡ false
-    unfolding bad_lodgement
-    lodgement-told r h = rw (holder-told r, of-within 1 max_energy energy h.0 h.1)
+  rise-told : {xs : List A} → Pairwise (λ x y. number x < number y) xs → rises (map number xs) ≡ true
+  unfolding rises
+  rise-told empty = refl
+  rise-told (ahead none empty) = refl
+  rise-told (ahead (more {x = y} h t) d) = rw (lt-ltb _ (number y) h) (rise-told d)
 
 pairwise-unmapped : {A B : Type 0} {S : B → B → Type 0} (f : A → B) (xs : List A) → Pairwise S (map f xs) → Pairwise (λ x y. S (f x) (f y)) xs
 pairwise-unmapped f [] empty = empty
 pairwise-unmapped f (x ∷ xs) (ahead h t) = ahead (all-unmapped f xs h) (pairwise-unmapped f xs t)
 
--- of a way below 2
-either-home : (P : ℕ → Type 0) → P 0 → P 1 → (w : ℕ) → w < 2 → P w
-either-home P a b zero l = a
-either-home P a b (suc zero) l = b
-either-home P a b (suc (suc w)) l = absurd (omega arith)
+-- what holds of each of some numbers holds of the one
+all-from : {P : ℕ → Type 0} (a d : ℕ) → All P (from a d) → (i : ℕ) → a ≤ i → i < a + d → P i
+unfolding from
+all-from a zero h i l k = absurd (omega arith)
+all-from a (suc d) (more h t) i l k = ⊎_elim (λ q. rw (← q) h) (λ z. all-from (suc a) d t i z (omega arith)) (eq-or-lt_of_le l)
 
-module _ (flags : List Bool) (a : List ℕ) where
-  capacities-hold : any (bad_at_way flags a) (from 2 8) ≡ false → All (λ c. c.energy ≤ max_energy) (published_in flags a)
-  unfolding published_in directed bad_at_way bad_capacity
+-- What an element's test stands for
+
+within-holds : (least most x : ℕ) → within least most x ≡ true → Between least most x
+unfolding within
+within-holds least most x e = let q = both _ _ e in (leb-true _ _ q.0, leb-true _ _ q.1)
+
+within-told : (least most x : ℕ) → Between least most x → within least most x ≡ true
+unfolding within
+within-told least most x h = rw (le-leb least x h.0, le-leb x most h.1)
+
+some : (x : ℕ) → (x ≡ 0 → ⊥) → 1 ≤ x
+some zero f = absurd (f refl)
+some (suc x) f = omega arith
+
+good-number : (n : ℕ) → not (bad_number n) ≡ true → Between 1 65535 n
+unfolding bad_number
+good-number n h = let p = neither (eqb n 0) (ltb 65535 n) (not-true _ h) in (some n (eqb-false n 0 p.0), ltb-false 65535 n p.1)
+
+number-told : (n : ℕ) → Between 1 65535 n → not (bad_number n) ≡ true
+unfolding bad_number
+number-told n h = rw (ne_eqb n 0 (λ z. absurd (omega arith)), le-ltb 65535 n h.1)
+
+holder-holds : (first : ℕ) (x : M.Holder) → holder_ready first x ≡ true → HolderReady first x
+unfolding holder_ready
+holder-holds first x e =
+    let p = both _ _ e in
+    let q = both _ _ p.0 in
+    let r = both _ _ q.0 in
+    record {
+      number = good-number x.number r.0;
+      unit = good-number x.unit r.1;
+      border = within-holds first 4 x.border q.1;
+      legacy = λ t. some x.border (eqb-false x.border 0 (rw t at (not-true _ p.1)));
+    }
+
+holder-told : (first : ℕ) (x : M.Holder) → HolderReady first x → holder_ready first x ≡ true
+unfolding holder_ready
+holder-told first x r =
+    rw (number-told x.number r.number, number-told x.unit r.unit, within-told first 4 x.border r.border)
+    (by_bool x.legacy (λ t. rw (t, ne_eqb x.border 0 (λ z. absurd (omega (arith, r.legacy t))))) (λ t. rw t))
+
+offer-holds : (o : M.Offer) → offer_ready o ≡ true → OfferReady o
+unfolding offer_ready
+offer-holds o e =
+    let p = both _ _ e in
+    let q = both _ _ p.0 in
+    record { holder = holder-holds 0 o.holder q.0; price = leb-true _ _ q.1; energy = within-holds 1 max_energy o.offered p.1 }
+
+offer-told : (o : M.Offer) → OfferReady o → offer_ready o ≡ true
+unfolding offer_ready
+offer-told o r = rw (holder-told 0 o.holder r.holder, le-leb o.price max_price r.price, within-told 1 max_energy o.offered r.energy)
+
+execution-holds : (x : B.Execution) → execution_ready x ≡ true → ExecutionReady x
+unfolding execution_ready
+execution-holds x e = let p = both _ _ e in record { holder = holder-holds 1 x.holder p.0; energy = within-holds 1 max_energy x.energy p.1 }
+
+execution-told : (x : B.Execution) → ExecutionReady x → execution_ready x ≡ true
+unfolding execution_ready
+execution-told x r = rw (holder-told 1 x.holder r.holder, within-told 1 max_energy x.energy r.energy)
+
+-- Capacities
+
+none-is : (c : Option ℕ) → is_none c ≡ true → c ≡ None
+none-is None e = refl
+none-is (Some x) e = absurd (false≢true e)
+
+capacity-holds : (c : Option ℕ) → capacity_ready c ≡ true → is_some c ≡ true → unwrap_or c 0 ≤ max_energy
+unfolding capacity_ready
+capacity-holds None e s = omega arith
+capacity-holds (Some x) e s = leb-true _ _ e
+
+capacity-told : (c : Option ℕ) → (is_some c ≡ true → unwrap_or c 0 ≤ max_energy) → capacity_ready c ≡ true
+unfolding capacity_ready
+capacity-told None f = refl
+capacity-told (Some x) f = le-leb x max_energy (f refl)
+
+-- what stands at a way, 0 where nothing does
+pub energy-of : (cs : List (Option ℕ)) (w : ℕ) → get_or (energies_of cs) w 0 ≡ unwrap_or (get_or cs w None) 0
+unfolding energies_of
+energy-of [] w = refl
+energy-of (c ∷ cs) zero = refl
+energy-of (c ∷ cs) (suc w) = energy-of cs w
+
+module _ (cs : List (Option ℕ)) where
+  home-holds : list_all (λ c. is_none c) (take 2 cs) ≡ true → (w : ℕ) → w < 2 → get_or cs w None ≡ None
+  home-holds e w l = none-is (get_or cs w None) (rw (get_or-take 2 cs w None l) at (all-at-index (λ c. is_none c) None refl (take 2 cs) e w))
+
+  home-told : ((w : ℕ) → w < 2 → get_or cs w None ≡ None) → list_all (λ c. is_none c) (take 2 cs) ≡ true
+  home-told f = all-from-indices (λ c. is_none c) None (take 2 cs) (λ w l. rw (get_or-take 2 cs w None (omega (arith, length-take 2 cs)), f w (omega (arith, length-take 2 cs))))
+
+  capacities-hold : list_all capacity_ready (take 10 cs) ≡ true → All (λ c. c.energy ≤ max_energy) (published_in cs)
+  unfolding published_in directed capacity_ready
   capacities-hold e =
-      all-mapped (directed a)
-      (all_both (λ w t b. ltb-false max_energy (get_or a w 0) (rw t at b)) (keep-passes (λ w. get_or flags w false) (from 2 8)) (all_keep (λ w. get_or flags w false) (any_false (bad_at_way flags a) (from 2 8) e)))
+      all-mapped _
+      (all_both (λ w s k. rw (energy-of cs w) (capacity-holds (get_or cs w None) (rw (get_or-take 10 cs w None k) at (all-at-index capacity_ready None refl (take 10 cs) e w)) s))
+      (keep-passes (λ w. is_some (get_or cs w None)) (from 2 8)) (all_keep (λ w. is_some (get_or cs w None)) (from_all (λ w. w < 10) 2 8 (λ w a b. omega arith))))
 
-  capacities-told : All (λ (c : Directed). c.energy ≤ max_energy) (published_in flags a) → any (bad_at_way flags a) (from 2 8) ≡ false
-  unfolding published_in directed bad_at_way bad_capacity
-  capacities-told r =
-      of-any-false (bad_at_way flags a)
-      (all_map (λ w f. by_bool (get_or flags w false) (λ t. rw t (le-ltb max_energy (get_or a w 0) (f t))) (λ t. rw t))
-      (all-unkept (λ w. get_or flags w false) (from 2 8) (all-unmapped (directed a) _ r)))
+  capacities-told : ((w : ℕ) → w < 2 → get_or cs w None ≡ None) → All (λ (c : B.Directed). c.energy ≤ max_energy) (published_in cs) → list_all capacity_ready (take 10 cs) ≡ true
+  unfolding published_in directed
+  capacities-told h r =
+      let a = all-unkept (λ w. is_some (get_or cs w None)) (from 2 8) (all-unmapped _ _ r) in
+      let f : (w : ℕ) → 2 ≤ w → w < 10 → is_some (get_or cs w None) ≡ true → unwrap_or (get_or cs w None) 0 ≤ max_energy = λ w l k t. rw (energy-of cs w) at (all-from 2 8 a w l (omega arith) t) in
+      all-from-indices capacity_ready None (take 10 cs) (λ w l.
+      let k : w < 10 = omega (arith, length-take 10 cs) in
+      rw (get_or-take 10 cs w None k)
+      (by_bool (ltb w 2) (λ t. rw (h w (ltb-true w 2 t)) (capacity-told None (λ q. omega arith)))
+      (λ t. capacity-told (get_or cs w None) (f w (ltb-false w 2 t) k))))
+
+-- The test of an hour
 
 -- an hour that passes the test is ready
 pub ready-holds : (h : Hour) → is_ready h ≡ true → Ready h
-unfolding is_ready hour_in offers_of executions_of lodgements_ready bad_at capacities_ready
+unfolding is_ready hour_in offers_ready executions_ready capacities_ready offer_ready
 ready-holds h e =
-    let o = h.offers in
-    let x = h.executions in
+    let os = h.offers.items in
+    let xs = h.executions.items in
     let a = both _ _ e in
-    let b = both _ _ a.0 in
-    let c = both _ _ b.0 in
-    let d = both _ _ c.0 in
-    let n = both _ _ d.0 in
-    let w = both _ _ a.1 in
-    let v = both _ _ w.0 in
-    let s = row-holds (λ i. get_or o.number i 0) (bad_at 0 o.number o.unit o.border o.legacy h.offered) 0 (from 0 o.count) d.1 in
-    let t = row-holds (λ i. get_or x.number i 0) (bad_at 1 x.number x.unit x.border x.legacy h.energy) 0 (from 0 x.count) b.1 in
-    let priced = from_all (λ i. get_or o.price i 0 ≤ max_price) 0 o.count (λ i l k. above-none max_price o.price o.count (not-true _ c.1) i (omega arith)) in
+    let b = both _ _ a.1 in
+    let c = both _ _ b.1 in
+    let d = both _ _ c.1 in
+    let o = both _ _ c.0 in
+    let x = both _ _ d.0 in
+    let k = both _ _ d.1 in
     record {
-      offering = leb-true _ _ n.0;
-      room = leb-true _ _ n.1;
-      offers = all-mapped (offer_at o h.offered (replicate 128 0))
-          (all_both (λ i g p. let q = lodgement-holds 0 _ _ _ (get_or o.purchase i false) _ _ g in record { holder = q.0; price = p; energy = q.1 }) s.1 priced);
-      offers-rise = pairwise_map (offer_at o h.offered (replicate 128 0)) (λ i j k. k) s.2;
-      executions = all-mapped (execution_at x h.energy)
-          (all_map (λ i g. let q = lodgement-holds 1 _ _ _ (get_or x.purchase i false) _ _ g in record { holder = q.0; energy = q.1 }) t.1);
-      executions-rise = pairwise_map (execution_at x h.energy) (λ i j k. k) t.2;
-      home = either-home (λ w. get_or h.published w false ≡ false) (not-true _ v.0) (not-true _ v.1);
-      capacities = capacities-hold h.published h.capacity (not-true _ w.1);
+      offering = leb-true _ _ a.0;
+      room = leb-true _ _ b.0;
+      offers = all-mapped fresh_in (all_map (λ o e. offer-holds (fresh_in o) e) (all-hold (λ o. offer_ready (offer_in o)) os o.0));
+      offers-rise = pairwise_map fresh_in (λ o p l. l) (rise-holds (λ o. o.holder.number) os o.1);
+      executions = all-mapped execution_in (all_map (λ x e. execution-holds (execution_in x) e) (all-hold (λ x. execution_ready (execution_in x)) xs x.0));
+      executions-rise = pairwise_map execution_in (λ x y l. l) (rise-holds (λ x. x.holder.number) xs x.1);
+      home = home-holds h.capacities k.0;
+      capacities = capacities-hold h.capacities k.1;
     }
 
 -- an hour that is ready passes it
 pub ready-told : (h : Hour) → Ready h → is_ready h ≡ true
-unfolding is_ready hour_in offers_of executions_of lodgements_ready bad_at capacities_ready
+unfolding is_ready hour_in offers_ready executions_ready capacities_ready offer_ready
 ready-told h r =
-    let o = h.offers in
-    let x = h.executions in
-    let os = all-unmapped (offer_at o h.offered (replicate 128 0)) (from 0 o.count) r.offers in
-    let xs = all-unmapped (execution_at x h.energy) (from 0 x.count) r.executions in
+    let os = h.offers.items in
+    let xs = h.executions.items in
     rw (
-      le-leb o.count 64 r.offering,
-      le-leb (o.count + x.count) 128 r.room,
-      of_row (λ i. get_or o.number i 0) (bad_at 0 o.number o.unit o.border o.legacy h.offered) 0 (all_map (λ i g. g.holder.number.0) os)
-          (all_map (λ i g. lodgement-told 0 _ _ _ (get_or o.purchase i false) _ _ g.holder g.energy) os)
-          (pairwise-unmapped (offer_at o h.offered (replicate 128 0)) (from 0 o.count) r.offers-rise),
-      of-above-none max_price o.price o.count (λ i l. (all-at (offer_at o h.offered (replicate 128 0)) 0 o.count r.offers i (omega arith) (omega arith)).price),
-      of_row (λ i. get_or x.number i 0) (bad_at 1 x.number x.unit x.border x.legacy h.energy) 0 (all_map (λ i g. g.holder.number.0) xs)
-          (all_map (λ i g. lodgement-told 1 _ _ _ (get_or x.purchase i false) _ _ g.holder g.energy) xs)
-          (pairwise-unmapped (execution_at x h.energy) (from 0 x.count) r.executions-rise),
-      r.home 0 (omega arith),
-      r.home 1 (omega arith),
-      capacities-told h.published h.capacity r.capacities,
+      le-leb (length os) 64 r.offering,
+      le-leb (length os + length xs) 128 r.room,
+      all-told (λ o. offer_ready (offer_in o)) (all_map (λ o e. offer-told (fresh_in o) e) (all-unmapped fresh_in os r.offers)),
+      rise-told (λ (o : Offer). o.holder.number) (pairwise-unmapped fresh_in os r.offers-rise),
+      all-told (λ x. execution_ready (execution_in x)) (all_map (λ x e. execution-told (execution_in x) e) (all-unmapped execution_in xs r.executions)),
+      rise-told (λ (x : Execution). x.holder.number) (pairwise-unmapped execution_in xs r.executions-rise),
+      home-told h.capacities r.home,
+      capacities-told h.capacities r.home r.capacities,
     )
 
--- What it says by index
+-- What it says of its parts
+
+capacity-small : (c : Option ℕ) → capacity_ready c ≡ true → unwrap_or c 0 ≤ max_energy
+unfolding capacity_ready
+capacity-small None e = omega arith
+capacity-small (Some x) e = leb-true _ _ e
 
 module _ {h : Hour} (r : Ready h) where
-  offer-at : (i : ℕ) → i < h.offers.count → OfferReady (offer_at h.offers h.offered (replicate 128 0) i)
-  unfolding hour_in offers_of
-  offer-at i l = all-at (offer_at h.offers h.offered (replicate 128 0)) 0 h.offers.count r.offers i (omega arith) (omega arith)
-
-  execution-at : (i : ℕ) → i < h.executions.count → ExecutionReady (execution_at h.executions h.energy i)
-  unfolding hour_in executions_of
-  execution-at i l = all-at (execution_at h.executions h.energy) 0 h.executions.count r.executions i (omega arith) (omega arith)
-
-  pub offers-sound : Sound h.offers
-  unfolding hour_in offers_of
+  -- its offers and executions are such as are cleared
+  pub offers-sound : Sound (hour_in h).offers
+  unfolding hour_in
   offers-sound = record {
-    few = omega (arith, r.room);
-    rising = λ i j l k. pairwise-at (offer_at h.offers h.offered (replicate 128 0)) 0 h.offers.count r.offers-rise i j (omega arith) l (omega arith);
-    priced = λ i l. (offer-at i l).price;
+    few = rw (length-map h.offers.items fresh_in) (omega (arith, r.offering));
+    rising = r.offers-rise;
+    in_range = all-mapped fresh_in (all_map (λ o g. record { border = omega (arith, g.holder.border.1); price = g.price; offered = g.energy.1; matched = omega arith }) (all-unmapped fresh_in h.offers.items r.offers));
   }
 
-  pub few-executions : h.executions.count ≤ 128
+  pub few-executions : length h.executions.items ≤ 128
   few-executions = omega (arith, r.room)
 
-  pub offers-cross : (i : ℕ) → i < h.offers.count → get_or h.offers.border i 0 < 5
-  offers-cross i l = omega (arith, (offer-at i l).holder.border.1)
+  pub executions-in-range : All ExecutionInRange (executions_in h.executions.items)
+  unfolding hour_in
+  executions-in-range = all_map (λ x g. record { border = omega (arith, g.holder.border.1); energy = g.energy.1 }) r.executions
 
-  pub executions-cross : (i : ℕ) → i < h.executions.count → get_or h.executions.border i 0 < 5
-  executions-cross i l = omega (arith, (execution-at i l).holder.border.1)
-
-  pub offered-small : (i : ℕ) → i < h.offers.count → get_or h.offered i 0 ≤ max_energy
-  offered-small i l = (offer-at i l).energy.1
-
-  pub energy-small : (i : ℕ) → i < h.executions.count → get_or h.energy i 0 ≤ max_energy
-  energy-small i l = (execution-at i l).energy.1
+  -- its capacities are in their range, and 0 stands where there is none
+  pub capacities-small : (w : ℕ) → w < 10 → get_or (energies_of h.capacities) w 0 ≤ max_energy
+  unfolding hour_in capacity_ready
+  capacities-small w l =
+      rw (energy-of h.capacities w)
+      (capacity-small (get_or h.capacities w None) (rw (get_or-take 10 h.capacities w None l) at (all-at-index capacity_ready None refl (take 10 h.capacities) (capacities-told h.capacities r.home r.capacities) w)))

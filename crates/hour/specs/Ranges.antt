@@ -1,43 +1,46 @@
 -- The tests of an hour's parts.
-use Rattle.std.specs.Prelude.{ℕ, Bool, true, false, not, ◌&&◌, ◌||◌, List, [], ◌∷◌, ltb, eqb, get_or}
-use Rattle.rules.specs.Lists.{any, from}
-use Rattle.rules.specs.Units.{max_energy}
+use Rattle.std.specs.Prelude.{ℕ, Bool, true, not, ◌&&◌, List, [], ◌∷◌, ltb, leb, eqb, map, take, is_none, Option, Some, None}
+use Rattle.std.specs.List.{list_all}
+use Rattle.rules.specs.Units.{max_energy, max_price, bad_number}
+use Rattle.rules.specs.Match as R
+use Rattle.rules.specs.Borders as B
+use Rattle.hour_offers.specs.declared.Offer.{Offer}
+use Rattle.hour_offers.specs.declared.Execution.{Execution}
+use Rattle.hour_offers.specs.View.{offer_in, execution_in}
 
--- a number outside a range
-unfoldable pub outside : ℕ → ℕ → ℕ → Bool
-outside least most x = ltb x least || ltb most x
+-- a number within a range
+unfoldable pub within : ℕ → ℕ → ℕ → Bool
+within least most x = leb least x && leb x most
 
--- a lodging number, a unit's number, its border and its legacy mark that no session has together, borders going from `first` to 4
-unfoldable pub bad_holder : ℕ → ℕ → ℕ → ℕ → Bool → Bool
-bad_holder first number unit border legacy =
-    outside 1 65535 number || outside 1 65535 unit || outside first 4 border || (legacy && eqb border 0)
+-- a lodging number, a unit's number, its border and its legacy mark that a session has together, borders going from `first` to 4
+unfoldable pub holder_ready : ℕ → R.Holder → Bool
+holder_ready first x = not (bad_number x.number) && not (bad_number x.unit) && within first 4 x.border && not (x.legacy && eqb x.border 0)
 
--- the same, or an energy that no lodgement has in an hour that it names
-unfoldable pub bad_lodgement : ℕ → ℕ → ℕ → ℕ → Bool → ℕ → Bool
-bad_lodgement first number unit border legacy energy = bad_holder first number unit border legacy || outside 1 max_energy energy
+-- the same, and a price and an energy that a lodgement has in an hour that it names
+unfoldable pub offer_ready : R.Offer → Bool
+offer_ready o = holder_ready 0 o.holder && leb o.price max_price && within 1 max_energy o.offered
 
--- indices of which the numbers rise, from above `last` on, and none is bad
-unfoldable pub in_row : (ℕ → ℕ) → (ℕ → Bool) → ℕ → List ℕ → Bool
-in_row number bad last [] = true
-in_row number bad last (i ∷ is) = ltb last (number i) && not (bad i) && in_row number bad (number i) is
+unfoldable pub execution_ready : B.Execution → Bool
+execution_ready x = holder_ready 1 x.holder && within 1 max_energy x.energy
 
--- the lodgement at an index
-unfoldable pub bad_at : ℕ → (number unit border : List ℕ) → List Bool → List ℕ → ℕ → Bool
-bad_at first number unit border legacy energy i =
-    bad_lodgement first (get_or number i 0) (get_or unit i 0) (get_or border i 0) (get_or legacy i false) (get_or energy i 0)
+-- numbers of which each is above the one before
+unfoldable pub rises : List ℕ → Bool
+rises [] = true
+rises (n ∷ []) = true
+rises (n ∷ m ∷ ms) = ltb n m && rises (m ∷ ms)
 
--- n lodgements by rising number, each in its ranges
-unfoldable pub lodgements_ready : ℕ → ℕ → (number unit border : List ℕ) → List Bool → List ℕ → Bool
-lodgements_ready first n number unit border legacy energy =
-    in_row (λ i. get_or number i 0) (bad_at first number unit border legacy energy) 0 (from 0 n)
+-- none, or one in its range
+unfoldable pub capacity_ready : Option ℕ → Bool
+capacity_ready None = true
+capacity_ready (Some energy) = leb energy max_energy
 
-unfoldable pub bad_capacity : Bool → ℕ → Bool
-bad_capacity published capacity = published && ltb max_energy capacity
+-- by rising lodging number, each in its ranges
+unfoldable pub offers_ready : List Offer → Bool
+offers_ready os = list_all (λ o. offer_ready (offer_in o)) os && rises (map (λ o. o.holder.number) os)
 
-unfoldable pub bad_at_way : List Bool → List ℕ → ℕ → Bool
-bad_at_way published capacity w = bad_capacity (get_or published w false) (get_or capacity w 0)
+unfoldable pub executions_ready : List Execution → Bool
+executions_ready xs = list_all (λ x. execution_ready (execution_in x)) xs && rises (map (λ x. x.holder.number) xs)
 
 -- no capacity is published of border 0, and those of the four borders are in their range
-unfoldable pub capacities_ready : List Bool → List ℕ → Bool
-capacities_ready published capacity =
-    not (get_or published 0 false) && not (get_or published 1 false) && not (any (bad_at_way published capacity) (from 2 8))
+unfoldable pub capacities_ready : List (Option ℕ) → Bool
+capacities_ready cs = list_all (λ c. is_none c) (take 2 cs) && list_all capacity_ready (take 10 cs)

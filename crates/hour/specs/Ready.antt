@@ -1,15 +1,14 @@
 -- An hour that a session can hold, the test for it, and what clearing it gives.
-use Rattle.std.specs.Prelude.{ℕ, ◌+◌, ◌≤◌, ◌<◌, ◌≡◌, Bool, true, false, cond, not, ◌&&◌, leb, ltb, get_or}
-use Rattle.rules.specs.Lists.{All, Pairwise, any}
+use Rattle.std.specs.Prelude.{ℕ, ◌+◌, ◌≤◌, ◌<◌, ◌≡◌, Bool, true, cond, ◌&&◌, length, leb, get_or, Option, Some, None}
+use Rattle.rules.specs.Lists.{All, Pairwise}
 use Rattle.rules.specs.Units.{max_energy, max_price}
 use Rattle.rules.specs.Match.{Holder, Offer}
 use Rattle.rules.specs.Borders.{Execution}
 use Rattle.rules.specs.Clearing.{clear_hour}
-use Rattle.arrays.specs.Indices.{vals}
-use Rattle.hour.specs.Ranges.{lodgements_ready, capacities_ready}
+use Rattle.hour.specs.Ranges.{offers_ready, executions_ready, capacities_ready}
 use Rattle.hour.specs.declared.Hour.{Hour}
 use Rattle.hour.specs.declared.Figures.{Figures}
-use Rattle.hour.specs.View.{hour_in, figures_as, no_figures}
+use Rattle.hour.specs.View.{hour_in, figures_as}
 
 abbrev pub Between : ℕ → ℕ → ℕ → Type 0
 Between least most x = (least ≤ x) × (x ≤ most)
@@ -35,8 +34,8 @@ pub record ExecutionReady (x : Execution) : Type 0 where
   pub holder : HolderReady 1 x.holder
   pub energy : Between 1 max_energy x.energy
 
--- An hour that a session can hold: what holds of every hour gathered from one (`hour-ready` of crates/gathering/proofs/ReadyLaws.antt), as far
--- as one pass over the hour can tell. What stands after the counts, and as capacity where none is published, is not looked at, and
+-- An hour that a session can hold: what holds of every hour gathered from one (`hour-ready` of crates/clear_gather/proofs/ReadyLaws.antt), as far
+-- as one pass over the hour can tell. What an offer has as matched is not looked at, and
 -- no figure depends on it.
 -- Not asked, though every session's hour has it, since no figure of the hour depends on it either:
 -- that no number is both an offer's and an execution's (Match looks at numbers of offers only, Share at the order of one kind);
@@ -45,29 +44,25 @@ pub record ExecutionReady (x : Execution) : Type 0 where
 -- Agents, contracts and default marks are not in an hour.
 pub record Ready (h : Hour) : Type 0 where
   -- "At most 64 units", each with one accepted offer at most
-  pub offering : h.offers.count ≤ 64
+  pub offering : length h.offers.items ≤ 64
   -- "There are up to 128 standing lodgements"
-  pub room : h.offers.count + h.executions.count ≤ 128
+  pub room : length h.offers.items + length h.executions.items ≤ 128
   -- each kind by rising lodging number: in this order Share hands out, and equal prices are matched
   pub offers : All OfferReady (hour_in h).offers
   pub offers-rise : Pairwise (λ o p. o.holder.number < p.holder.number) (hour_in h).offers
   pub executions : All ExecutionReady (hour_in h).executions
   pub executions-rise : Pairwise (λ x y. x.holder.number < y.holder.number) (hour_in h).executions
   -- "A capacity notice covers the 4 borders": none is published of border 0
-  pub home : (w : ℕ) → w < 2 → get_or h.published w false ≡ false
+  pub home : (w : ℕ) → w < 2 → get_or h.capacities w None ≡ None
   pub capacities : All (λ c. c.energy ≤ max_energy) (hour_in h).capacities
 
 -- `Ready` as a test (`ready-holds` and `ready-told` of proofs/ReadyLaws.antt)
 unfoldable pub is_ready : Hour → Bool
 is_ready h =
-    let o = h.offers in
-    let x = h.executions in
-    leb o.count 64 && leb (o.count + x.count) 128
-    && lodgements_ready 0 o.count o.number o.unit o.border o.legacy h.offered
-    && not (any (ltb max_price) (vals o.price 0 o.count))
-    && lodgements_ready 1 x.count x.number x.unit x.border x.legacy h.energy
-    && capacities_ready h.published h.capacity
+    let o = h.offers.items in
+    let x = h.executions.items in
+    leb (length o) 64 && (leb (length o + length x) 128 && (offers_ready o && (executions_ready x && capacities_ready h.capacities)))
 
--- an hour's figures: the rules' where it is ready, and all 0 where it is not
-unfoldable pub figures_of : Hour → Figures
-figures_of h = cond (is_ready h) (figures_as (clear_hour (hour_in h))) no_figures
+-- an hour's figures: the rules' where it is ready, and none where it is not
+unfoldable pub figures_of : Hour → Option Figures
+figures_of h = cond (is_ready h) (Some (figures_as (clear_hour (hour_in h)))) None

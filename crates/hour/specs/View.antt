@@ -1,56 +1,68 @@
--- An hour in arrays, read as the rules' hour; the rules' figures laid into arrays, and read back.
-use Rattle.std.specs.Prelude.{map, replicate}
-use Rattle.rules.specs.Borders.{flow}
+-- An hour as the code has it, read as the rules' hour; the rules' figures as the code has them, and read back.
+use Rattle.std.specs.Prelude.{ℕ, ◌/◌, ◌%◌, Bool, cond, ◌&&◌, List, [], ◌∷◌, map, eqb, Option, Some, None}
+use Rattle.std.specs.Bool.{beq}
+use Rattle.rules.specs.Lists.{from}
+use Rattle.rules.specs.Match as M
+use Rattle.rules.specs.Borders as B
 use Rattle.rules.specs.Clearing as C
-use Rattle.hour_match.specs.View.{offers_of}
-use Rattle.hour_borders.specs.View.{executions_of}
+use Rattle.hour_offers.specs.declared.Holder.{Holder}
+use Rattle.hour_offers.specs.declared.Offer.{Offer}
+use Rattle.hour_offers.specs.declared.Execution.{Execution}
+use Rattle.hour_offers.specs.View.{holder_in, offers_in, executions_in}
 use Rattle.hour_borders.specs.Ways.{published_in}
-use Rattle.session.specs.Laid.{pad}
-use Rattle.session.specs.Image.{by_way, energy_of}
+use Rattle.session.specs.Image.{by_way}
 use Rattle.hour.specs.declared.Hour.{Hour}
 use Rattle.hour.specs.declared.Figures.{Figures}
+
+-- an offer before its hour is cleared, whatever stands as matched
+abbrev pub fresh_in : Offer → M.Offer
+fresh_in o = record { holder = holder_in o.holder; price = o.price; offered = o.offered; matched = 0 }
 
 -- the rules' hour
 unfoldable pub hour_in : Hour → C.Hour
 hour_in h = record {
-  capacities = published_in h.published h.capacity;
-  offers = offers_of h.offers h.offered (replicate 128 0);
-  executions = executions_of h.executions h.energy;
+  capacities = published_in h.capacities;
+  offers = map fresh_in h.offers.items;
+  executions = executions_in h.executions.items;
 }
 
--- the rules' figures as clearing gives them: of offers and executions at their indices, 0 after them; by direction, those of border 0
--- too, where a flow is domestic energy; a maximum that is not published, as those of border 0, is 0
+-- the rules' records as the code has them
+abbrev pub holder_as : M.Holder → Holder
+holder_as x = record { number = x.number; unit = x.unit; border = x.border; purchase = x.purchase; legacy = x.legacy }
+
+abbrev pub offer_as : M.Offer → Offer
+offer_as o = record { holder = holder_as o.holder; price = o.price; offered = o.offered; matched = o.matched }
+
+abbrev pub execution_as : B.Execution → Execution
+execution_as x = record { holder = holder_as x.holder; energy = x.energy }
+
+-- the energy of a direction among those of some directions
+unfoldable pub energy_among : List B.Directed → ℕ → Bool → Option ℕ
+energy_among [] border export = None
+energy_among (d ∷ ds) border export = cond (eqb d.border border && beq d.export export) (Some d.energy) (energy_among ds border export)
+
+-- the energies of some directions, each at its index
+unfoldable pub laid_by_way : List B.Directed → List (Option ℕ)
+laid_by_way ds = map (λ w. energy_among ds (w / 2) (eqb (w % 2) 0)) (from 0 10)
+
+-- the rules' figures as clearing gives them; by direction, those of border 0 too, where a flow is domestic energy and no maximum is
 unfoldable pub figures_as : C.Figures → Figures
 figures_as x = record {
-  offered = pad 128 0 (map (λ o. o.offered) x.offers);
-  matched = pad 128 0 (map (λ o. o.matched) x.offers);
-  executed = pad 128 0 (map (λ x. x.energy) x.executions);
-  maxima = by_way (energy_of x.maxima);
-  market = by_way (λ border export. flow (λ o. o.holder) (λ o. o.matched) border export x.offers);
-  bilateral = by_way (λ border export. flow (λ x. x.holder) (λ x. x.energy) border export x.executions);
+  offers = record { items = map offer_as x.offers };
+  executions = record { items = map execution_as x.executions };
+  maxima = laid_by_way x.maxima;
+  market = by_way (λ border export. B.flow (λ o. o.holder) (λ o. o.matched) border export x.offers);
+  bilateral = by_way (λ border export. B.flow (λ x. x.holder) (λ x. x.energy) border export x.executions);
   steps = x.steps;
   price = x.price;
 }
 
--- read back, beside the hour, which has holders, prices and what is published
-unfoldable pub figures_in : Hour → Figures → C.Figures
-figures_in h r = record {
-  offers = offers_of h.offers r.offered r.matched;
-  executions = executions_of h.executions r.executed;
-  maxima = published_in h.published r.maxima;
-  steps = r.steps;
-  price = r.price;
-}
-
--- figures that are all 0
-unfoldable pub no_figures : Figures
-no_figures = record {
-  offered = replicate 128 0;
-  matched = replicate 128 0;
-  executed = replicate 128 0;
-  maxima = replicate 10 0;
-  market = replicate 10 0;
-  bilateral = replicate 10 0;
-  steps = 0;
-  price = 0;
+-- read back
+unfoldable pub figures_in : Figures → C.Figures
+figures_in f = record {
+  offers = offers_in f.offers.items;
+  executions = executions_in f.executions.items;
+  maxima = published_in f.maxima;
+  steps = f.steps;
+  price = f.price;
 }

@@ -17,7 +17,8 @@ use Rattle.rules.proofs.BoolLaws.{by_bool}
 use Rattle.rules.proofs.ElementLaws.{Pairwise, empty, ahead, pairwise-keep, pairwise_map}
 use Rattle.rules.proofs.DirectionLaws.{same_direction, Once}
 use Rattle.arrays.proofs.IndexLaws.{from_all}
-use Rattle.hour_borders.specs.Ways.{way_of, directed, published_in}
+use Rattle.std.specs.Prelude.{Option, None, is_some}
+use Rattle.hour_borders.specs.Ways.{way_of, directed, energies_of, published_in}
 
 -- A direction and its index
 
@@ -147,6 +148,6 @@ directed-apart a v w h =
 ways-once : (a : List ℕ) (p : ℕ → Bool) → Once (map (directed a) (keep p (from 2 8)))
 ways-once a p = pairwise_map (directed a) (directed-apart a) (pairwise-keep p (from-apart 2 8))
 
-pub published-once : (flags : List Bool) (a : List ℕ) → Once (published_in flags a)
+pub published-once : (a : List (Option ℕ)) → Once (published_in a)
 unfolding published_in
-published-once flags a = ways-once a (λ w. get_or flags w false)
+published-once a = ways-once (energies_of a) (λ w. is_some (get_or a w None))

@@ -1,5 +1,6 @@
 -- Maxima and excesses by index, from arrays of ten.
-use Rattle.std.specs.Prelude.{ℕ, ◌-◌, ◌/◌, ◌%◌, Bool, true, false, cond, not, List, [], ◌∷◌, eqb, get_or}
+use Rattle.std.specs.Prelude.{ℕ, ◌-◌, ◌/◌, ◌%◌, Bool, true, false, not, List, [], ◌∷◌, eqb, get_or, Option, None, Some}
+use Rattle.std.specs.Option.{option_map}
 use Rattle.std.proofs.Math.IntN.{sub_ℕ}
 use Rattle.rules.specs.Split.{market_maximum}
 use Rattle.hour_borders.specs.Ways.{way_of}
@@ -8,15 +9,19 @@ use Rattle.hour_borders.specs.Ways.{way_of}
 unfoldable pub across_of : ℕ → ℕ
 across_of w = way_of (w / 2) (not (eqb (w % 2) 0))
 
--- the market maximum of the direction at an index, of capacities, executions' flows, market flows and legacy flows
-unfoldable pub maximum_in : List ℕ → List ℕ → List ℕ → List ℕ → ℕ → ℕ
-maximum_in capacities executions market legacy w =
-    market_maximum (get_or capacities w 0)
-    (sub_ℕ (get_or executions w 0) (get_or executions (across_of w) 0)) (sub_ℕ (get_or market w 0) (get_or market (across_of w) 0)) (get_or legacy w 0)
+-- the market maximum of the direction at an index, of its capacity, executions' flows, market flows and its legacy flow
+unfoldable pub maximum_in : Option ℕ → List ℕ → List ℕ → ℕ → ℕ → Option ℕ
+maximum_in capacity executions market legacy w =
+    option_map (λ c. market_maximum c
+    (sub_ℕ (get_or executions w 0) (get_or executions (across_of w) 0)) (sub_ℕ (get_or market w 0) (get_or market (across_of w) 0)) legacy) capacity
 
--- how far the market flow at an index, less that across, passes the maximum there; 0 where there is none
-unfoldable pub excess_in : List Bool → List ℕ → List ℕ → ℕ → ℕ
-excess_in flags maxima market w = cond (get_or flags w false) (get_or market w 0 - get_or market (across_of w) 0 - get_or maxima w 0) 0
+-- how far a flow, less that against it, passes a maximum; 0 where there is none
+abbrev pub excess_over : Option ℕ → ℕ → ℕ → ℕ
+excess_over None along against = 0
+excess_over (Some m) along against = along - against - m
+
+unfoldable pub excess_in : List (Option ℕ) → List ℕ → ℕ → ℕ
+excess_in maxima market w = excess_over (get_or maxima w None) (get_or market w 0) (get_or market (across_of w) 0)
 
 -- a list has an element
 unfoldable pub non_empty : {A : Type 0} → List A → Bool

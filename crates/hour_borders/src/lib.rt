@@ -1,185 +1,193 @@
 // Energy at the borders in one hour: directions, flows, maxima, excesses (document 01, "Split" and "Withdrawal step").
 #![tactic(auto)]
 
-ghost use Rattle.std.specs.Prelude.{◌≡◌, Bool, List, map, ℕ, ◌≤◌, ◌<◌, get_or};
-ghost use Rattle.rules.specs.Match.{Offer};
-ghost use Rattle.rules.specs.Borders.{Execution};
+ghost use Rattle.std.specs.Prelude.{◌≡◌, Bool, List, Option, None, map, cond, ℕ, ◌≤◌, ◌<◌, get_or, length, ltb};
+ghost use Rattle.std.specs.List.{list_any};
+ghost use Rattle.std.specs.Fn.{FnReturnsAt};
+ghost use Rattle.rules.specs.Lists.{All, sum_of};
+ghost use Rattle.rules.specs.Match.{Offer as RuleOffer};
+ghost use Rattle.rules.specs.Borders.{Execution as RuleExecution};
 ghost use Rattle.rules.specs.Split.{maximum_of};
 ghost use Rattle.rules.specs.Withdrawal.{overruns};
-ghost use Rattle.hour_borders.specs.Ways.{way_of, published_in, over_in};
-ghost use Rattle.hour_borders.specs.Flows.{counted_for, ByWay, Abroad, MarketFlows, BorderFlows, LegacyFlows, ExecutionFlows, Small};
-ghost use Rattle.hour_borders.specs.Limits.{across_of, maximum_in, excess_in, non_empty};
-ghost use Rattle.hour_borders.specs.Located.{Crossing, Ranged, Located};
+ghost use Rattle.hour_offers.specs.View.{offers_in, executions_in};
+ghost use Rattle.hour_offers.specs.Sound.{ExecutionInRange};
+ghost use Rattle.hour_share.specs.declared.Amount.{Amount};
+ghost use Rattle.hour_share.specs.Deductions.{AmountInRange, energy_in};
+ghost use Rattle.hour_borders.specs.Ways.{way_of, energies_of, published_in, over_in};
+ghost use Rattle.hour_borders.specs.Flows.{amount_of, MatchedInRange, MarketFlows, BorderFlows, LegacyFlows, ExecutionFlows, Small};
+ghost use Rattle.hour_borders.specs.Limits.{across_of, maximum_in, excess_over, excess_in, non_empty};
 
-use rules::LODGEMENTS;
+use hour_offers::{Execution, Holder, Offer};
+use hour_share::Amount;
+use hour_split::Flow;
 
 // The index of a border and direction in an array of ten: export of border 0, import of border 0, export of border 1, ..
 // Those of border 0 stay empty.
+#[tactic(auto, unfolding(crate::specs::Ways::way_of))]
 pub fn way(border: u32, export: bool) -> usize
-    requires { border < 5 }
-    ensures { (result ≡ way_of border export) × (result < 10) }
+    ensures index { result ≡ way_of border export }
+    ensures within { border < 5 → result < 10 }
 {
-    let b = border as usize;
-    if export {
-        return b * 2;
-    }
-    b * 2 + 1
-}
-
-// An hour's accepted executions by rising lodging number: what never changes in the hour. Their energies are an array of
-// their own.
-#[derive(Clone, Copy)]
-pub struct Executions {
-    pub count: usize,
-    pub number: [u32; LODGEMENTS],
-    pub unit: [u32; LODGEMENTS],
-    pub border: [u32; LODGEMENTS],
-    pub purchase: [bool; LODGEMENTS],
-    pub legacy: [bool; LODGEMENTS],
-}
-
-// What an energy counts for: everyone's, or of legacy holders only.
-fn counted(only: bool, legacy: bool, energy: u32) -> u32
-    ensures { (result ≡ counted_for only legacy energy) × (result ≤ energy) }
-{
-    if only {
-        if legacy {
-            return energy;
-        }
-        return 0;
-    }
-    energy
-}
-
-// The energy of the first n holders by way, a purchase being an export; of legacy holders only, where `only` says so.
-pub fn flows<'a>(
-    only: bool,
-    n: usize,
-    border: &'a [u32; LODGEMENTS],
-    purchase: &'a [bool; LODGEMENTS],
-    legacy: &'a [bool; LODGEMENTS],
-    energy: &'a [u32; LODGEMENTS],
-) -> [u32; 10]
-    requires { (n ≤ 128) × Crossing n border.now × Ranged energy.now }
-    ensures { ByWay only border.now purchase.now legacy.now energy.now n result }
-{
-    let mut f = [0u32; 10];
-    for i in 0..n {
-        let w = way(border[i], purchase[i]);
-        f[w] += counted(only, legacy[i], energy[i]);
-    }
-    f
-}
-
-// The energy of the first n holders by way at the borders alone, from a list of the indices of those at one: a withdrawal asks at each step,
-// and most offers are domestic.
-pub fn abroad<'a>(
-    n: usize,
-    at: &[usize],
-    border: &'a [u32; LODGEMENTS],
-    purchase: &'a [bool; LODGEMENTS],
-    energy: &'a [u32; LODGEMENTS],
-) -> [u32; 10]
-    requires { Located n border.now at.now × Ranged energy.now }
-    ensures { Abroad border.now purchase.now energy.now n result }
-{
-    let mut f = [0u32; 10];
-    for k in 0..at.len() {
-        let i = at[k];
-        let w = way(border[i], purchase[i]);
-        f[w] += energy[i];
-    }
-    f
+    border as usize * 2 + if export { 0 } else { 1 }
 }
 
 // The other direction of the same border: "For import, use the import capacity and legacy imports with B and M negated."
 pub fn across(w: usize) -> usize
     requires { w < 10 }
-    ensures { (result ≡ across_of w) × (result < 10) }
+    ensures index { result ≡ across_of w }
+    ensures within { result < 10 }
 {
-    if w % 2 == 0 {
-        return w + 1;
-    }
-    w - 1
+    if w % 2 == 0 { w + 1 } else { w - 1 }
 }
 
-// The market maximum of the direction at an index.
+// An energy of a holder in the direction in which it runs, a purchase being an export.
+pub fn amount(holder: &Holder, energy: u32) -> Amount
+    ensures { result ≡ amount_of holder.now energy }
+{
+    Amount {
+        way: way(holder.border, holder.purchase),
+        energy,
+    }
+}
+
+// The energy of some holders by way: `of` says what each of them has, and in which direction it runs.
+fn flows<T, F: Fn(&T) -> Amount>(holders: &[T], of: F) -> [u32; 10]
+    requires callable { F.IsAlwaysCallable of }
+    requires few { length holders.now ≤ 128 }
+    requires within { All (λ x. (a : Amount) → FnReturnsAt F.Fn of x a → a.way < 10) holders.now }
+    requires ranged { All (λ x. (a : Amount) → FnReturnsAt F.Fn of x a → AmountInRange a) holders.now }
+    ensures sums { (amount : T → Amount)
+        → All (λ x. (a : Amount) → FnReturnsAt F.Fn of x a → a ≡ amount x) holders.now
+        → (w : ℕ) → get_or result w 0 ≡ sum_of (energy_in w) (map amount holders.now) }
+    ensures small { Small result }
+{
+    let mut flows = [0u32; 10];
+    for x in holders {
+        let a = of(x);
+        flows[a.way] += a.energy;
+    }
+    flows
+}
+
+// What is matched, by way.
+pub fn market_flows(offers: &[Offer]) -> [u32; 10]
+    requires few { length offers.now ≤ 128 }
+    requires in_range { All MatchedInRange (offers_in offers.now) }
+    ensures flows { MarketFlows result (offers_in offers.now) }
+    ensures small { Small result }
+{
+    flows(offers, |o| amount(&o.holder, o.matched))
+}
+
+// "L matched legacy exports", and imports.
+pub fn legacy_flows(offers: &[Offer]) -> [u32; 10]
+    requires few { length offers.now ≤ 128 }
+    requires in_range { All MatchedInRange (offers_in offers.now) }
+    ensures flows { LegacyFlows result (offers_in offers.now) }
+    ensures small { Small result }
+{
+    flows(offers, |o| {
+        amount(&o.holder, if o.holder.legacy { o.matched } else { 0 })
+    })
+}
+
+// The executions' energy, by way.
+pub fn execution_flows(executions: &[Execution]) -> [u32; 10]
+    requires few { length executions.now ≤ 128 }
+    requires in_range { All ExecutionInRange (executions_in executions.now) }
+    ensures flows { ExecutionFlows result (executions_in executions.now) }
+    ensures small { Small result }
+{
+    flows(executions, |x| amount(&x.holder, x.energy))
+}
+
+// What runs in the direction at an index, and against it.
+fn flow_at(flows: &[u32; 10], w: usize) -> Flow
+    requires { w < 10 }
+    ensures along { result.along ≡ get_or flows.now w 0 }
+    ensures against { result.against ≡ get_or flows.now (across_of w) 0 }
+{
+    Flow {
+        along: flows[w],
+        against: flows[across(w)],
+    }
+}
+
+// The market maximum of the direction at an index. "A direction without capacity has no maximum".
 fn maximum_at(
     w: usize,
-    capacities: &[u32; 10],
+    capacity: Option<u32>,
     executions: &[u32; 10],
     market: &[u32; 10],
-    legacy: &[u32; 10],
-) -> u32
-    requires { (w < 10) × Small capacities.now × Small executions.now × Small market.now }
-    ensures { result ≡ maximum_in capacities.now executions.now market.now legacy.now w }
+    legacy: u32,
+) -> Option<u32>
+    requires index { w < 10 }
+    requires capacity_small { (c : ℕ) → capacity ≡ Some c → c < 2147483648 }
+    requires executions_small { Small executions.now }
+    requires market_small { Small market.now }
+    ensures { result ≡ maximum_in capacity executions.now market.now legacy w }
 {
-    let o = across(w);
-    hour_split::market_maximum(
-        capacities[w],
-        executions[w],
-        executions[o],
-        market[w],
-        market[o],
-        legacy[w],
-    )
+    let capacity = capacity?;
+    Some(hour_split::market_maximum(capacity, flow_at(executions, w), flow_at(market, w), legacy))
 }
 
-// "Market export maximum" of each border, and its mirror, from the flows of the first match. "A direction without capacity
-// has no maximum": what stands at its index is never read.
+// "Market export maximum" of each border, and its mirror, from the flows of the first match.
 pub fn maxima(
-    capacities: &[u32; 10],
+    capacities: &[Option<u32>; 10],
     executions: &[u32; 10],
     market: &[u32; 10],
     legacy: &[u32; 10],
-) -> [u32; 10]
-    requires { Small capacities.now × Small executions.now × Small market.now }
-    ensures { (flags : List Bool) (first : List Offer) (xs : List Execution)
+) -> [Option<u32>; 10]
+    requires capacities_small { Small (energies_of capacities.now) }
+    requires executions_small { Small executions.now }
+    requires market_small { Small market.now }
+    ensures split { (first : List RuleOffer) (xs : List RuleExecution)
         → ExecutionFlows executions.now xs
         → MarketFlows market.now first
         → LegacyFlows legacy.now first
-        → published_in flags result ≡ map (maximum_of first xs) (published_in flags capacities.now) }
+        → published_in result ≡ map (maximum_of first xs) (published_in capacities.now) }
+    ensures none_at_home { (w : ℕ) → w < 2 → get_or result w None ≡ None }
 {
-    let mut m = [0u32; 10];
+    let mut maxima = [None; 10];
     for w in 2..10 {
-        m[w] = maximum_at(w, capacities, executions, market, legacy);
+        maxima[w] = maximum_at(w, capacities[w], executions, market, legacy[w]);
     }
-    m
+    maxima
 }
 
-// How far the market balance in the direction at an index passes its maximum: "the overrun being the excess".
-fn excess_at(w: usize, flags: &[bool; 10], maxima: &[u32; 10], market: &[u32; 10]) -> u32
-    requires { w < 10 }
-    ensures { result ≡ excess_in flags.now maxima.now market.now w }
+// How far a market flow passes a maximum: "the overrun being the excess".
+fn excess_over(maximum: Option<u32>, market: Flow) -> u32
+    ensures { result ≡ excess_over maximum market.along market.against }
 {
-    if flags[w] {
-        let o = across(w);
-        return arrays::less(arrays::less(market[w], market[o]), maxima[w]);
+    match maximum {
+        Some(m) => market.net().saturating_sub(m),
+        None => 0,
     }
-    0
 }
 
 // The excess of each published direction over its maximum, 0 elsewhere.
-pub fn excesses(flags: &[bool; 10], maxima: &[u32; 10], market: &[u32; 10]) -> [u32; 10]
-    ensures result_value { (os : List Offer) → BorderFlows market.now os → over_in result ≡ overruns (published_in flags.now maxima.now) os }
+pub fn excesses(maxima: &[Option<u32>; 10], market: &[u32; 10]) -> [u32; 10]
+    ensures result_value { (os : List RuleOffer) → BorderFlows market.now os → over_in result ≡ overruns (published_in maxima.now) os }
     ensures e_value { (e : Bool) → get_or result (way_of 0 e) 0 ≡ 0 }
-    ensures by_index { (w : ℕ) → 2 ≤ w → w < 10 → get_or result w 0 ≡ excess_in flags.now maxima.now market.now w }
+    ensures by_index { (w : ℕ) → 2 ≤ w → w < 10 → get_or result w 0 ≡ excess_in maxima.now market.now w }
 {
     let mut over = [0u32; 10];
     for w in 2..10 {
-        over[w] = excess_at(w, flags, maxima, market);
+        over[w] = excess_over(maxima[w], flow_at(market, w));
     }
     over
+}
+
+// Whether one of some energies is above 0.
+fn any_left(energies: &[u32]) -> bool
+    ensures { result ≡ list_any (λ e. ltb 0 e) energies.now }
+{
+    energies.iter().any(|e| 0 < *e)
 }
 
 // Whether "a market balance passes its maximum".
 pub fn passed(over: &[u32; 10]) -> bool
     ensures { result ≡ non_empty (over_in over.now) }
 {
-    for w in 2..10 {
-        if 0 < over[w] {
-            return true;
-        }
-    }
-    false
+    any_left(&over[2..])
 }

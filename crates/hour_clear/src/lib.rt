@@ -1,130 +1,71 @@
 // One hour's clearing (document 01, "Clearing, hour by hour").
 #![tactic(auto)]
 
-ghost use Rattle.std.specs.Prelude.{◌≡◌, cond, ◌≤◌};
+ghost use Rattle.std.specs.Prelude.{◌≡◌, ◌≤◌, map, length};
 ghost use Rattle.rules.specs.Clearing.{clear_hour};
-ghost use Rattle.arrays.specs.Indices.{vals};
-ghost use Rattle.hour_borders.specs.Ways.{published_in};
-ghost use Rattle.session.specs.Laid.{pad};
-ghost use Rattle.session.specs.Image.{by_way, energy_of};
-ghost use Rattle.hour.specs.Ready.{Ready, is_ready, figures_of};
-ghost use Rattle.hour.specs.View.{hour_in, figures_as, no_figures};
+ghost use Rattle.hour_offers.specs.View.{offers_in, executions_in};
+ghost use Rattle.hour.specs.Ready.{Ready, figures_of};
+ghost use Rattle.hour.specs.View.{fresh_in, hour_in, figures_as};
 
+use arrayvec::ArrayVec;
 use hour::{Figures, Hour};
+use hour_offers::{Execution, Offer};
 use rules::LODGEMENTS;
 
-// An hour's answer: whether it is one that a session can hold, and its figures, all of them 0 where it is not.
-#[derive(Clone, Copy)]
-pub struct Clearance {
-    pub ready: bool,
-    pub figures: Figures,
+// Offers before their hour's first match.
+fn fresh(offers: &[Offer]) -> ArrayVec<Offer, LODGEMENTS>
+    requires { length offers.now ≤ 128 }
+    ensures { offers_in result.items ≡ map fresh_in offers.now }
+{
+    let mut fresh = ArrayVec::new();
+    for offer in offers {
+        fresh.push(Offer::new(offer.holder, offer.price, offer.offered));
+    }
+    fresh
 }
 
-// The first n energies, and 0 after them, where anything may stand.
-fn front(a: &[u32; LODGEMENTS], n: usize) -> [u32; LODGEMENTS]
-    requires { n ≤ 128 }
-    ensures { result ≡ pad 128 0 (vals a.now 0 n) }
+// Executions before their hour's cut.
+fn uncut(executions: &[Execution]) -> ArrayVec<Execution, LODGEMENTS>
+    requires { length executions.now ≤ 128 }
+    ensures { result.items ≡ executions.now }
 {
-    let mut found = [0u32; LODGEMENTS];
-    for i in 0..n {
-        found[i] = a[i];
+    let mut uncut = ArrayVec::new();
+    for execution in executions {
+        uncut.push(*execution);
     }
-    found
-}
-
-// "Absent means no maximum": 0 stands for it.
-fn given(published: bool, energy: u32) -> u32
-    ensures { result ≡ cond published energy 0 }
-{
-    if published {
-        return energy;
-    }
-    0
-}
-
-// What an array has for the published directions of the four borders, and 0 for the others.
-fn published_of<'a>(flags: &[bool; 10], a: &'a [u32; 10]) -> [u32; 10]
-    ensures { result ≡ by_way (energy_of (published_in flags.now a.now)) }
-{
-    let mut found = [0u32; 10];
-    for w in 2..10 {
-        found[w] = given(flags[w], a[w]);
-    }
-    found
+    uncut
 }
 
 // The figures of an hour that is ready: its market, then the cut of its executions.
-fn clear_hour(h: Hour) -> Figures
-    requires { Ready h }
-    ensures { result ≡ figures_as (clear_hour (hour_in h)) }
+fn clear_hour(h: &Hour) -> Figures
+    requires { Ready h.now }
+    ensures { result ≡ figures_as (clear_hour (hour_in h.now)) }
 {
-    let x = h.executions;
-    let k = x.count;
-    let published = h.published;
-    let capacity = published_of(&published, &h.capacity);
-    let energy = front(&h.energy, k);
-    let before = hour_borders::flows(false, k, &x.border, &x.purchase, &x.legacy, &energy);
-    let o = h.offers;
-    let e = front(&h.offered, o.count);
-    let m = hour_market::clear(o, e, &published, &capacity, &before);
-    let market = m.flows;
-    let mut executed = energy;
-    hour_cut::cut(
-        &mut executed,
-        k,
-        &x.border,
-        &x.purchase,
-        &published,
-        &capacity,
-        &market,
-        &before,
-    );
-    let bilateral = hour_borders::flows(false, k, &x.border, &x.purchase, &x.legacy, &executed);
-    let offered = m.offered;
-    let matched = m.matched;
-    let maxima = published_of(&published, &m.maxima);
+    let mut offers = fresh(&h.offers);
+    let mut executions = uncut(&h.executions);
+    let before = hour_borders::execution_flows(&executions);
+    let market = hour_market::clear(&mut offers, &h.capacities, &before);
+    hour_cut::cut(&mut executions, &h.capacities, &market.flows, &before);
+    let bilateral = hour_borders::execution_flows(&executions);
     Figures {
-        offered,
-        matched,
-        executed,
-        maxima,
-        market,
+        offers,
+        executions,
+        maxima: market.maxima,
+        market: market.flows,
         bilateral,
-        steps: m.steps,
-        price: m.price,
+        steps: market.steps,
+        price: market.price,
     }
 }
 
-// Figures that are all 0.
-fn no_figures() -> Figures
-    ensures { result ≡ no_figures }
-{
-    Figures {
-        offered: [0u32; LODGEMENTS],
-        matched: [0u32; LODGEMENTS],
-        executed: [0u32; LODGEMENTS],
-        maxima: [0u32; 10],
-        market: [0u32; 10],
-        bilateral: [0u32; 10],
-        steps: 0,
-        price: 0,
-    }
-}
-
-// An hour cleared: the rules' figures where it is one that a session can hold.
-pub fn clear(h: Hour) -> Clearance
-    ensures { (result.ready ≡ is_ready h) × (result.figures ≡ figures_of h) }
+// An hour cleared: the rules' figures where it is one that a session can hold, and none where it is not.
+#[tactic(auto, unfolding(hour::specs::Ready::figures_of))]
+pub fn clear(h: &Hour) -> Option<Figures>
+    ensures { result ≡ figures_of h.now }
 {
     if hour::ready(h) {
-        let figures = clear_hour(h);
-        return Clearance {
-            ready: true,
-            figures,
-        };
-    }
-    let figures = no_figures();
-    Clearance {
-        ready: false,
-        figures,
+        Some(clear_hour(h))
+    } else {
+        None
     }
 }

@@ -1,36 +1,40 @@
 -- What executions lose is what the rules take from the list.
 use Prim.Native.Nat.{ℕ, suc, ◌+◌, ◌-◌, ◌/◌, ◌≤◌, ◌<◌, min}
 use mathlib.Core.Path.{◌≡◌, refl, ap, ap₂, sym, ◌∙◌}
-use mathlib.Core.Bool.{Bool, true, false, cond}
-use mathlib.Core.List.{List, [], ◌∷◌, map, map-map}
+use mathlib.Core.Bool.{Bool, cond}
+use mathlib.Core.List.{List, [], ◌∷◌, ◌++◌, map, map-map, map-append, append-nil}
 use native.Mathlib.Nat.{zero-mul, zero-div}
+use native.Mathlib.Numerals.{add-one}
 use native.Mathlib.Omega.{arith}
-use lib.Dec.{eqb, ltb}
-use lib.ListN.{get_or, replicate, length, length-map, length-replicate}
-use borrow.Author.Tests.{ltb-true, ltb-false}
-use Rattle.rules.specs.Lists.{All, none, more, keep, sum, from, add_each}
+use lib.Dec.{ltb}
+use lib.ListN.{get_or, set, take, drop, length, length-map, drop_of_length-le}
+use lib.Seq.{take-suc-set, take_all, append_snoc, drop-cons, drop-set-lt}
+use borrow.Author.Tests.{ltb-false}
+use Rattle.std.specs.Prelude.{Option, None, Some, is_some}
+use Rattle.std.specs.Option.{unwrap_or}
+use Rattle.rules.specs.Lists.{All, none, more, Each, each0, each, keep, sum, add_each}
 use Rattle.rules.specs.Share.{pro_rata, hand_out, share}
-use Rattle.rules.specs.Match.{Offer}
-use Rattle.rules.specs.Borders.{Directed, Execution, runs, at_border, keeps}
-use Rattle.rules.specs.Executions.{bilateral_excess, cuts, all_cuts, less_each, cut_all}
+use Rattle.rules.specs.Match.{Offer, Holder}
+use Rattle.rules.specs.Borders.{Directed, Execution, at_border, keeps}
+use Rattle.rules.specs.Executions.{bilateral_excess, cuts, all_cuts, less_each}
 use Rattle.rules.specs.Demands.{amounts_on}
 use Rattle.rules.proofs.BoolLaws.{by_bool}
 use Rattle.rules.proofs.ListLaws.{all_map, all_head, all_tail}
 use Rattle.rules.proofs.ShareLaws.{share-length}
 use Rattle.rules.proofs.BalanceLaws.{bilateral-flows}
 use Rattle.rules.proofs.BorderLaws.{Fits, Kept, excess-le, amounts-flow}
-use Rattle.arrays.specs.Indices.{vals, lay_on}
-use Rattle.arrays.proofs.IndexLaws.{from_all, map-all, none-off, lay_at}
-use Rattle.arrays.proofs.LayLaws.{lay-beyond}
-use Rattle.hour_borders.specs.declared.Executions.{Executions}
-use Rattle.hour_borders.specs.Ways.{way_of, directed, published_in}
-use Rattle.hour_borders.specs.Flows.{MarketFlows, ExecutionFlows}
+use Rattle.arrays.proofs.IndexLaws.{from_all}
+use Rattle.hour_offers.specs.declared.Execution.{Execution as CodeExecution}
+use Rattle.hour_offers.specs.Sound.{ExecutionInRange}
+use Rattle.hour_offers.specs.View.{execution_in, executions_in}
+use Rattle.hour_share.specs.declared.Amount.{Amount}
+use Rattle.hour_share.specs.Deductions.{energy_in, deductions_in, deductions_over, deductions_from}
+use Rattle.hour_borders.specs.Ways.{directed, energies_of, published_in}
+use Rattle.hour_borders.specs.Flows.{amount_of, MarketFlows, ExecutionFlows}
 use Rattle.hour_borders.specs.Limits.{across_of, excess_in}
-use Rattle.hour_borders.specs.View.{execution_at, executions_of}
 use Rattle.hour_borders.proofs.WayLaws.{runs-directed, way-small}
-use Rattle.hour_borders.proofs.LimitLaws.{market-at, market-across, execution-at, execution-across}
-use Rattle.hour_share.specs.Deductions.{amount_at, amounts_in, deductions_in, deductions_over, deductions_from}
-use Rattle.hour_cut.specs.Cuts.{Enough, both_at, way_at, less_at}
+use Rattle.hour_borders.proofs.LimitLaws.{by_option, energy-at, market-at, market-across, execution-at, execution-across}
+use Rattle.hour_cut.specs.Cuts.{Enough, Lowered}
 
 -- where the market alone fits, the excess is at most what the executions count for
 pub enough-fits : (os : List Offer) (xs : List Execution) {cs : List Directed} → All (Fits os xs) cs → All (Enough os xs) cs
@@ -85,21 +89,25 @@ across-small : (w : ℕ) → w < 10 → across_of w < 10
 unfolding across_of
 across-small w h = way-small (w / 2) _ (omega arith)
 
-module _ (x : Executions) (os : List Offer) (flags : List Bool) (capacities market executions energy both over ways : List ℕ)
-    (km : MarketFlows market os) (kx : ExecutionFlows executions (executions_of x energy))
-    (given : (i : ℕ) → i < x.count → get_or ways i 0 ≡ way_of (get_or x.border i 0) (get_or x.purchase i false))
-    (sums : (w : ℕ) → w < 10 → get_or both w 0 ≡ get_or market w 0 + get_or executions w 0)
-    (excess : (w : ℕ) → 2 ≤ w → w < 10 → get_or over w 0 ≡ excess_in flags capacities both w) where
-  -- the executions' energies in the direction at an index
-  amounts-said : (w : ℕ) → amounts_in ways energy x.count w ≡ amounts_on (directed capacities w) (executions_of x energy)
-  unfolding amounts_in amount_at executions_of at_border
-  amounts-said w =
-      map-all (λ i. cond (eqb (get_or ways i 0) w) (get_or energy i 0) 0)
-      (λ i. cond (runs (directed capacities w).border (directed capacities w).export (execution_at x energy i).holder) (get_or energy i 0) 0)
-      (from_all _ 0 x.count (λ i a b. rw (given i (omega arith), runs-directed capacities w (execution_at x energy i).holder)))
-      ∙ sym (map-map (λ y. cond (runs (directed capacities w).border (directed capacities w).export y.holder) y.energy 0) (execution_at x energy) (from 0 x.count))
+-- an execution's energy, in its direction
+abbrev pub given : CodeExecution → Amount
+given x = amount_of x.holder x.energy
 
-  passing-said : (w : ℕ) → w < 10 → get_or both w 0 - get_or both (across_of w) 0 - get_or capacities w 0 ≡ bilateral_excess os (executions_of x energy) (directed capacities w)
+-- the executions' energies in the direction at an index
+amounts-said : (a : List ℕ) (w : ℕ) (xs : List CodeExecution) → map (energy_in w) (map given xs) ≡ amounts_on (directed a w) (executions_in xs)
+unfolding energy_in at_border
+amounts-said a w [] = refl
+amounts-said a w (x ∷ xs) =
+    ap₂ (λ (n : ℕ) (l : List ℕ). n ∷ l) (ap (λ (b : Bool). cond b x.energy 0) (sym (runs-directed a w (execution_in x).holder))) (amounts-said a w xs)
+
+module _ (xs : List CodeExecution) (os : List Offer) (capacities : List (Option ℕ)) (market executions both over : List ℕ)
+    (km : MarketFlows market os) (kx : ExecutionFlows executions (executions_in xs))
+    (sums : (w : ℕ) → w < 10 → get_or both w 0 ≡ get_or market w 0 + get_or executions w 0)
+    (excess : (w : ℕ) → 2 ≤ w → w < 10 → get_or over w 0 ≡ excess_in capacities both w) where
+  abbrev capacity : ℕ → Directed
+  capacity w = directed (energies_of capacities) w
+
+  passing-said : (w : ℕ) → w < 10 → get_or both w 0 - get_or both (across_of w) 0 - get_or (energies_of capacities) w 0 ≡ bilateral_excess os (executions_in xs) (capacity w)
   unfolding directed
   passing-said w h =
       rw (
@@ -107,81 +115,83 @@ module _ (x : Executions) (os : List Offer) (flags : List Bool) (capacities mark
         sums (across_of w) (across-small w h),
         market-at market w h os km,
         market-across market w h os km,
-        execution-at executions w h (executions_of x energy) kx,
-        execution-across executions w h (executions_of x energy) kx,
-      ) (omega (arith, bilateral-flows os (executions_of x energy) (directed capacities w)))
+        execution-at executions w h (executions_in xs) kx,
+        execution-across executions w h (executions_in xs) kx,
+      ) (omega (arith, bilateral-flows os (executions_in xs) (capacity w)))
 
-  over-said : (w : ℕ) → 2 ≤ w → w < 10 → get_or flags w false ≡ true → get_or over w 0 ≡ bilateral_excess os (executions_of x energy) (directed capacities w)
+  over-said : (w m : ℕ) → 2 ≤ w → w < 10 → get_or capacities w None ≡ Some m → get_or over w 0 ≡ bilateral_excess os (executions_in xs) (capacity w)
   unfolding excess_in
-  over-said w h k f = excess w h k ∙ rw f (passing-said w k)
+  over-said w m h k f =
+      let e : get_or (energies_of capacities) w 0 ≡ m = energy-at capacities w ∙ ap (λ o. unwrap_or o 0) f in
+      excess w h k ∙ rw (f, ← e) (passing-said w k)
 
-  over_none : (w : ℕ) → 2 ≤ w → w < 10 → get_or flags w false ≡ false → get_or over w 0 ≡ 0
+  over_none : (w : ℕ) → 2 ≤ w → w < 10 → get_or capacities w None ≡ None → get_or over w 0 ≡ 0
   unfolding excess_in
   over_none w h k f = excess w h k ∙ rw f
 
-  deductions-said : (w r : ℕ) → r ≡ bilateral_excess os (executions_of x energy) (directed capacities w) → Enough os (executions_of x energy) (directed capacities w)
-      → deductions_in ways energy x.count r w ≡ cuts os (executions_of x energy) (directed capacities w)
+  deductions-said : (w r : ℕ) → r ≡ bilateral_excess os (executions_in xs) (capacity w) → Enough os (executions_in xs) (capacity w)
+      → deductions_in (map given xs) r w ≡ cuts os (executions_in xs) (capacity w)
   unfolding deductions_in cuts
-  deductions-said w r q k = rw (q, amounts-said w) (ap (λ r. share r (amounts_on (directed capacities w) (executions_of x energy))) (lesser k))
+  deductions-said w r q k = rw (q, amounts-said (energies_of capacities) w xs) (ap (λ r. share r (amounts_on (capacity w) (executions_in xs))) (lesser k))
     where
       lesser : {a b : ℕ} → a ≤ b → min a b ≡ a
       lesser k = omega arith
 
   abbrev Deductions : List ℕ → Type 0
-  Deductions ws = deductions_over over ways energy x.count ws ≡ all_cuts os (executions_of x energy) (map (directed capacities) (keep (λ w. get_or flags w false) ws))
+  Deductions ws = deductions_over over (map given xs) ws ≡ all_cuts os (executions_in xs) (map capacity (keep (λ w. is_some (get_or capacities w None)) ws))
 
-  all_said : {ws : List ℕ} → All (λ w. (2 ≤ w) × (w < 10)) ws → All (Enough os (executions_of x energy)) (map (directed capacities) (keep (λ w. get_or flags w false) ws)) → Deductions ws
-  unfolding deductions_over all_cuts executions_of keep
-  all_said none k = sym (map-map (λ y. 0) (execution_at x energy) (from 0 x.count))
+  all_said : {ws : List ℕ} → All (λ w. (2 ≤ w) × (w < 10)) ws → All (Enough os (executions_in xs)) (map capacity (keep (λ w. is_some (get_or capacities w None)) ws)) → Deductions ws
+  unfolding deductions_over all_cuts keep
+  all_said none k = map-map (λ (a : Amount). 0) given xs ∙ sym (map-map (λ (y : Execution). 0) execution_in xs)
   all_said (more {x = w} h t) k =
-      by_bool (get_or flags w false)
-      (λ f. let e = rw f at k in let r = all_said t (all_tail e) in
-      by_bool (ltb 0 (get_or over w 0))
-      (λ o. rw (f, o) (ap₂ add_each (deductions-said w (get_or over w 0) (over-said w h.0 h.1 f) (all_head e)) r))
-      (λ o. rw (f, o) (r ∙ sym (cut-none os (executions_of x energy) (directed capacities w) (sym (over-said w h.0 h.1 f) ∙ omega (arith, ltb-false 0 (get_or over w 0) o)) (all_tail e)))))
+      by_option (get_or capacities w None)
       (λ f. rw (f, over_none w h.0 h.1 f) (all_said t (rw f at k)))
+      (λ m f. let e = rw f at k in let r = all_said t (all_tail e) in
+      by_bool (ltb 0 (get_or over w 0))
+      (λ o. rw (f, o) (ap₂ add_each (deductions-said w (get_or over w 0) (over-said w m h.0 h.1 f) (all_head e)) r))
+      (λ o. rw (f, o) (r ∙ sym (cut-none os (executions_in xs) (capacity w) (sym (over-said w m h.0 h.1 f) ∙ omega (arith, ltb-false 0 (get_or over w 0) o)) (all_tail e)))))
 
   -- the deductions in all published directions
-  published-said : All (Enough os (executions_of x energy)) (published_in flags capacities)
-      → deductions_from over ways energy x.count 2 ≡ all_cuts os (executions_of x energy) (published_in flags capacities)
+  pub published-said : All (Enough os (executions_in xs)) (published_in capacities) → deductions_from over (map given xs) 2 ≡ all_cuts os (executions_in xs) (published_in capacities)
   unfolding deductions_from published_in
   published-said k = all_said (from_all _ 2 8 (λ w h l. (h, omega arith))) k
 
--- each execution without what it loses
-less-indices : (x : Executions) (before after deducted : List ℕ) {is : List ℕ} → All (λ i. get_or after i 0 ≡ get_or before i 0 - get_or deducted i 0) is
-    → map (execution_at x after) is ≡ less_each (map (λ j. get_or deducted j 0) is) (map (execution_at x before) is)
+-- Each execution without what it loses
+
+pub reduce-next : (ks : List ℕ) (xs : List CodeExecution) (i n : ℕ) (d : CodeExecution) → length ks ≡ length xs → i < length xs → n ≡ (get_or xs i d).energy - get_or ks i 0
+    → (let after = set xs i (record { holder = (get_or xs i d).holder; energy = n }) in
+    executions_in (take (i + 1) after) ++ less_each (drop (i + 1) ks) (executions_in (drop (i + 1) after)) ≡ executions_in (take i xs) ++ less_each (drop i ks) (executions_in (drop i xs)))
 unfolding less_each keeps
-less-indices x before after deducted none = refl
-less-indices x before after deducted (more {x = i} h t) =
-    ap₂ (λ (n : ℕ) (l : List Execution). record { holder = (execution_at x before i).holder; energy = n } ∷ l) h (less-indices x before after deducted t)
+reduce-next ks xs i n d e h q =
+    rw (
+      add-one i,
+      take-suc-set xs i (record { holder = (get_or xs i d).holder; energy = n }) h,
+      drop-set-lt (suc i) xs i (record { holder = (get_or xs i d).holder; energy = n }) (omega arith),
+      map-append,
+      append_snoc (executions_in (take i xs)),
+      drop-cons xs i d h,
+      drop-cons ks i 0 (omega arith),
+      q,
+    )
 
-cut_list : (x : Executions) (energy deducted : List ℕ) → x.count ≤ length energy
-    → executions_of x (lay_on (less_at deducted) x.count 0 energy) ≡ less_each (vals deducted 0 x.count) (executions_of x energy)
-unfolding executions_of vals less_at
-cut_list x energy deducted l =
-    less-indices x energy (lay_on (less_at deducted) x.count 0 energy) deducted
-    (from_all _ 0 x.count (λ i a b. lay_at (less_at deducted) x.count 0 i energy a b (omega arith)))
-    ∙ ap (λ k. less_each (map (λ j. get_or deducted j 0) (from 0 k)) (map (execution_at x energy) (from 0 x.count))) (sym (none-off x.count))
+pub reduce-end : (ks : List ℕ) (xs : List CodeExecution) (i : ℕ) {ys : List Execution} → length xs ≤ i
+    → executions_in (take i xs) ++ less_each (drop i ks) (executions_in (drop i xs)) ≡ ys → executions_in xs ≡ ys
+unfolding less_each
+reduce-end ks xs i h p = sym (append-nil (executions_in xs)) ∙ (rw (take_all i xs h, drop_of_length-le xs {i = i} h) at p)
 
-pub cut-said : (x : Executions) (os : List Offer) (flags : List Bool) (capacities market executions border : List ℕ) (purchase : List Bool) (energy both over ways deducted : List ℕ) (n : ℕ)
-    → n ≤ 128 → n ≤ length energy → ways ≡ lay_on (way_at border purchase) n 0 (replicate 128 0) → both ≡ lay_on (both_at market executions) 10 0 (replicate 10 0)
-    → ((w : ℕ) → 2 ≤ w → w < 10 → get_or over w 0 ≡ excess_in flags capacities both w) → vals deducted 0 n ≡ deductions_from over ways energy n 2
-    → x.count ≡ n → x.border ≡ border → x.purchase ≡ purchase
-    → MarketFlows market os → ExecutionFlows executions (executions_of x energy) → All (Enough os (executions_of x energy)) (published_in flags capacities)
-    → executions_of x (lay_on (less_at deducted) n 0 energy) ≡ cut_all os (published_in flags capacities) (executions_of x energy)
-unfolding cut_all way_at both_at
-cut-said x os flags capacities market executions border purchase energy both over ways deducted n few l ew eb eo e qn qb qp km kx k =
-    rw (← qn) (cut_list x energy deducted (omega arith))
-    ∙ ap (λ (ls : List ℕ). less_each ls (executions_of x energy))
-    ((rw (← qn) at e) ∙ published-said x os flags capacities market executions energy both over ways km kx
-    (λ i h. rw (ew, qb, qp) (lay_at (way_at border purchase) n 0 i (replicate 128 0) (omega arith) (omega arith) (rw (length-replicate {A = ℕ} 128 0) (omega arith))))
-    (λ w h. rw eb (lay_at (both_at market executions) 10 0 w (replicate 10 0) (omega arith) (omega arith) (omega (arith, length-replicate {A = ℕ} 10 0))))
-    eo k)
+unchanged : (xs : List Execution) → Each Lowered xs xs
+unchanged [] = each0
+unchanged (x ∷ xs) = each record { holder = refl; energy = omega arith } (unchanged xs)
 
 -- no energy grows
-pub cut_down : (n : ℕ) (energy deducted : List ℕ) → n ≤ length energy → (i : ℕ) → get_or (lay_on (less_at deducted) n 0 energy) i 0 ≤ get_or energy i 0
-unfolding less_at
-cut_down n energy deducted l i =
-    by_bool (ltb i n)
-    (λ t. let h = ltb-true i n t in omega (arith, lay_at (less_at deducted) n 0 i energy (omega arith) (omega arith) (omega arith)))
-    (λ t. omega (arith, ltb-false i n t, lay-beyond (less_at deducted) n 0 i energy (omega (arith, ltb-false i n t))))
+pub lowered : (ks : List ℕ) (xs : List Execution) → Each Lowered xs (less_each ks xs)
+unfolding less_each keeps
+lowered ks [] = each0
+lowered [] (x ∷ xs) = unchanged (x ∷ xs)
+lowered (k ∷ ks) (x ∷ xs) = each record { holder = refl; energy = omega arith } (lowered ks xs)
+
+-- so each stays within its range
+pub lowered-in-range : {xs ys : List Execution} → Each Lowered xs ys → All ExecutionInRange xs → All ExecutionInRange ys
+lowered-in-range each0 none = none
+lowered-in-range (each {x = x} {y = y} h t) (more r rs) =
+    more record { border = omega (arith, ap (λ (h : Holder). h.border) h.holder, r.border); energy = omega (arith, h.energy, r.energy) } (lowered-in-range t rs)

@@ -1,1 +1,1 @@
-pub mod MarketLaws
+mod MarketLaws

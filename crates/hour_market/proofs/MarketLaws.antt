@@ -1,55 +1,78 @@
 -- The parts of an hour's market together are the rules'.
-use Prim.Native.Nat.{ℕ, ◌≤◌}
+use Prim.Native.Nat.{ℕ, ◌≤◌, ◌<◌}
 use mathlib.Core.Path.{◌≡◌, sym, ◌∙◌, ap}
-use mathlib.Core.Bool.{Bool}
+use mathlib.Core.Bool.{true, false}
 use mathlib.Core.List.{List, map}
 use native.Mathlib.Omega.{arith}
-use lib.ListN.{get_or, length, replicate, length-replicate}
+use lib.Dec.{ltb}
+use lib.ListN.{get_or, length, length-map, get_or-eq_default}
+use borrow.Author.Tests.{ltb-true, ltb-false}
+use Rattle.std.specs.Prelude.{Option, unwrap_or}
+use Rattle.rules.proofs.BoolLaws.{by_bool}
+use Rattle.rules.specs.Lists.{All}
 use Rattle.rules.specs.Units.{max_energy}
-use Rattle.rules.specs.Match.{match_all, hour_price}
+use Rattle.rules.specs.Match.{Offer, volume, match_all, hour_price}
 use Rattle.rules.specs.Borders.{Execution}
 use Rattle.rules.specs.Split.{maximum_of}
 use Rattle.rules.specs.Withdrawal.{Withdrawn, withdraw}
 use Rattle.rules.specs.Clearing as C
-use Rattle.arrays.proofs.IndexLaws.{zeros}
-use Rattle.hour_match.specs.declared.Offers.{Offers}
-use Rattle.hour_match.specs.View.{Matched, offers_of}
-use Rattle.hour_match.proofs.ViewLaws.{matched-small}
-use Rattle.hour_borders.specs.Ways.{published_in}
+use Rattle.rules.proofs.ListLaws.{all_map}
+use Rattle.rules.proofs.MatchLaws.{volume-again}
+use Rattle.rules.proofs.WithdrawalLaws.{match-lowered}
+use Rattle.hour_offers.specs.Sound.{Sound}
+use Rattle.hour_match.specs.Orders.{in_order}
+use Rattle.hour_match.specs.Walks.{Matched}
+use Rattle.hour_match.proofs.KeptLaws.{along-of, along-kept, match-sound}
+use Rattle.hour_borders.specs.Ways.{energies_of, published_in}
+use Rattle.hour_borders.specs.Flows.{MatchedInRange, Small}
 use Rattle.withdraw.specs.declared.Ended.{Ended}
-use Rattle.withdraw.specs.Steps.{Energies}
+use Rattle.withdraw.specs.Steps.{Laid}
 use Rattle.withdraw.specs.Rounds.{Withdrew}
 use Rattle.hour_market.specs.Parts.{MarketCleared}
 
--- the energies after the first match
-pub energies-first : {h : Offers} {e m : List ℕ} {v : ℕ} → Matched h e (replicate 128 0) m v → ((i : ℕ) → get_or e i 0 ≤ max_energy) → ((i : ℕ) → h.count ≤ i → get_or e i 0 ≡ 0) → length e ≡ 128
-    → Energies h.count e m
-energies-first d f b le = record {
-  small = f;
-  part = matched-small max_energy d f (λ i. rw (zeros 128 i) (omega arith));
-  within = d.within;
-  offered-behind = b;
-  matched-behind = λ i l. d.beyond i l ∙ zeros 128 i;
-  offered-long = le;
-  matched-long = d.long ∙ length-replicate {A = ℕ} 128 0;
-}
+pub offered-small : {os : List Offer} → Sound os → All (λ o. o.offered ≤ max_energy) os
+offered-small s = all_map (λ o h. h.offered) s.in_range
 
-module _ (o : Offers) (offered : List ℕ) (published : List Bool) (capacity : List ℕ) (xs : List Execution) {m mx e' m' : List ℕ} {r : Ended}
-    (first : offers_of o offered m ≡ match_all (offers_of o offered (replicate 128 0)))
-    (maxima : published_in published mx ≡ map (maximum_of (offers_of o offered m) xs) (published_in published capacity))
-    (ended : Withdrew o published mx offered m e' m' r) where
-  -- the withdrawal is the rules'
-  withdrawn : withdraw (map (maximum_of (match_all (offers_of o offered (replicate 128 0))) xs) (published_in published capacity)) (match_all (offers_of o offered (replicate 128 0)))
-      ≡ record { offers = offers_of o e' m'; steps = r.steps }
-  withdrawn = rw (← first, ← maxima) ended.done
+pub matched-in-range : {os : List Offer} → Sound os → All MatchedInRange os
+matched-in-range s = all_map (λ o h. record { border = h.border; matched = h.matched }) s.in_range
 
-  -- and so is the market's part
-  pub market-said : (f : List ℕ) {p : ℕ} → p ≡ hour_price (offers_of o e' m')
-      → MarketCleared o offered published capacity xs (record { offered = e'; matched = m'; maxima = mx; flows = f; steps = r.steps; price = p })
+-- numbers that can be added, at every index
+pub small : (cs : List (Option ℕ)) → length cs ≡ 10 → ((w : ℕ) → w < 10 → get_or (energies_of cs) w 0 < 2147483648) → Small (energies_of cs)
+unfolding energies_of
+small cs l f w =
+    by_bool (ltb w 10)
+    (λ t. f w (ltb-true w 10 t))
+    (λ t. omega (arith, get_or-eq_default (map (λ o. unwrap_or o 0) cs) 0 {n = w} (omega (arith, ltb-false w 10 t, l, length-map cs (λ o. unwrap_or o 0)))))
+
+-- the offers after the first match
+module _ {os ps : List Offer} {v : ℕ} (s : Sound os) (m : Matched os ps v) where
+  pub first-sound : Sound ps
+  first-sound = rw m.offers (match-sound os s)
+
+  pub first-traded : v ≡ volume ps
+  first-traded = rw (m.offers, volume-again os) m.traded
+
+  pub first-laid : {sales purchases : List ℕ} → sales ≡ in_order false os → purchases ≡ in_order true os → Laid ps sales purchases
+  first-laid a b = record {
+    sound = first-sound;
+    within = m.within;
+    rising = rw m.offers ((along-kept (match-lowered os) {side = false} (along-of s a)).order);
+    falling = rw m.offers ((along-kept (match-lowered os) {side = true} (along-of s b)).order);
+  }
+
+-- the withdrawal is the rules', and so is the market's part
+module _ {os ps qs : List Offer} {v : ℕ} (m : Matched os ps v) (capacities maxima : List (Option ℕ)) (xs : List Execution) {sales purchases : List ℕ} {r : Ended}
+    (split : published_in maxima ≡ map (maximum_of ps xs) (published_in capacities))
+    (ended : Withdrew (published_in maxima) sales purchases ps qs r) where
+  withdrawn : withdraw (map (maximum_of (match_all os) xs) (published_in capacities)) (match_all os) ≡ record { offers = qs; steps = r.steps }
+  withdrawn = rw (← m.offers, ← split) ended.done
+
+  pub market-said : (f : List ℕ) {p : ℕ} → p ≡ hour_price qs
+      → MarketCleared os capacities xs qs (record { maxima = maxima; flows = f; steps = r.steps; price = p })
   unfolding C.clear_hour
   market-said f q = record {
     offers = ap (λ w. w.offers) withdrawn;
-    maxima = rw (← first) (sym maxima);
+    maxima = rw (← m.offers) (sym split);
     steps = ap (λ w. w.steps) withdrawn;
     price = ap (λ (w : Withdrawn). hour_price w.offers) withdrawn ∙ sym q;
   }

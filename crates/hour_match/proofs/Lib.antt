@@ -1,4 +1,10 @@
+pub mod SortLaws
 pub mod ViewLaws
 pub mod OrderLaws
-pub mod MatchLaws
+pub mod KeyLaws
 pub mod WalkLaws
+pub mod TurnLaws
+pub mod FillLaws
+pub mod MatchLaws
+pub mod PriceLaws
+pub mod KeptLaws

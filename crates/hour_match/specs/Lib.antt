@@ -1,3 +1,2 @@
-pub mod View
 pub mod Orders
 pub mod Walks

@@ -1,43 +1,34 @@
--- What the walks along the orders compute.
-use Rattle.std.specs.Prelude.{ℕ, ◌-◌, ◌%◌, ◌≤◌, ◌<◌, min, Bool, true, false, cond, List, [], ◌∷◌, ◌++◌, map, ltb, get_or, set, replicate}
-use Rattle.rules.specs.Match.{Place}
-use Rattle.arrays.specs.Indices.{vals}
+-- What the walks along the orders compute, and what a match is.
+use Rattle.std.specs.Prelude.{ℕ, ◌-◌, ◌≤◌, ◌≡◌, min, Bool, true, false, List, [], ◌∷◌, map, set}
+use Rattle.rules.specs.Lists.{All, Pairwise}
+use Rattle.rules.specs.Match.{Offer, Place, with_energies, lay_out, volume, match_all}
+use Rattle.hour_match.specs.Orders.{nth}
 
--- the index that a key names
-abbrev pub index_in : List ℕ → ℕ → ℕ
-index_in keys j = get_or keys j 0 % 128
+-- the offers at some indices
+unfoldable pub named : List Offer → List ℕ → List Offer
+named os is = map (nth os) is
 
--- the indices that the keys from i to below n name
-unfoldable pub indices : List ℕ → ℕ → ℕ → List ℕ
-indices keys i n = map (λ k. k % 128) (vals keys i n)
-
--- one tenth of MWh of the offer at an index; the index stands for the number
-abbrev pub tenth_of : List ℕ → ℕ → Place
-tenth_of price x = record { number = x; price = get_or price x 0 }
-
--- the offers at some indices, laid out one tenth of MWh at a time
-unfoldable pub tenths : List ℕ → List ℕ → List ℕ → List Place
-tenths price e [] = []
-tenths price e (x ∷ xs) = replicate (get_or e x 0) (tenth_of price x) ++ tenths price e xs
-
--- the tenths of the offers named by the keys from i to below n
-unfoldable pub laid : List ℕ → List ℕ → List ℕ → ℕ → ℕ → List Place
-laid price e keys i n = tenths price e (indices keys i n)
+-- the same, laid out one tenth of MWh at a time
+unfoldable pub laid : List Offer → List ℕ → List Place
+laid os is = lay_out (named os is)
 
 -- "sales by rising price, purchases by falling price": p may stand before q
 unfoldable pub Ahead : Bool → ℕ → ℕ → Type 0
 Ahead false p q = p ≤ q
 Ahead true p q = q ≤ p
 
--- along the first n keys each price may stand before every later one
-unfoldable pub Follows : Bool → List ℕ → List ℕ → ℕ → Type 0
-Follows side price keys n = (i j : ℕ) → i ≤ j → j < n → Ahead side (get_or price (index_in keys i) 0) (get_or price (index_in keys j) 0)
-
--- the energy at key i, 0 past the last
-unfoldable pub energy_at : List ℕ → List ℕ → ℕ → ℕ → ℕ
-energy_at e keys n i = cond (ltb i n) (get_or e (index_in keys i) 0) 0
+-- along some indices each price may stand before every later one
+unfoldable pub Follows : Bool → List Offer → List ℕ → Type 0
+Follows side os is = Pairwise (λ o p. Ahead side o.price p.price) (named os is)
 
 -- v tenths handed along the offers at some indices
-unfoldable pub fill_on : List ℕ → ℕ → List ℕ → List ℕ → List ℕ
-fill_on e v [] m = m
-fill_on e v (x ∷ xs) m = fill_on e (v - get_or e x 0) xs (set m x (min v (get_or e x 0)))
+unfoldable pub fill_on : ℕ → List ℕ → List Offer → List Offer
+fill_on v [] os = os
+fill_on v (i ∷ is) os =
+    let o = nth os i in fill_on (v - o.offered) is (set os i (with_energies o.offered (min v o.offered) o))
+
+-- `after` is the match of some offers, v its volume
+pub record Matched (before after : List Offer) (v : ℕ) : Type 0 where
+  pub offers : after ≡ match_all before
+  pub traded : v ≡ volume before
+  pub within : All (λ o. o.matched ≤ o.offered) after

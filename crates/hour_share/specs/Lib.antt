@@ -1,2 +1,1 @@
 pub mod Deductions
-pub mod Next

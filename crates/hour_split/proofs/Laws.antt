@@ -1,8 +1,8 @@
 -- Split as the code computes it, on flows in a direction and against it, is the rules' Split.
-use Prim.Native.Nat.{ℕ, ◌+◌, ◌*◌, ◌-◌, ◌/◌, ◌≤◌, ◌<◌, min}
-use mathlib.Core.Path.{◌≡◌, refl, sym, ◌∙◌}
-use native.Mathlib.Nat.{le_trans, min-le_left}
-use lib.IntN.{ℤ, pos, sub_ℕ}
+use Rattle.std.proofs.Common.{◌≡◌, ℕ, ◌+◌, ◌*◌, ◌-◌, ◌/◌, ◌%◌, ◌≤◌, ◌<◌, min, refl, sym, ◌∙◌, arith, pos, ℤ}
+use native.Mathlib.Nat.{le_trans, min-le_left, div-eq_of_lt-le}
+use Rattle.std.proofs.lemmas.Grind.{div_ceil_times}
+use lib.IntN.{sub_ℕ}
 use Rattle.rules.specs.Lists.{round_up}
 use Rattle.rules.specs.Borders.{positive}
 use Rattle.rules.specs.Split.{net_capacity, claims, bilateral_part, market_maximum}
@@ -25,10 +25,17 @@ part_of : (B : ℤ) (b s d : ℕ) → positive B ≡ b → bilateral_part (pos b
 unfolding bilateral_part
 part_of B b s d e = rw (positive-pos b, e)
 
--- "t = B × min(s, d) / d rounded up"
-pub part-said : (b s d : ℕ) {m t : ℕ} → 0 < b → m ≡ min s d → t ≡ (b * m + (d - 1)) / d → t ≡ bilateral_part (pos b) s d
+-- a quotient rounded up, as the library says it and as the rules do
+pub rounds-up : (n d : ℕ) → 0 < d → n / d + min 1 (n % d) ≡ round_up n d
 unfolding round_up
-part-said b s d h m t = rw (part-some (pos b) s d (rw (positive-pos b) h), positive-pos b, t, m)
+rounds-up n d h =
+    let t = div_ceil_times n d h in
+    sym (div-eq_of_lt-le d (omega arith) (omega arith))
+
+-- "t = B × min(s, d) / d rounded up"
+pub part-said : (b s d : ℕ) {t : ℕ} → 0 < b → t ≡ round_up (b * min s d) d → t ≡ bilateral_part (pos b) s d
+unfolding round_up
+part-said b s d h t = rw (part-some (pos b) s d (rw (positive-pos b) h), positive-pos b, t)
 
 -- "a − t"
 pub maximum-said : (E bx bi mx mi L : ℕ) {b f s n d t : ℕ} → b ≡ bx - bi → f ≡ bi - bx → s ≡ E + f - L → n ≡ mx - mi → d ≡ n - L

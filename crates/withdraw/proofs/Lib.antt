@@ -1,3 +1,2 @@
-pub mod FlowLaws
 pub mod StepLaws
 pub mod RoundLaws

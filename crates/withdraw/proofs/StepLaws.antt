@@ -1,69 +1,85 @@
--- A step on lent arrays is the rules' step.
-use Prim.Native.Nat.{ℕ, ◌≤◌, ◌<◌}
-use mathlib.Core.Path.{◌≡◌, ap, ◌∙◌}
-use mathlib.Core.Bool.{Bool}
-use mathlib.Core.List.{List, map}
-use native.Mathlib.Omega.{arith}
-use lib.Dec.{ltb}
-use lib.ListN.{get_or, length}
-use borrow.Author.Tests.{ltb-true, ltb-false}
-use Rattle.rules.specs.Match.{match_all}
-use Rattle.rules.specs.Withdrawal.{keep_matched, group_of, take_from, step}
-use Rattle.rules.proofs.BoolLaws.{by_bool}
-use Rattle.arrays.specs.Indices.{lay_on}
-use Rattle.arrays.proofs.IndexLaws.{lay_at, lay-length}
-use Rattle.arrays.proofs.LayLaws.{lay-beyond}
-use Rattle.hour_match.specs.declared.Offers.{Offers}
-use Rattle.hour_match.specs.View.{offers_of, Sound, Matched}
-use Rattle.hour_match.specs.Orders.{Ordered, Along}
-use Rattle.hour_borders.specs.Ways.{over_in}
-use Rattle.withdraw_keep.specs.Kept.{kept_at}
-use Rattle.withdraw_keep.specs.Lent.{Lent}
-use Rattle.withdraw_keep.proofs.KeptLaws.{kept-between}
-use Rattle.withdraw_keep.specs.declared.Group.{Group}
-use Rattle.withdraw_keep.specs.Group.{group_in}
-use Rattle.withdraw_take.specs.Given.{Lower}
-use Rattle.withdraw.specs.Steps.{Stepped}
+-- A step on a list of offers is the rules' step.
+use Rattle.std.proofs.Common.{ℕ, ◌≡◌, sym, ◌∙◌, ap, ◌<◌, ◌≤◌, ◌^◌, List, length, map, true, false, arith}
+use Rattle.std.specs.List.{sum_by}
+use Rattle.std.specs.Prelude.{All as Every}
+use Rattle.std.proofs.lemmas.List.{length-map}
+use Rattle.std.proofs.lemmas.List.Sums.{sum_by-le}
+use Rattle.rules.specs.Lists.{All, Each}
+use Rattle.rules.specs.Units.{max_energy}
+use Rattle.rules.specs.Match.{Offer, match_all, volume}
+use Rattle.rules.specs.Borders.{Directed}
+use Rattle.rules.specs.Withdrawal.{Group, keep_matched, group_of, take_from, step}
+use Rattle.rules.proofs.ListLaws.{all_map}
+use Rattle.rules.proofs.ElementLaws.{each-trans, each_weaken}
+use Rattle.rules.proofs.MatchLaws.{volume-again}
+use Rattle.rules.proofs.WithdrawalLaws.{Lowered as Less, lowered-trans, kept-within, match-lowered}
+use Rattle.hour_offers.specs.declared.Offer.{Offer as Held}
+use Rattle.hour_offers.specs.View.{offer_in, offers_in}
+use Rattle.hour_offers.specs.Sound.{Sound}
+use Rattle.hour_offers.proofs.SoundLaws.{offer-in-range}
+use Rattle.hour_match.specs.Orders.{Along}
+use Rattle.hour_match.specs.Walks.{Matched}
+use Rattle.hour_match.proofs.KeptLaws.{along-of, along-kept, match-sound}
+use Rattle.withdraw_keep.specs.Change.{Changed}
+use Rattle.withdraw_keep.proofs.ChangeLaws.{changed-sound, changed-lowered}
+use Rattle.withdraw.specs.Steps.{Laid, Lowered, Stepped}
 
--- keys of lent arrays are those of their hour
-pub along-lent : {side : Bool} {h : Offers} {n : ℕ} {border : List ℕ} {purchase legacy : List Bool} {price keys : List ℕ} {k : ℕ}
-    → Sound h → Lent h n border purchase legacy price → Ordered side n price purchase keys k → Along side h price keys k
-along-lent s t o = record { sound = s; prices = t.prices; order = rw (t.counts, t.prices, t.sides) o }
+-- a sum of energies fits
+sum-fits : (f : Held → ℕ) (os : List Held) → Sound (offers_in os) → Every (λ o. f o ≤ max_energy) os → sum_by f os < 2 ^ 32
+sum-fits f os s h =
+    let n : length os ≤ 128 = rw (length-map os offer_in) at s.few in
+    omega (arith, sum_by-le f max_energy os h)
 
--- what is written anew is as long as before
-pub anew-long : (f : ℕ → ℕ → ℕ) (n : ℕ) (e : List ℕ) {l : List ℕ} → l ≡ lay_on f n 0 e → length e ≡ 128 → length l ≡ 128
-anew-long f n e q h = ap length q ∙ lay-length f n 0 e ∙ h
+pub matched-fits : (os : List Held) → Sound (offers_in os) → sum_by (λ o. o.matched) os < 2 ^ 32
+matched-fits os s = sum-fits (λ o. o.matched) os s (λ i d h. (offer-in-range os i d s.in_range h).matched)
 
-module _ (over : List ℕ) (m : List ℕ) (n : ℕ) (border : List ℕ) (purchase legacy : List Bool) (price : List ℕ) (inner : (i : ℕ) → i < n → get_or border i 0 < 5) where
-  -- what the two leave offered
-  pub after_lower : (e : List ℕ) {kept after : List ℕ} → n ≤ length e → ((i : ℕ) → i < n → get_or m i 0 ≤ get_or e i 0)
-      → kept ≡ lay_on (kept_at over border purchase legacy m) n 0 e → Lower n kept m after → (i : ℕ) → get_or after i 0 ≤ get_or e i 0
-  after_lower e {kept} {after} l w q d i =
-      by_bool (ltb i n)
-      (λ t. let k = ltb-true i n t in
-      let x = kept-between over border purchase legacy m i (get_or e i 0) (w i k) in
-      let y : get_or kept i 0 ≡ kept_at over border purchase legacy m i (get_or e i 0) = rw q (lay_at (kept_at over border purchase legacy m) n 0 i e (omega arith) (omega arith) (omega arith)) in
-      omega (arith, d.lower i k (omega arith)))
-      (λ t. let k = ltb-false i n t in omega (arith, d.beyond i k, kept-beyond i k))
-    where
-      kept-beyond : (i : ℕ) → n ≤ i → get_or kept i 0 ≡ get_or e i 0
-      kept-beyond i k = rw q (lay-beyond (kept_at over border purchase legacy m) n 0 i e (omega arith))
+pub offered-fits : (os : List Held) → Sound (offers_in os) → sum_by (λ o. o.offered) os < 2 ^ 32
+offered-fits os s = sum-fits (λ o. o.offered) os s (λ i d h. (offer-in-range os i d s.in_range h).offered)
+
+module _ {os : List Offer} (s : Sound os) where
+  pub matched-ranged : All (λ o. o.matched ≤ max_energy) os
+  matched-ranged = all_map (λ o h. h.matched) s.in_range
+
+  pub offered-ranged : All (λ o. o.offered ≤ max_energy) os
+  offered-ranged = all_map (λ o h. h.offered) s.in_range
+
+-- the same, as contracts say it
+pub lowered-of : {os ps : List Offer} → Each Less os ps → Each Lowered os ps
+lowered-of = each_weaken (λ o p h. record { holder = h.holder; price = h.price; offered = h.offered })
+
+pub lowered-less : {os ps : List Offer} → Each Lowered os ps → Each Less os ps
+lowered-less = each_weaken (λ o p h. record { holder = h.holder; price = h.price; offered = h.offered })
+
+module _ (ds : List Directed) {sales purchases : List ℕ} {os ks ts : List Offer} (l : Laid os sales purchases)
+    (ek : ks ≡ map (keep_matched ds) os) (ck : Each Changed os ks) (ct : Each Changed ks ts) where
+  -- what is matched anew is as sound as before
+  pub taken-sound : Sound ts
+  taken-sound = changed-sound ct (changed-sound ck l.sound)
+
+  -- none offers more
+  taken-less : Each Less os ts
+  taken-less = each-trans lowered-trans (changed-lowered ck l.within) (changed-lowered ct (rw ek (kept-within ds l.within)))
+
+  -- both sides are in their orders still
+  pub sales-along : Along false ts sales
+  sales-along = along-kept taken-less (along-of l.sound l.rising)
+
+  pub purchases-along : Along true ts purchases
+  purchases-along = along-kept taken-less (along-of l.sound l.falling)
 
   -- 5. "Match again."
-  pub step-said : (h : Offers) (g : Group) (e kept after matched : List ℕ) (v : ℕ) → n ≤ length e → ((i : ℕ) → i < n → get_or m i 0 ≤ get_or e i 0) → Lent h n border purchase legacy price
-      → kept ≡ lay_on (kept_at over border purchase legacy m) n 0 e → offers_of h kept m ≡ map (keep_matched (over_in over)) (offers_of h e m) → group_in g ≡ group_of (over_in over) (offers_of h kept m)
-      → Lower n kept m after → offers_of h after m ≡ take_from (group_in g) (over_in over) (offers_of h kept m)
-      → Matched h after m matched v → Stepped h over e m after matched v
+  pub step-said : (g : Group) {after : List Offer} {v : ℕ} → g ≡ group_of ds ks → ts ≡ take_from g ds ks → Matched ts after v → Stepped ds sales purchases os after v
   unfolding step
-  step-said h g e kept after matched v l w t q ek eg d et r =
+  step-said g {after} {v} eg et m =
+      let less : Each Less os after = each-trans lowered-trans taken-less (rw m.offers (match-lowered ts)) in
       record {
-        offers = r.offers m ∙ ap match_all (et ∙ ap (λ k. take_from k (over_in over) (offers_of h kept m)) eg ∙ ap (λ os. take_from (group_of (over_in over) os) (over_in over) os) ek);
-        traded = r.traded matched;
-        lower = after_lower e l w q d;
-        within = r.within;
-        offered-written = record {
-          beyond = λ i k. d.beyond i (omega (arith, t.counts)) ∙ rw q (lay-beyond (kept_at over border purchase legacy m) n 0 i e (omega (arith, t.counts)));
-          long = d.long ∙ rw q (lay-length (kept_at over border purchase legacy m) n 0 e);
+        offers = m.offers ∙ ap match_all (et ∙ ap (λ k. take_from k ds ks) eg ∙ ap (λ k. take_from (group_of ds k) ds k) ek);
+        traded = m.traded ∙ sym (ap volume m.offers ∙ volume-again ts);
+        laid = record {
+          sound = rw m.offers (match-sound ts taken-sound);
+          within = m.within;
+          rising = (along-kept less (along-of l.sound l.rising)).order;
+          falling = (along-kept less (along-of l.sound l.falling)).order;
         };
-        matched-written = record { beyond = r.beyond; long = r.long };
+        lowered = lowered-of less;
       }

@@ -1,40 +1,35 @@
--- A withdrawal step on the arrays of an hour.
-use Rattle.std.specs.Prelude.{ℕ, ◌≤◌, ◌<◌, ◌≡◌, List, get_or, length}
-use Rattle.rules.specs.Match.{volume}
+-- A withdrawal step of an hour.
+use Rattle.std.specs.Prelude.{ℕ, ◌≤◌, ◌≡◌, true, false, List}
+use Rattle.rules.specs.Lists.{All, Each}
+use Rattle.rules.specs.Match.{Offer, volume}
+use Rattle.rules.specs.Borders.{Directed}
 use Rattle.rules.specs.Withdrawal.{step}
-use Rattle.hour_match.specs.declared.Offers.{Offers}
-use Rattle.hour_match.specs.View.{offers_of}
-use Rattle.hour_borders.specs.Ways.{over_in}
-use Rattle.hour_borders.specs.Located.{Ranged}
+use Rattle.hour_offers.specs.Sound.{Sound}
+use Rattle.hour_match.specs.Orders.{in_order}
 
--- What is offered and matched of n offers, as a step asks for it and leaves it.
-pub record Energies (n : ℕ) (offered matched : List ℕ) : Type 0 where
-  -- in the range of energies
-  pub small : Ranged offered
-  pub part : Ranged matched
-  -- no more matched than offered
-  pub within : (i : ℕ) → i < n → get_or matched i 0 ≤ get_or offered i 0
-  -- nothing after the offers
-  pub offered-behind : (i : ℕ) → n ≤ i → get_or offered i 0 ≡ 0
-  pub matched-behind : (i : ℕ) → n ≤ i → get_or matched i 0 ≡ 0
-  -- arrays of 128
-  pub offered-long : length offered ≡ 128
-  pub matched-long : length matched ≡ 128
+-- An hour's offers, as a match leaves them, and both sides in their orders.
+pub record Laid (os : List Offer) (sales purchases : List ℕ) : Type 0 where
+  -- they stand by rising lodging number, each in its ranges
+  pub sound : Sound os
+  -- no more is matched than offered
+  pub within : All (λ o. o.matched ≤ o.offered) os
+  -- "sales by rising price, purchases by falling price"
+  pub rising : sales ≡ in_order false os
+  pub falling : purchases ≡ in_order true os
 
--- only the first n of an array are written
-pub record Written (n : ℕ) (before after : List ℕ) : Type 0 where
-  pub beyond : (i : ℕ) → n ≤ i → get_or after i 0 ≡ get_or before i 0
-  pub long : length after ≡ length before
+-- an offer and what a withdrawal leaves of it: the same holder and price, and it offers no more
+pub record Lowered (before after : Offer) : Type 0 where
+  pub holder : after.holder ≡ before.holder
+  pub price : after.price ≡ before.price
+  pub offered : after.offered ≤ before.offered
 
--- A step of an hour's offers: what is offered and matched before it, and after it; `over` has the excesses by direction.
-pub record Stepped (h : Offers) (over offered matched offered' matched' : List ℕ) (v : ℕ) : Type 0 where
+-- A step of some offers, of the directions passed, with their excesses; v is the volume after it.
+pub record Stepped (ds : List Directed) (sales purchases : List ℕ) (before after : List Offer) (v : ℕ) : Type 0 where
   -- the rules' step, "Match again" included
-  pub offers : offers_of h offered' matched' ≡ step (over_in over) (offers_of h offered matched)
+  pub offers : after ≡ step ds before
   -- v is the volume of that match
-  pub traded : v ≡ volume (offers_of h offered' matched')
-  -- none offers more than before, and no more is matched than offered
-  pub lower : (i : ℕ) → get_or offered' i 0 ≤ get_or offered i 0
-  pub within : (i : ℕ) → i < h.count → get_or matched' i 0 ≤ get_or offered' i 0
-  -- nothing is written after the offers
-  pub offered-written : Written h.count offered offered'
-  pub matched-written : Written h.count matched matched'
+  pub traded : v ≡ volume after
+  -- the orders stay those of the offers
+  pub laid : Laid after sales purchases
+  -- none offers more than before
+  pub lowered : Each Lowered before after

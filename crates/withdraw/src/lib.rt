@@ -1,130 +1,75 @@
-// The withdrawal on the arrays of an hour: its step, and the repetition (document 01, "Withdrawal step").
+// The withdrawal of an hour: its step, and the repetition (document 01, "Withdrawal step").
 #![tactic(auto)]
 
-ghost use Rattle.hour_match.specs.declared.Offers.{Offers};
-ghost use Rattle.hour_match.specs.View.{offers_of, Sound};
-ghost use Rattle.hour_match.specs.Orders.{LaidOut};
+ghost use Rattle.std.specs.Prelude.{◌≡◌, ◌^◌, ◌<◌, length, map, sum};
+ghost use Rattle.std.specs.List.{sum_by};
+ghost use Rattle.rules.specs.Match.{volume as volume_of};
+ghost use Rattle.hour_offers.specs.View.{offers_in};
+ghost use Rattle.hour_match.specs.Orders.{Names};
+ghost use Rattle.hour_borders.specs.Ways.{published_in, over_in};
 ghost use Rattle.hour_borders.specs.Flows.{MarketFlows};
-ghost use Rattle.hour_borders.specs.Located.{Located};
-ghost use Rattle.withdraw_keep.specs.Lent.{Lent};
-ghost use Rattle.withdraw.specs.Steps.{Energies, Stepped};
-ghost use Rattle.withdraw.specs.Rounds.{FirstMatched, Withdrew};
+ghost use Rattle.withdraw.specs.Steps.{Laid, Stepped};
+ghost use Rattle.withdraw.specs.Rounds.{Withdrew};
 
-use hour_match::{Offers, Order};
-use rules::LODGEMENTS;
+use hour_offers::Offer;
 
 // How a withdrawal ended: the count of its steps, and the volume of the last match.
-#[derive(Clone, Copy)]
+#[derive(Clone, Copy, Debug, PartialEq, Eq)]
 pub struct Ended {
     pub steps: u32,
     pub volume: u32,
 }
 
-// One step, of the directions with an excess above 0, and the volume after it: the rules' step of every hour that has the lent arrays.
-// `at` lists the indices of the offers at a border: they alone keep less, set a price and give way; C and V' are of all. 5. "Match again."
-fn step<'a>(
-    offered: &mut [u32; LODGEMENTS],
-    matched: &mut [u32; LODGEMENTS],
-    n: usize,
-    at: &[usize],
-    over: &[u32; 10],
-    border: &'a [u32; LODGEMENTS],
-    purchase: &'a [bool; LODGEMENTS],
-    legacy: &'a [bool; LODGEMENTS],
-    price: &'a [u32; LODGEMENTS],
-    sales: &[u32; LODGEMENTS],
-    ns: usize,
-    purchases: &[u32; LODGEMENTS],
-    np: usize,
-) -> u32
-    requires { Located n border.now at.now
-        × LaidOut n price.now purchase.now sales.now ns purchases.now np
-        × Energies n offered.old matched.old }
-    ensures { (h : Offers) → Sound h
-        → Lent h n border.now purchase.now legacy.now price.now
-        → Stepped h over.now offered.old matched.old offered.new matched.new result }
+// One step, of the directions with an excess above 0, and the volume after it. 5. "Match again."
+fn step(offers: &mut [Offer], over: &[u32; 10], sales: &[usize], purchases: &[usize]) -> u32
+    requires sales { Names (length offers.old) sales.now }
+    requires purchases { Names (length offers.old) purchases.now }
+    requires laid { Laid (offers_in offers.old) sales.now purchases.now }
+    ensures { Stepped (over_in over.now) sales.now purchases.now (offers_in offers.old) (offers_in offers.new) result }
 {
-    withdraw_keep::keep_matched(offered, n, at, over, border, purchase, legacy, matched);
-    let g = withdraw_choose::choose(n, at, over, border, purchase, legacy, price, matched);
-    withdraw_take::take_from(
-        offered, n, at, over, g, border, purchase, legacy, price, matched,
-    );
-    hour_match::match_offers(matched, offered, price, sales, ns, purchases, np)
+    withdraw_keep::keep_matched(offers, over);
+    let group = withdraw_choose::choose(offers, over);
+    withdraw_take::take_from(offers, over, group);
+    hour_match::match_offers(offers, sales, purchases)
 }
 
-// The steps, from the first match, of that volume. What is offered bounds them and never ends them (`withdraw-ends` of the rules).
-fn repeat(
-    offered: &mut [u32; LODGEMENTS],
-    matched: &mut [u32; LODGEMENTS],
-    first: u32,
-    o: Offers,
-    sales: Order,
-    purchases: Order,
-    published: &[bool; 10],
-    maxima: &[u32; 10],
-) -> Ended
-    requires { FirstMatched o sales purchases offered.old matched.old first }
-    ensures { Withdrew o published.now maxima.now offered.old matched.old offered.new matched.new result }
+// What is offered bounds the steps and never ends them (`withdraw-ends` of the rules).
+fn step_bound(offers: &[Offer]) -> u32
+    requires { sum_by (λ o. o.offered) offers.now < 2 ^ 32 }
+    ensures { result ≡ sum (map (λ o. o.offered) offers.now) }
 {
-    let n = o.count;
-    let indices = arrays::nonzero(&o.border, n);
-    let count = indices.count;
-    let all = indices.at;
-    let at = &all[..count];
-    let mut left = arrays::total(offered, n);
-    let mut steps: u32 = 0;
-    let mut volume = first;
-    while 0 < left {
-        let market = hour_borders::abroad(n, at, &o.border, &o.purchase, matched);
-        let over = hour_borders::excesses(published, maxima, &market);
+    offers.iter().map(|offer| offer.offered).sum()
+}
+
+// "while a market balance passes its maximum", from the first match, of that volume and these market flows.
+pub fn withdraw(
+    offers: &mut [Offer],
+    volume: u32,
+    sales: &[usize],
+    purchases: &[usize],
+    maxima: &[Option<u32>; 10],
+    market: &[u32; 10],
+) -> Ended
+    requires sales { Names (length offers.old) sales.now }
+    requires purchases { Names (length offers.old) purchases.now }
+    requires laid { Laid (offers_in offers.old) sales.now purchases.now }
+    requires traded { volume ≡ volume_of (offers_in offers.old) }
+    requires flows { MarketFlows market.now (offers_in offers.old) }
+    ensures { Withdrew (published_in maxima.now) sales.now purchases.now (offers_in offers.old) (offers_in offers.new) result }
+{
+    let bound = step_bound(offers);
+    let mut volume = volume;
+    let mut flows = *market;
+    for steps in 0..bound {
+        let over = hour_borders::excesses(maxima, &flows);
         if !hour_borders::passed(&over) {
             return Ended { steps, volume };
         }
-        volume = step(
-            offered,
-            matched,
-            n,
-            at,
-            &over,
-            &o.border,
-            &o.purchase,
-            &o.legacy,
-            &o.price,
-            &sales.keys,
-            sales.count,
-            &purchases.keys,
-            purchases.count,
-        );
-        left -= 1;
-        steps += 1;
+        volume = step(offers, &over, sales, purchases);
+        flows = hour_borders::market_flows(offers);
     }
-    Ended { steps, volume }
-}
-
-// "while a market balance passes its maximum", from the first match, of that volume and these market flows: in most hours none does,
-// and nothing more is looked at.
-pub fn withdraw(
-    offered: &mut [u32; LODGEMENTS],
-    matched: &mut [u32; LODGEMENTS],
-    first: u32,
-    o: Offers,
-    sales: Order,
-    purchases: Order,
-    published: &[bool; 10],
-    maxima: &[u32; 10],
-    market: &[u32; 10],
-) -> Ended
-    requires { FirstMatched o sales purchases offered.old matched.old first × MarketFlows market.now (offers_of o offered.old matched.old) }
-    ensures { Withdrew o published.now maxima.now offered.old matched.old offered.new matched.new result }
-{
-    let over = hour_borders::excesses(published, maxima, market);
-    if !hour_borders::passed(&over) {
-        return Ended {
-            steps: 0,
-            volume: first,
-        };
+    Ended {
+        steps: bound,
+        volume,
     }
-    repeat(
-        offered, matched, first, o, sales, purchases, published, maxima,
-    )
 }

@@ -1,2 +1,2 @@
-pub mod LentLaws
+pub mod ChangeLaws
 pub mod KeptLaws

@@ -1,113 +1,153 @@
--- By index and by the rules: which offers give way.
-use Prim.Native.Nat.{ℕ, ◌≤◌, ◌<◌}
-use mathlib.Core.Path.{◌≡◌, refl, sym, ◌∙◌}
-use mathlib.Core.Bool.{Bool, true, false, cond, not, ◌&&◌}
-use mathlib.Core.List.{List, [], ◌∷◌}
-use native.Mathlib.Omega.{arith}
-use lib.Dec.{eqb}
-use lib.ListN.{get_or}
-use borrow.Author.Tests.{ne_eqb, eqb-true, eqb-false, lt-ltb}
-use Rattle.rules.specs.Lists.{any}
-use Rattle.rules.specs.Match.{Offer}
-use Rattle.rules.specs.Borders.{Directed}
-use Rattle.rules.specs.Withdrawal.{runs_in, runs_among, Group as GroupOf, in_group, gives_way}
-use Rattle.rules.proofs.BoolLaws.{by_bool, not-both}
+-- Who gives way, and what is taken, direction by direction.
+use Rattle.std.proofs.Common.{ap₂, add-one, ℕ, zero, suc, ◌+◌, ◌-◌, ◌≡◌, refl, sym, ◌∙◌, ap, ◌<◌, ◌≤◌, max, Bool, true, false, cond, ◌&&◌, ◌||◌, List, [], ◌∷◌, map, take, length, get_or, set, ltb, eqb, arith}
+use Rattle.rules.specs.Lists.{any, keep, from}
+use Rattle.rules.specs.Match.{Offer, with_energies}
+use Rattle.rules.specs.Borders.{Directed, at_border, keeps}
+use Rattle.rules.specs.Withdrawal.{Group, runs_in, runs_among, in_group, gives_way, amounts, deductions, all_deductions, remain, take_from}
+use Rattle.rules.specs.Lists.{Each, each0, each}
+use Rattle.rules.proofs.BoolLaws.{by_bool}
+use Rattle.rules.proofs.ElementLaws.{each-refl}
+use lib.Seq.{take_all}
+use Rattle.hour_offers.specs.declared.Offer.{Offer as Held}
+use Rattle.hour_offers.specs.View.{offer_in, offers_in}
+use Rattle.withdraw_keep.specs.Change.{Changed}
+use Rattle.std.proofs.lemmas.List.{length-map, map-set}
+use Rattle.std.proofs.Math.ListN.{get_or-map}
+use Rattle.rules.specs.Units.{max_energy}
+use Rattle.rules.proofs.SumLaws.{cond-le}
+use native.Mathlib.Nat.{le_trans}
+use Rattle.hour_share.specs.Deductions.{AmountInRange}
+use Rattle.hour_share.specs.Deductions.{energy_in, deductions_in, deductions_over, deductions_from}
 use Rattle.hour_borders.specs.Ways.{way_of, directed, over_in}
 use Rattle.hour_borders.proofs.WayLaws.{runs-directed}
-use Rattle.withdraw_keep.specs.Kept.{runs_over}
-use Rattle.withdraw_keep.proofs.KeptLaws.{among}
-use Rattle.withdraw_keep.specs.declared.Group.{Group}
-use Rattle.withdraw_keep.specs.Group.{group_in}
-use Rattle.withdraw_take.specs.Given.{inside, given_of, given_at}
+use Rattle.withdraw_take.specs.Given.{gives_in, given_of}
 
--- the group
-pub in_group_lem : (g : Group) (o : Offer) → in_group (group_in g) o ≡ inside g o.holder.purchase o.holder.legacy o.price
-unfolding group_in in_group inside
-in_group_lem g o = by_bool g.legacy (λ e. rw e) (λ e. rw e)
-
--- Who gives way
-
-inner : (b : ℕ) (p : Bool) (w : ℕ) → way_of b p ≡ w → 2 ≤ w → b ≡ 0 → ⊥
-unfolding way_of
-inner b true w q h z = absurd (omega arith)
-inner b false w q h z = absurd (omega arith)
-
-border-of : (b : ℕ) (p : Bool) → way_of b p ≡ 0 → b ≡ 0
-unfolding way_of
-border-of b true q = omega arith
-border-of b false q = omega arith
-
-module _ (over : List ℕ) (b : ℕ) (p : Bool) where
-  -- a direction passed is not of border 0
-  runs_here : (w : ℕ) → way_of b p ≡ w → 2 ≤ w → 0 < get_or over w 0 → runs_over over b p ≡ true
-  unfolding runs_over
-  runs_here w q h k = rw (ne_eqb b 0 (inner b p w q h), q) (lt-ltb 0 (get_or over w 0) k)
-
-  -- and so has an index above 0
-  way_above : runs_over over b p ≡ true → eqb (way_of b p) 0 ≡ false
-  unfolding runs_over
-  way_above t = by_bool (eqb b 0) (λ z. not-both t (rw z)) (λ z. ne_eqb (way_of b p) 0 (λ q. eqb-false b 0 z (border-of b p q)))
-
-pick-way : (r i : Bool) (v w : ℕ) → (eqb v w ≡ true → r ≡ true) → 0 < w → eqb (cond (r && i) v 0) w ≡ (eqb v w && i)
-pick-way true true v w f h = by_bool (eqb v w) (λ e. rw e) (λ e. rw e)
-pick-way true false v w f h = by_bool (eqb v w) (λ e. rw e (ne_eqb 0 w (λ z. absurd (omega arith)))) (λ e. rw e (ne_eqb 0 w (λ z. absurd (omega arith))))
-pick-way false i v w f h = by_bool (eqb v w) (λ e. not-both (f e) refl) (λ e. rw e (ne_eqb 0 w (λ z. absurd (omega arith))))
-
--- in the direction passed at index w
-pub gives_at : (over : List ℕ) (g : Group) (o : Offer) (w : ℕ) → 2 ≤ w → 0 < get_or over w 0
-    → gives_way (group_in g) (directed over w) o ≡ eqb (given_of over g o.holder.border o.holder.purchase o.holder.legacy o.price) w
-unfolding gives_way runs_in given_of
-gives_at over g o w h k =
-    let b = o.holder.border in
-    let p = o.holder.purchase in
-    rw (runs-directed over w o.holder, in_group_lem g o)
-    (sym (pick-way (runs_over over b p) (inside g p o.holder.legacy o.price) (way_of b p) w
-    (λ t. runs_here over b p w (eqb-true (way_of b p) w t) h k) (omega arith)))
-
-any-and : (G : GroupOf) (o : Offer) (ds : List Directed) → any (λ d. gives_way G d o) ds ≡ (runs_among ds o && in_group G o)
+-- an offer gives way in one of the directions passed if it runs in one and is of the group
+pub gives-among : (g : Group) (ds : List Directed) (o : Offer) → gives_in g ds o ≡ (runs_among ds o && in_group g o)
 unfolding any gives_way runs_among
-any-and G o [] = refl
-any-and G o (d ∷ ds) =
-    by_bool (runs_in d o)
-    (λ e. by_bool (in_group G o) (λ t. rw (e, t)) (λ t. rw (e, any-and G o ds, t) (and-false (any (λ d. runs_in d o) ds))))
-    (λ e. rw e (any-and G o ds))
+gives-among g [] o = refl
+gives-among g (d ∷ ds) o = rw (gives-among g ds o) (either-both (runs_in d o) (any (λ d. runs_in d o) ds) (in_group g o))
   where
-    and-false : (b : Bool) → (b && false) ≡ false
-    and-false true = refl
-    and-false false = refl
+    either-both : (a b c : Bool) → ((a && c) || (b && c)) ≡ ((a || b) && c)
+    either-both true true true = refl
+    either-both true true false = refl
+    either-both true false true = refl
+    either-both true false false = refl
+    either-both false b c = refl
 
-pick-none : (r i : Bool) (v : ℕ) → (r ≡ true → eqb v 0 ≡ false) → eqb (cond (r && i) v 0) 0 ≡ not (r && i)
-pick-none true true v f = f refl
-pick-none true false v f = refl
-pick-none false i v f = refl
+module _ (g : Group) (over : List ℕ) where
+  -- what an offer that gives way in a direction counts for
+  energy : (w : ℕ) (o : Offer) → energy_in w (given_of g o) ≡ cond (gives_way g (directed over w) o) (at_border o.holder o.matched) 0
+  unfolding energy_in gives_way runs_in at_border
+  energy w o =
+      rw (runs-directed over w o.holder)
+      (by_bool (eqb (way_of o.holder.border o.holder.purchase) w) (λ t. rw t refl) (λ t. rw t refl))
 
--- in none of them
-pub gives_none : (over : List ℕ) (g : Group) (o : Offer) → o.holder.border < 5
-    → eqb (given_of over g o.holder.border o.holder.purchase o.holder.legacy o.price) 0 ≡ not (any (λ d. gives_way (group_in g) d o) (over_in over))
-unfolding given_of
-gives_none over g o h =
-    let b = o.holder.border in
-    let p = o.holder.purchase in
-    pick-none (runs_over over b p) (inside g p o.holder.legacy o.price) (way_of b p) (way_above over b p)
-    ∙ sym (rw (any-and (group_in g) o (over_in over), among over o h, in_group_lem g o))
+  energies : (w : ℕ) (os : List Offer) → map (energy_in w) (map (given_of g) os) ≡ amounts g (directed over w) os
+  unfolding amounts
+  energies w [] = refl
+  energies w (o ∷ os) = rw (energy w o) (ap (λ l. cond (gives_way g (directed over w) o) (at_border o.holder o.matched) 0 ∷ l) (energies w os))
 
--- Each way out of the test
+  -- "is taken by Share"
+  lost : (w : ℕ) (os : List Offer) → deductions_in (map (given_of g) os) (get_or over w 0) w ≡ deductions g os (directed over w)
+  unfolding deductions_in deductions directed
+  lost w os = rw (energies w os)
 
-module _ (over : List ℕ) (g : Group) (b : ℕ) (p l : Bool) (price : ℕ) {o : Bool} (eo : o ≡ runs_over over b p) where
-  pub given-here : {w : ℕ} {t : Bool} → o ≡ true → t ≡ inside g p l price → t ≡ true → w ≡ way_of b p → w ≡ given_of over g b p l price
-  unfolding given_of
-  given-here h et t e = e ∙ sym (rw (sym eo ∙ h, sym et ∙ t))
+  nothing : (os : List Offer) → map {B = ℕ} (λ a. 0) (map (given_of g) os) ≡ map (λ o. 0) os
+  nothing [] = refl
+  nothing (o ∷ os) = ap (λ l. 0 ∷ l) (nothing os)
 
-  pub given-outside : {t : Bool} → o ≡ true → t ≡ inside g p l price → t ≡ false → 0 ≡ given_of over g b p l price
-  unfolding given_of
-  given-outside h et t = rw (sym eo ∙ h, sym et ∙ t)
+  lost-over : (ws : List ℕ) (os : List Offer) → deductions_over over (map (given_of g) os) ws ≡ all_deductions g os (map (directed over) (keep (λ w. ltb 0 (get_or over w 0)) ws))
+  unfolding deductions_over all_deductions keep
+  lost-over [] os = nothing os
+  lost-over (w ∷ ws) os =
+      by_bool (ltb 0 (get_or over w 0))
+      (λ t. rw (t, lost w os, lost-over ws os))
+      (λ t. rw (t, lost-over ws os))
 
-  pub given-nowhere : o ≡ false → 0 ≡ given_of over g b p l price
-  unfolding given_of
-  given-nowhere h = rw (sym eo ∙ h)
+  -- in all directions passed
+  pub all-lost : (os : List Offer) → deductions_from over (map (given_of g) os) 2 ≡ all_deductions g os (over_in over)
+  unfolding deductions_from over_in
+  all-lost os = lost-over (from 2 8) os
 
--- what is domestic gives way in no direction
-pub domestic-given : (over : List ℕ) (g : Group) (border : List ℕ) (purchase legacy : List Bool) (price : List ℕ) (i x : ℕ)
-    → get_or border i 0 ≡ 0 → given_at over g border purchase legacy price i x ≡ 0
-unfolding given_at given_of runs_over
-domestic-given over g border purchase legacy price i x z = rw z
+-- One offer more that is written
+
+module _ (p : Offer → Bool) where
+  pub left-none : (os : List Offer) → remain p [] os ≡ os
+  unfolding remain
+  left-none [] = refl
+  left-none (o ∷ os) = refl
+
+  left : ℕ → Offer → Offer
+  left k o = with_energies (cond (p o) (keeps o.holder o.matched k) o.offered) o.matched o
+
+  -- the next is as it was
+  remain-read : (ks : List ℕ) (os : List Offer) (i : ℕ) (d : Offer) → i < length os → get_or (remain p (take i ks) os) i d ≡ get_or os i d
+  unfolding remain
+  remain-read ks [] i d h = absurd (omega arith)
+  remain-read ks (o ∷ os) zero d h = refl
+  remain-read [] (o ∷ os) (suc i) d h = refl
+  remain-read (k ∷ ks) (o ∷ os) (suc i) d h = remain-read ks os i d (omega arith)
+
+  remain-more : (ks : List ℕ) (os : List Offer) (i : ℕ) (d : Offer) → i < length os → length ks ≡ length os
+      → set (remain p (take i ks) os) i (left (get_or ks i 0) (get_or os i d)) ≡ remain p (take (suc i) ks) os
+  unfolding remain left
+  remain-more ks [] i d h e = absurd (omega arith)
+  remain-more [] (o ∷ os) i d h e = absurd (omega arith)
+  remain-more (k ∷ ks) (o ∷ os) zero d h e = ap (λ l. left k o ∷ l) (sym (left-none os))
+  remain-more (k ∷ ks) (o ∷ os) (suc i) d h e = ap (λ l. left k o ∷ l) (remain-more ks os i d (omega arith) (omega arith))
+
+module _ (p : Offer → Bool) (ks : List ℕ) (os ps : List Held) (i k r : ℕ) (y : Held) where
+  -- one more offer with what remains offered of it
+  pub left-more : i < length os → length ks ≡ length os → k ≡ get_or ks i 0 → offers_in ps ≡ remain p (take i ks) (offers_in os) → y ≡ get_or ps i y
+      → r ≡ cond (p (offer_in y)) (y.matched - k) y.offered
+      → offers_in (set ps i (record { holder = y.holder; price = y.price; offered = r; matched = y.matched })) ≡ remain p (take (i + 1) ks) (offers_in os)
+  unfolding keeps with_energies left
+  left-more h e ek ep ey er =
+      let n : i < length (offers_in os) = rw (length-map os offer_in) h in
+      let o : offer_in y ≡ get_or (offers_in os) i (offer_in y) =
+      ap offer_in ey ∙ sym (get_or-map offer_in ps i y) ∙ ap (λ l. get_or l i (offer_in y)) ep ∙ remain-read p ks (offers_in os) i (offer_in y) n in
+      let z : left p k (offer_in y) ≡ left p (get_or ks i 0) (get_or (offers_in os) i (offer_in y)) = ap₂ (left p) ek o in
+      rw (er, map-set offer_in ps i (record { holder = y.holder; price = y.price; offered = cond (p (offer_in y)) (y.matched - k) y.offered; matched = y.matched }), ep, add-one i)
+      (ap (set (remain p (take i ks) (offers_in os)) i) z ∙ remain-more p ks (offers_in os) i (offer_in y) n (e ∙ sym (length-map os offer_in)))
+
+-- at the end each is written
+pub all-left : (p : Offer → Bool) (ks : List ℕ) (os : List Offer) (i : ℕ) → length ks ≤ i → remain p (take i ks) os ≡ remain p ks os
+all-left p ks os i h = ap (λ l. remain p l os) (take_all i ks h)
+
+-- "is taken by Share", of each offer
+pub taken : (g : Group) (over : List ℕ) (os : List Offer) → remain (gives_in g (over_in over)) (all_deductions g os (over_in over)) os ≡ take_from g (over_in over) os
+unfolding take_from
+taken g over os = refl
+
+map-read : {A B C : Type 0} (r : A → B) (f : B → C) (xs : List A) → map f (map r xs) ≡ map (λ x. f (r x)) xs
+map-read r f [] = refl
+map-read r f (x ∷ xs) = ap (λ l. f (r x) ∷ l) (map-read r f xs)
+
+-- what each loses is the rules'
+pub lost-said : (g : Group) (over : List ℕ) (os : List Held) → deductions_from over (map (λ o. given_of g (offer_in o)) os) 2 ≡ all_deductions g (offers_in os) (over_in over)
+lost-said g over os = ap (λ l. deductions_from over l 2) (sym (map-read offer_in (given_of g) os)) ∙ all-lost g over (offers_in os)
+
+unchanged : (o : Offer) → Changed o o
+unchanged o = record { holder = refl; price = refl; matched = refl; offered = omega arith }
+
+left-le : (b : Bool) (o : Offer) (k : ℕ) → cond b (keeps o.holder o.matched k) o.offered ≤ max o.offered o.matched
+unfolding keeps
+left-le true o k = omega arith
+left-le false o k = omega arith
+
+remain-changed : (p : Offer → Bool) (ks : List ℕ) (os : List Offer) → Each Changed os (remain p ks os)
+unfolding remain with_energies
+remain-changed p [] [] = each0
+remain-changed p [] (o ∷ os) = each-refl unchanged (o ∷ os)
+remain-changed p (k ∷ ks) [] = each0
+remain-changed p (k ∷ ks) (o ∷ os) = each (record { holder = refl; price = refl; matched = refl; offered = left-le (p o) o k }) (remain-changed p ks os)
+
+-- no offer offers more than before, or than is matched
+pub taken-changed : (g : Group) (ds : List Directed) (os : List Offer) → Each Changed os (take_from g ds os)
+unfolding take_from
+taken-changed g ds os = remain-changed (gives_in g ds) (all_deductions g os ds) os
+
+-- what gives way is no more than is matched
+pub given-small : (g : Group) (o : Offer) → o.matched ≤ max_energy → AmountInRange (given_of g o)
+given-small g o h = le_trans (cond-le (in_group g o) o.matched) h

@@ -1,125 +1,85 @@
-// Steps 3 and 4 of a withdrawal, on the arrays of an hour (document 01, "Withdrawal step"): what the group loses.
+// Steps 3 and 4 of a withdrawal (document 01, "Withdrawal step"): what the group loses.
 #![tactic(auto)]
 
-ghost use Rattle.std.specs.Prelude.{◌≡◌, cond, eqb, ℕ, ◌-◌, ◌<◌, ◌≤◌, length, get_or};
-ghost use Rattle.rules.specs.Withdrawal.{take_from};
-ghost use Rattle.hour_match.specs.declared.Offers.{Offers};
-ghost use Rattle.hour_match.specs.View.{offers_of};
+ghost use Rattle.std.specs.Prelude.{◌≡◌, ◌≤◌, ◌-◌, if◌then◌else◌, length};
+ghost use Rattle.rules.specs.Lists.{All, Each};
+ghost use Rattle.rules.specs.Units.{max_energy};
+ghost use Rattle.rules.specs.Withdrawal.{in_group, all_deductions, take_from};
+ghost use Rattle.hour_offers.specs.View.{offer_in, offers_in};
 ghost use Rattle.hour_borders.specs.Ways.{over_in};
-ghost use Rattle.hour_borders.specs.Located.{Ranged, Located};
-ghost use Rattle.arrays.specs.Indices.{lay_on};
-ghost use Rattle.withdraw_keep.specs.Lent.{Lent};
+ghost use Rattle.withdraw_keep.specs.Change.{Changed};
 ghost use Rattle.withdraw_keep.specs.Group.{group_in};
-ghost use Rattle.withdraw_take.specs.Given.{inside, given_of, given_at, left_at, Lower};
+ghost use Rattle.withdraw_take.specs.Given.{gives_in, given_of};
 
+use arrayvec::ArrayVec;
+use hour_offers::Offer;
+use hour_share::Amount;
 use rules::LODGEMENTS;
 use withdraw_keep::Group;
 
 // Whether an offer is of the group.
-fn is_inside(g: Group, purchase: bool, legacy: bool, price: u32) -> bool
-    ensures { result ≡ inside g purchase legacy price }
+#[tactic(auto, unfolding(rules::specs::Withdrawal::in_group))]
+fn is_inside(group: Group, offer: &Offer) -> bool
+    ensures { result ≡ in_group (group_in group) (offer_in offer.now) }
 {
-    if g.legacy {
-        return legacy;
-    }
-    if purchase == g.side {
-        if legacy {
-            return false;
+    let holder = &offer.holder;
+    match group {
+        Group::Legacy => holder.legacy,
+        Group::AtPrice { purchase, price } => {
+            holder.purchase == purchase && !holder.legacy && offer.price == price
         }
-        return price == g.price;
-    }
-    false
-}
-
-// The direction in which an offer gives way, 0 where it does not.
-fn given(over: &[u32; 10], g: Group, border: u32, purchase: bool, legacy: bool, price: u32) -> u32
-    requires { border < 5 }
-    ensures { result ≡ given_of over.now g border purchase legacy price }
-{
-    let o = withdraw_keep::runs_over(over, border, purchase);
-    if o {
-        let t = is_inside(g, purchase, legacy, price);
-        if t {
-            let w = hour_borders::way(border, purchase);
-            return w as u32;
-        }
-        return 0;
-    }
-    0
-}
-
-// The directions in which the offers give way, where 0 stands at each index: a domestic offer keeps it, and `at` lists the indices of the others.
-fn all_given<'a>(
-    ways: &mut [u32; LODGEMENTS],
-    n: usize,
-    at: &[usize],
-    over: &[u32; 10],
-    g: Group,
-    border: &'a [u32; LODGEMENTS],
-    purchase: &'a [bool; LODGEMENTS],
-    legacy: &'a [bool; LODGEMENTS],
-    price: &'a [u32; LODGEMENTS],
-)
-    requires { Located n border.now at.now × ((i : ℕ) → get_or ways.old i 0 ≤ 0) }
-    ensures { ways.new ≡ lay_on (given_at over.now g border.now purchase.now legacy.now price.now) n 0 ways.old }
-{
-    for k in 0..at.len() {
-        let i = at[k];
-        let w = given(over, g, border[i], purchase[i], legacy[i], price[i]);
-        ways[i] = w;
     }
 }
 
-// What remains offered of an offer.
-fn left(way: u32, m: u32, deduction: u32, e: u32) -> u32
-    ensures { result ≡ cond (eqb way 0) e (m - deduction) }
+// Whether an offer gives way in a direction passed.
+fn gives_way(over: &[u32; 10], group: Group, offer: &Offer) -> bool
+    ensures { result ≡ gives_in (group_in group) (over_in over.now) (offer_in offer.now) }
 {
-    if way == 0 {
-        return e;
-    }
-    arrays::less(m, deduction)
+    withdraw_keep::runs_over(over, offer) && is_inside(group, offer)
 }
 
-// "what remains offered is matched less taken"
-fn remain(
-    offered: &mut [u32; LODGEMENTS],
-    n: usize,
-    ways: &[u32; LODGEMENTS],
-    matched: &[u32; LODGEMENTS],
-    deductions: &[u32; LODGEMENTS],
-)
-    requires { n ≤ 128 }
-    ensures { offered.new ≡ lay_on (left_at ways.now matched.now deductions.now) n 0 offered.old }
+// What an offer gives way with, in the direction in which it runs.
+fn given(group: Group, offer: &Offer) -> Amount
+    ensures { result ≡ given_of (group_in group) (offer_in offer.now) }
 {
-    for i in 0..n {
-        let e = offered[i];
-        let k = left(ways[i], matched[i], deductions[i], e);
-        offered[i] = k;
+    let energy = if is_inside(group, offer) {
+        offer.matched
+    } else {
+        0
+    };
+    hour_borders::amount(&offer.holder, energy)
+}
+
+// What remains offered of an offer: where it gives way, "what remains offered is matched less taken".
+fn remaining(over: &[u32; 10], group: Group, offer: &Offer, deduction: u32) -> u32
+    ensures { result ≡ (if gives_in (group_in group) (over_in over.now) (offer_in offer.now) then offer.now.matched - deduction else offer.now.offered) }
+{
+    if gives_way(over, group, offer) {
+        offer.matched.saturating_sub(deduction)
+    } else {
+        offer.offered
     }
+}
+
+// What each offer loses in all directions passed.
+fn deductions(over: &[u32; 10], group: Group, offers: &[Offer]) -> ArrayVec<u32, LODGEMENTS>
+    requires few { length offers.now ≤ 128 }
+    requires in_range { All (λ o. o.matched ≤ max_energy) (offers_in offers.now) }
+    ensures value { result.items ≡ all_deductions (group_in group) (offers_in offers.now) (over_in over.now) }
+    ensures same_length { length result.items ≡ length offers.now }
+{
+    hour_share::deductions(over, offers, move |offer| given(group, offer))
 }
 
 // 3. and 4. Each direction's excess is taken from those that give way in it.
-pub fn take_from<'a>(
-    offered: &mut [u32; LODGEMENTS],
-    n: usize,
-    at: &[usize],
-    over: &[u32; 10],
-    g: Group,
-    border: &'a [u32; LODGEMENTS],
-    purchase: &'a [bool; LODGEMENTS],
-    legacy: &'a [bool; LODGEMENTS],
-    price: &'a [u32; LODGEMENTS],
-    matched: &[u32; LODGEMENTS],
-)
-    requires { Located n border.now at.now × Ranged matched.now × (length offered.old ≡ 128) }
-    ensures lower { Lower n offered.old matched.now offered.new }
-    ensures matched_after { (h : Offers)
-        → Lent h n border.now purchase.now legacy.now price.now
-        → offers_of h offered.new matched.now ≡ take_from (group_in g) (over_in over.now) (offers_of h offered.old matched.now) }
+pub fn take_from(offers: &mut [Offer], over: &[u32; 10], group: Group)
+    requires few { length offers.old ≤ 128 }
+    requires in_range { All (λ o. o.matched ≤ max_energy) (offers_in offers.old) }
+    ensures taken { offers_in offers.new ≡ take_from (group_in group) (over_in over.now) (offers_in offers.old) }
+    ensures changed { Each Changed (offers_in offers.old) (offers_in offers.new) }
 {
-    let mut ways = [0u32; LODGEMENTS];
-    all_given(&mut ways, n, at, over, g, border, purchase, legacy, price);
-    let mut deductions = [0u32; LODGEMENTS];
-    hour_share::deductions::all_deductions(&mut deductions, n, over, &ways, matched);
-    remain(offered, n, &ways, matched, &deductions)
+    let deductions = deductions(over, group, offers);
+    for (i, offer) in offers.iter_mut().enumerate() {
+        offer.offered = remaining(over, group, offer, deductions[i]);
+    }
 }

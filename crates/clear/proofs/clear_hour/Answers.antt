@@ -1,18 +1,19 @@
-use Rattle.clear.proofs.EndLaws.{figures-small, hour-told}
+use Rattle.std.proofs.Common.{arith, sym}
+use mathlib.Core.Path.{◌∙◌}
+use lib.ListN.{length-take}
+use Rattle.clear.proofs.EndLaws.{figures-small, hour-told, hour-none}
 use Rattle.clear.proofs.clear_hour.Goals as goal
 
-pub stored-figures-requires : goal.stored-figures-requires
-stored-figures-requires c =
-    let g = c.hour_at-g in
-    let t = g.ensures.count_bound in
-    let f = c.clear-c in
-    let s = c.requires.0 in
-    let small = figures-small g.result.hour f.result.figures f.ensures.1 in
-    (s.enrolled, t.0, t.1, small.0, small.1)
+pub stored-requires : goal.stored-requires
+stored-requires c =
+    let s = c.args.s.now in
+    let small = figures-small c.hour_at-hour.result c.in-Some.figures (sym c.in-Some.is ∙ c.clear.ensures) in
+    (omega (arith, length-take s.enrolled s.units, c.requires.0.enrolled), small.0, small.1)
 
-pub returns : goal.returns
-returns c t =
-    let a = c.args in
-    let g = c.hour_at-g in
-    let f = c.clear-c in
-    hour-told a.s _ t.units a.k g.result f.result.figures c.stored-figures.result t.indices t.found (g.ensures.gather t) f.ensures.1 c.stored-figures.ensures
+pub returns-in-Some : goal.returns-in-Some
+returns-in-Some c q =
+    hour-told c.args.s.now c.args.holders.now c.args.k c.hour_at-hour.result c.in-Some.figures c.stored.result q c.hour_at-hour.ensures (sym c.in-Some.is ∙ c.clear.ensures) c.stored.ensures
+
+pub returns-in-None : goal.returns-in-None
+returns-in-None c q =
+    hour-none c.args.s.now c.args.holders.now c.args.k c.hour_at-hour.result (record { steps = 0; figures = c.no_figures.result }) q c.hour_at-hour.ensures (sym c.in-None.is ∙ c.clear.ensures)

@@ -1,45 +1,47 @@
-use mathlib.Core.Path.{ap}
-use native.Mathlib.Omega.{arith}
-use Rattle.hour_match.specs.declared.Offers.{Offers}
-use Rattle.clear_gather.proofs.IndexLaws.{chosen-inside, hour-built}
+use Rattle.std.proofs.Common.{true, false, arith, sym}
+use mathlib.Core.Path.{◌∙◌}
+use Rattle.rules.specs.Lists.{keep, from}
+use Rattle.clear_gather.specs.Built.{counts_at, energy_on, price_on, offer_on, execution_on}
+use Rattle.clear_gather.proofs.CountLaws.{gathered, passed, counts-none, counts-kind}
 use Rattle.clear_gather.proofs.hour_at.Goals as goal
+use Rattle.clear_gather.proofs.hour_at.Goals.{then-s-i, else-s-i}
 
-pub holders_at-o-requires : goal.holders_at-o-requires
-holders_at-o-requires c = chosen-inside c.chosen-p.ensures c.requires.0.standing
+pub loop-i-init : goal.loop-i-init
+unfolding keep from
+loop-i-init c = (c.new-offers.ensures, c.new-executions.ensures, rw c.new-offers.ensures (omega arith), rw c.new-executions.ensures (omega arith))
 
-pub holders_at-executions-requires : goal.holders_at-executions-requires
-holders_at-executions-requires c = chosen-inside c.chosen-q.ensures c.requires.0.standing
+pub loop-i-preserved-then-not-counted : goal.loop-i-preserved-then-not-counted
+unfolding counts_at energy_on
+loop-i-preserved-then-not-counted c =
+    let a = c.args in
+    let l = c.loop-i in
+    let h = sym c.if-not-counted.true ∙ c.counted.ensures in (
+      passed (offer_on a.s.now a.holders.now a.k) _ l.offers.items l.i l.invariant.0 (counts-none _ _ _ false h),
+      passed (execution_on a.s.now a.holders.now a.k) _ l.executions.items l.i l.invariant.1 (counts-none _ _ _ true h),
+      omega (arith, l.invariant.2),
+      omega (arith, l.invariant.3),
+    )
 
-pub slots_at-prices-requires : goal.slots_at-prices-requires
-slots_at-prices-requires c = (c.requires.1, chosen-inside c.chosen-p.ensures c.requires.0.standing)
-
-pub slots_at-offered-requires : goal.slots_at-offered-requires
-slots_at-offered-requires c = (c.requires.1, chosen-inside c.chosen-p.ensures c.requires.0.standing)
-
-pub slots_at-energies-requires : goal.slots_at-energies-requires
-slots_at-energies-requires c = (c.requires.1, chosen-inside c.chosen-q.ensures c.requires.0.standing)
-
-pub capacities_at-c-requires : goal.capacities_at-c-requires
-capacities_at-c-requires c = c.requires.1
-
-pub picked-offering-requires : goal.picked-offering-requires
-picked-offering-requires c = chosen-inside c.chosen-p.ensures c.requires.0.standing
-
-pub picked-executing-requires : goal.picked-executing-requires
-picked-executing-requires c = chosen-inside c.chosen-q.ensures c.requires.0.standing
-
-pub returns : goal.returns
-returns c =
-    let s = c.args in
-    let w = c.requires in
-    let p = c.chosen-p in
-    let q = c.chosen-q in
-    let x = c.holders_at-o in
-    let y = c.holders_at-executions in
-    let o = c.offers_of-offers.ensures in record {
-      gather = λ t. rw o (hour-built s.s _ t s.k w.1 _ p.result q.result p.ensures q.ensures x.ensures y.ensures c.slots_at-prices.ensures c.slots_at-offered.ensures c.slots_at-energies.ensures c.capacities_at-c.ensures c.picked-offering.ensures c.picked-executing.ensures);
-      count_bound = (
-        omega (arith, p.ensures.few, x.ensures.count, ap (λ (o : Offers). o.count) o, w.0.standing),
-        omega (arith, q.ensures.few, y.ensures.count, w.0.standing),
-      );
-    }
+pub loop-i-preserved : goal.loop-i-preserved
+unfolding counts_at energy_on price_on
+loop-i-preserved c =
+    let a = c.args in
+    let l = c.loop-i in
+    let h = sym c.if-not-counted.false ∙ c.counted.ensures in
+    elim c.if-s-i.branch [
+      | then-s-i w ↦ (
+        rw w.offers-is (passed (offer_on a.s.now a.holders.now a.k) _ l.offers.items l.i l.invariant.0 (counts-kind _ _ _ false h w.if-s-i.true)),
+        rw w.executions-is
+            (w.push.ensures.items ∙ gathered (execution_on a.s.now a.holders.now a.k) _ l.executions.items l.i w.new.result l.invariant.1 (counts-kind _ _ _ true h w.if-s-i.true) w.new.ensures),
+        rw w.offers-is (omega (arith, l.invariant.2)),
+        rw w.executions-is (omega (arith, w.push.ensures.len, l.invariant.3)),
+      )
+      | else-s-i w ↦ (
+        rw w.offers-is
+            (w.push-else-s-i.ensures.items
+            ∙ gathered (offer_on a.s.now a.holders.now a.k) _ l.offers.items l.i w.new-else-s-i.result l.invariant.0 (counts-kind _ _ _ false h w.if-s-i.false) w.new-else-s-i.ensures),
+        rw w.executions-is (passed (execution_on a.s.now a.holders.now a.k) _ l.executions.items l.i l.invariant.1 (counts-kind _ _ _ true h w.if-s-i.false)),
+        rw w.offers-is (omega (arith, w.push-else-s-i.ensures.len, l.invariant.2)),
+        rw w.executions-is (omega (arith, l.invariant.3)),
+      )
+    ]

@@ -1,36 +1,18 @@
-use Prim.Native.Nat.{ℕ, ◌*◌}
-use native.Mathlib.Omega.{arith}
-use lib.ListN.{get_or}
-use Rattle.rules.specs.Units.{max_energy}
-use Rattle.clear_gather.proofs.ColumnLaws.{blanks}
-use Rattle.clear_store.proofs.FigureLaws.{added-start, added_next, added-skip, bound-next, added-end}
+use Rattle.std.proofs.Common.{List, map, arith, refl}
+use mathlib.Core.Path.{ap, ◌∙◌}
+use lib.Seq.{take_all}
+use Rattle.session.specs.declared.Unit.{Unit}
+use Rattle.session.specs.Laid.{pad}
+use Rattle.session.specs.Image.{no_unit}
+use Rattle.clear_store.proofs.SumLaws.{laid-next}
 use Rattle.clear_store.proofs.by_unit.Goals as goal
 
 pub loop-i-init : goal.loop-i-init
-loop-i-init c = (omega arith, λ q. omega (arith, blanks {A = ℕ} 0 64 q), added-start _ _ _)
-
-pub loop-i-preserved-then-enrolled-p : goal.loop-i-preserved-then-enrolled-p
-loop-i-preserved-then-enrolled-p c = let l = c.loop-i in (omega arith, λ q. omega (arith, l.invariant.1 q), added-skip _ _ _ _ _ _ c.as_index-p.ensures l.invariant.2 c.if-enrolled-p.true)
-
-pub bounds-a-p : goal.bounds-a-p
-bounds-a-p c = omega (arith, c.loop-i.invariant.2.long)
-
-pub overflow_add-a : goal.overflow_add-a
-overflow_add-a c = omega (arith, c.loop-i.invariant.1 c.as_index-p.result, c.requires.2 c.loop-i.i)
-
-pub bounds-a-p-in-loop-i : goal.bounds-a-p-in-loop-i
-bounds-a-p-in-loop-i c = omega (arith, c.loop-i.invariant.2.long)
+unfolding pad
+loop-i-init g c = λ f k. refl
 
 pub loop-i-preserved : goal.loop-i-preserved
-loop-i-preserved c =
-    let l = c.loop-i in
-    let p = c.as_index-p.result in
-    let a = c.args in
-    let few = c.requires.0 in (
-      omega arith,
-      λ q. omega (arith, bound-next l.a p (get_or a.energy.now l.i 0) (max_energy * l.i) (omega (arith, l.invariant.2.long)) (c.requires.2 l.i) l.invariant.1 q),
-      added_next _ _ _ _ _ _ c.as_index-p.ensures l.invariant.2 c.if-enrolled-p.false few,
-    )
+loop-i-preserved g c = λ f k. laid-next 64 (λ u. f u.number) c.args.units.now c.loop-i.i no_unit c.loop-i.energies _ (omega arith) (omega arith) (c.loop-i.invariant f k) (k _ _ c.energy_of.ensures)
 
 pub returns : goal.returns
-returns c = added-end _ _ _ _ _ _ (omega arith) c.loop-i.invariant.2
+returns g c = λ f k. c.loop-i.invariant f k ∙ ap (λ (l : List Unit). pad 64 0 (map (λ u. f u.number) l)) (take_all c.loop-i.i c.args.units.now (omega arith))

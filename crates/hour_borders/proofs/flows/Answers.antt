@@ -1,42 +1,50 @@
-use Prim.Native.Nat.{◌+◌, ◌*◌}
-use mathlib.Core.Path.{refl, ◌∙◌}
-use native.Mathlib.Omega.{arith}
-use lib.ListN.{length-set, get_or}
+use Rattle.std.proofs.Common.{arith, ap, get_or, ◌+◌, refl, ◌≡◌, ◌<◌, ◌≤◌, ◌∙◌, length-set}
 use Rattle.rules.specs.Units.{max_energy}
-use Rattle.arrays.proofs.IndexLaws.{zeros}
-use Rattle.hour_borders.proofs.FlowLaws.{flow_next, flow-end, set_more}
+use Rattle.hour_share.specs.Deductions.{energy_in}
+use Rattle.rules.proofs.ListLaws.{all-at}
+use Rattle.hour_borders.proofs.FlowLaws.{flow-next, left-next, left-end, more-small}
+use Rattle.hour_borders.proofs.flows.Given.{Over}
 use Rattle.hour_borders.proofs.flows.Goals as goal
 
-pub loop-i-init : goal.loop-i-init
-loop-i-init c = (omega arith, refl, (λ w. omega (arith, zeros 10 w)), (λ w. omega (arith, zeros 10 w)))
+-- what the closure gave is the holder's amount, so it is within its ranges
+module _ (g : Over) (c : goal.After-of-a g) where
+  within : c.of-a.result.way < 10
+  within = (rw (← c.x-item.is) at (all-at c.loop-x.x-index c.x-item.result c.requires.within (omega arith))) c.of-a.result (record { shown = _; shows = refl; says = record { met = c.of-a.ensures } })
 
-pub way-w-requires : goal.way-w-requires
-way-w-requires c = c.requires.1 c.loop-i.i (omega arith)
+  ranged : c.of-a.result.energy ≤ max_energy
+  ranged = (rw (← c.x-item.is) at (all-at c.loop-x.x-index c.x-item.result c.requires.ranged (omega arith))) c.of-a.result (record { shown = _; shows = refl; says = record { met = c.of-a.ensures } })
 
-pub overflow_add-f : goal.overflow_add-f
-overflow_add-f c =
-    let l = c.loop-i in
-    omega (arith, l.invariant.2 c.way-w.result, c.requires.2 l.i, c.counted.ensures.1)
+pub offset_bounds-flows-a : goal.offset_bounds-flows-a
+offset_bounds-flows-a g c = omega (arith, within g c)
 
-pub loop-i-preserved : goal.loop-i-preserved
-loop-i-preserved c =
-    let l = c.loop-i in
-    let a = c.args in
-    let v = c.way-w in
-    let x = c.counted.result in
-    let new = get_or l.f v.result 0 + x in (
-      omega arith,
-      length-set l.f v.result new ∙ l.invariant.1,
-      set_more (max_energy * l.i) (max_energy * (l.i + 1)) v.result new l.f l.invariant.2 (omega (arith, l.invariant.2 v.result, c.requires.2 l.i, c.counted.ensures.1)) (omega arith),
-      (λ w. flow_next a.only a.border.now a.purchase.now a.legacy.now a.energy.now l.f l.i a.n v.result x
-          (omega arith) v.ensures.0 (omega arith) c.counted.ensures.0 w ∙ l.invariant.3 w),
-    )
+pub bounds-flows-a : goal.bounds-flows-a
+bounds-flows-a g c = within g c
 
-pub returns : goal.returns
-returns c =
-    let l = c.loop-i in
-    let a = c.args in
+pub overflow_add-flows : goal.overflow_add-flows
+overflow_add-flows g c = omega (arith, c.loop-x.invariant.small c.of-a.result.way, ranged g c.before, c.requires.few)
+
+pub bounds-flows-a-in-loop-x : goal.bounds-flows-a-in-loop-x
+bounds-flows-a-in-loop-x g c = within g c.before
+
+pub loop-x-preserved : goal.loop-x-preserved
+loop-x-preserved g c =
+    let l = c.loop-x in
+    let a = c.of-a.result in
+    let v = get_or l.flows a.way 0 + a.energy in
     record {
-      sums = λ w. omega (arith, l.invariant.3 w, flow-end a.only a.border.now a.purchase.now a.legacy.now a.energy.now l.i a.n w (omega arith));
-      small = λ w. omega (arith, l.invariant.2 w);
+      ten = length-set l.flows a.way v ∙ l.invariant.ten;
+      small = more-small l.flows a.way a.energy max_energy l.x-index l.invariant.small (ranged g c.before);
+      whole = λ amount k w.
+          let said : a ≡ amount c.x-item.result =
+          (rw (← c.x-item.is) at (all-at l.x-index c.x-item.result k (omega arith))) a (record { shown = _; shows = refl; says = record { met = c.of-a.ensures } }) in
+          omega (
+            arith,
+            flow-next l.flows a w (omega (arith, within g c.before)),
+            left-next amount w c.args.holders.now l.x-index c.x-item.result (omega arith) c.x-item.is,
+            ap (energy_in w) said,
+            l.invariant.whole amount k w,
+          );
     }
+
+pub returns-clause-sums : goal.returns-clause-sums
+returns-clause-sums g c amount k w = omega (arith, c.loop-x.invariant.whole amount k w, left-end amount w c.args.holders.now c.loop-x.x-index (omega arith))

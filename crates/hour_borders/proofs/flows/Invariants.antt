@@ -1,14 +1,16 @@
-use Prim.Native.Nat.{ℕ, ◌≤◌, ◌-◌, ◌+◌, ◌*◌}
-use mathlib.Core.Path.{◌≡◌}
-use lib.ListN.{length, get_or}
+use Rattle.std.proofs.Common.{◌≡◌, ℕ, ◌+◌, ◌*◌, ◌≤◌, length, map, drop, get_or}
+use Rattle.std.specs.Fn.{FnReturnsAt}
+use Rattle.rules.specs.Lists.{All, sum_of}
 use Rattle.rules.specs.Units.{max_energy}
-use Rattle.hour_borders.specs.Flows.{flow_from}
+use Rattle.hour_share.specs.declared.Amount.{Amount}
+use Rattle.hour_share.specs.Deductions.{energy_in}
 use Rattle.hour_borders.proofs.flows.Given as goal
 
-abbrev pub invariant-loop-i : goal.invariant-loop-i
-invariant-loop-i l =
-    (l.i ≤ l.n) × (length l.f ≡ 10) × ((w : ℕ) → get_or l.f w 0 ≤ max_energy * l.i)
-    × ((w : ℕ) → get_or l.f w 0 + flow_from l.only l.border l.purchase l.legacy l.energy l.i l.n w ≡ flow_from l.only l.border l.purchase l.legacy l.energy 0 l.n w)
-
-abbrev pub decreases-loop-i : goal.decreases-loop-i
-decreases-loop-i l = l.n - l.i
+abbrev pub invariant-loop-x : goal.invariant-loop-x
+invariant-loop-x g l = record {
+  ten : length l.flows ≡ 10;
+  small : (w : ℕ) → get_or l.flows w 0 ≤ max_energy * l.x-index;
+  -- what is counted, with what is left
+  whole : (amount : g.row.T.Denot → Amount) → All (λ x. (a : Amount) → FnReturnsAt g.F.Fn l.of x a → a ≡ amount x) l.holders
+      → (w : ℕ) → get_or l.flows w 0 + sum_of (energy_in w) (map amount (drop l.x-index l.holders)) ≡ sum_of (energy_in w) (map amount l.holders);
+}

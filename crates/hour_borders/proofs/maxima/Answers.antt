@@ -1,15 +1,16 @@
-use native.Mathlib.Omega.{arith}
-use Rattle.hour_borders.proofs.LimitLaws.{fill_start, fill-next, maxima-said}
+use Rattle.std.proofs.Common.{arith, ap}
+use Rattle.std.specs.Option.{unwrap_or}
+use Rattle.hour_borders.proofs.LimitLaws.{maxima-said, energy-at}
 use Rattle.hour_borders.proofs.maxima.Goals as goal
 
-pub loop-w-init : goal.loop-w-init
-loop-w-init c = fill_start _
-
-pub loop-w-preserved : goal.loop-w-preserved
-loop-w-preserved c = fill-next _ _ _ _ c.loop-w.invariant (omega arith) c.maximum_at.ensures
+pub maximum_at-requires-clause-capacity_small : goal.maximum_at-requires-clause-capacity_small
+maximum_at-requires-clause-capacity_small c m e =
+    omega (arith, c.requires.capacities_small c.loop-w.w, energy-at c.args.capacities.now c.loop-w.w, ap (λ o. unwrap_or o 0) e)
 
 pub returns : goal.returns
-returns c flags first xs kx km kl =
-    let a = c.args in
-    let l = c.loop-w in
-    maxima-said a.capacities.now a.executions.now a.market.now a.legacy.now first xs kx km kl flags l.m l.w (omega arith) l.invariant
+returns c = record {
+  split = λ first xs kx km kl.
+      let a = c.args in
+      maxima-said a.capacities.now a.executions.now a.market.now a.legacy.now first xs kx km kl c.loop-w.maxima c.loop-w.w (omega arith) c.loop-w.invariant;
+  none_at_home = c.loop-w.invariant.outer;
+}

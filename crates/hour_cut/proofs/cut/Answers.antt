@@ -1,31 +1,27 @@
-use Prim.Native.Nat.{ℕ}
-use mathlib.Core.Path.{ap, ◌∙◌}
-use native.Mathlib.Omega.{arith}
-use lib.ListN.{length, length-replicate}
-use Rattle.arrays.proofs.IndexLaws.{zeros, lay-length}
-use Rattle.hour_borders.specs.View.{executions_of}
-use Rattle.hour_cut.specs.Cuts.{less_at}
-use Rattle.hour_cut.proofs.CutLaws.{cut-said, cut_down}
+use Rattle.std.proofs.Common.{rules, ◌≡◌, ◌∙◌, ap, length}
+use Rattle.rules.specs.Executions.{less_each, cut_all}
+use Rattle.rules.proofs.ListLaws.{all_map}
+use Rattle.rules.proofs.ElementLaws.{all-every, all-unmapped}
+use Rattle.hour_offers.specs.View.{execution_in, executions_in}
+use Rattle.hour_cut.proofs.CutLaws.{given, published-said, lowered}
 use Rattle.hour_cut.proofs.cut.Goals as goal
 
-pub all_deductions-requires : goal.all_deductions-requires
-all_deductions-requires c = (c.requires.0, c.requires.2, λ i. omega (arith, zeros 128 i), length-replicate {A = ℕ} 128 0)
+pub deductions-lost-requires-clause-ranged : goal.deductions-lost-requires-clause-ranged
+deductions-lost-requires-clause-ranged c =
+    all_map (λ x r a h. let e : a ≡ given x = search rules in rw e r.energy) (all-unmapped execution_in c.args.executions.now c.requires.in_range)
 
-pub returns : goal.returns
-returns c =
-    let a = c.args in
-    let b = c.together-both in
-    let o = c.excesses-over in
-    let w = c.all_ways in
-    let l = c.all_deductions in
-    let deducted = l.new.sums in record {
-      energy_after = λ x os qn qb qp km kx k.
-          ap (executions_of x) c.take_from.ensures
-          ∙ cut-said x os a.flags.now a.capacities.now a.market.now a.executions.now a.border.now a.purchase.now a.energy.now
-          b.result o.result w.new.ways deducted a.n
-          c.requires.0 (omega arith) w.ensures b.ensures o.ensures.by_index l.ensures qn qb qp km kx k;
-      energy_len = (
-        ap length c.take_from.ensures ∙ lay-length (less_at deducted) a.n 0 a.energy.now ∙ c.requires.5,
-        (λ i. rw c.take_from.ensures (cut_down a.n a.energy.now deducted (omega arith) i)),
-      );
-    }
+pub reduce-requires : goal.reduce-requires
+reduce-requires c = ap length c.deref.ensures.0 ∙ c.deductions-lost.ensures.same_length
+
+pub returns-clause-cut : goal.returns-clause-cut
+unfolding cut_all
+returns-clause-cut c os km kx k =
+    let xs = c.args.executions.now in
+    c.reduce.ensures
+    ∙ ap (λ ks. less_each ks (executions_in xs))
+    (c.deref.ensures.0
+    ∙ c.deductions-lost.ensures.value given (all-every (λ x a h. search rules) xs)
+    ∙ published-said xs os c.args.capacities.now c.args.market.now c.args.before.now c.together-both.result c.excesses-over.result km kx c.together-both.ensures c.excesses-over.ensures.by_index k)
+
+pub returns-clause-lowered : goal.returns-clause-lowered
+returns-clause-lowered c = rw c.reduce.ensures (lowered c.deref.result.now (executions_in c.args.executions.now))

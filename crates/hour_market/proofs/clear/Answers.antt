@@ -1,49 +1,59 @@
-use native.Mathlib.Nat.{le_trans}
-use native.Mathlib.Omega.{arith}
-use lib.ListN.{replicate}
-use Rattle.withdraw.proofs.FlowLaws.{market-flows}
-use Rattle.hour_market.proofs.MarketLaws.{market-said}
+use Rattle.std.proofs.Common.{rules}
+use mathlib.Core.Path.{◌∙◌, sym}
+use Rattle.rules.proofs.ListLaws.{all_map}
+use Rattle.hour_match.proofs.KeptLaws.{along-of}
+use Rattle.hour_market.proofs.MarketLaws.{offered-small, matched-in-range, first-sound, first-traded, first-laid, market-said, small}
 use Rattle.hour_market.proofs.clear.Goals as goal
 
-pub first_match-first-requires : goal.first_match-first-requires
-first_match-first-requires c = let s = c.requires in (s.0, s.2, s.5, omega arith)
+pub order-sales-requires-clause-priced : goal.order-sales-requires-clause-priced
+order-sales-requires-clause-priced c = all_map (λ o h. h.price) c.requires.sound.in_range
 
-pub flows-market-requires : goal.flows-market-requires
-flows-market-requires c = let s = c.requires in (s.0.few, s.1, c.first_match-first.ensures.energies.part)
+pub order-purchases-requires-clause-priced : goal.order-purchases-requires-clause-priced
+order-purchases-requires-clause-priced c = all_map (λ o h. h.price) c.requires.sound.in_range
 
-pub first_maxima-maxima-requires : goal.first_maxima-maxima-requires
-first_maxima-maxima-requires c =
-    let s = c.requires in
-    let f = c.flows-market.ensures in
-    (s.0.few, s.1, c.first_match-first.ensures.energies.part, s.3, s.4, f.small, λ e. market-flows c.args.o e _ f)
+pub match_offers-volume-requires-clause-energies : goal.match_offers-volume-requires-clause-energies
+match_offers-volume-requires-clause-energies c = offered-small c.requires.sound
 
-pub withdraw-end-requires : goal.withdraw-end-requires
-withdraw-end-requires c =
-    let f = c.first_match-first in
-    let b = f.ensures in (
-      record {
-        sound = c.requires.0;
-        borders = c.requires.1;
-        laid = record { prices = c.requires.0.priced; rising = b.rising.order; falling = b.falling.order };
-        energies = b.energies;
-        traded = b.matching.traded f.result.matched;
-      },
-      market-flows c.args.o _ _ c.flows-market.ensures,
-    )
+pub market_flows-market-requires-clause-in_range : goal.market_flows-market-requires-clause-in_range
+market_flows-market-requires-clause-in_range c =
+    let s = c.requires.sound in
+    let a = along-of s (c.deref.ensures.0 ∙ c.order-sales.ensures.ordered) in
+    let b = along-of s (c.deref-2.ensures.0 ∙ c.order-purchases.ensures.ordered) in
+    matched-in-range (first-sound s (c.match_offers-volume.ensures a b))
 
-pub flows-flows-requires : goal.flows-flows-requires
-flows-flows-requires c = let s = c.requires in (s.0.few, s.1, c.withdraw-end.ensures.kept.part)
+pub legacy_flows-legacy-requires-clause-in_range : goal.legacy_flows-legacy-requires-clause-in_range
+legacy_flows-legacy-requires-clause-in_range c =
+    let s = c.requires.sound in
+    let a = along-of s (c.deref.ensures.0 ∙ c.order-sales.ensures.ordered) in
+    let b = along-of s (c.deref-2.ensures.0 ∙ c.order-purchases.ensures.ordered) in
+    matched-in-range (first-sound s (c.match_offers-volume.ensures a b))
 
-pub price_of-price-requires : goal.price_of-price-requires
-price_of-price-requires c = le_trans c.first_match-first.ensures.rising.order.few c.requires.0.few
+pub withdraw-end-requires-clause-laid : goal.withdraw-end-requires-clause-laid
+withdraw-end-requires-clause-laid c =
+    let s = c.requires.sound in
+    let a = along-of s (c.deref.ensures.0 ∙ c.order-sales.ensures.ordered) in
+    let b = along-of s (c.deref-2.ensures.0 ∙ c.order-purchases.ensures.ordered) in
+    first-laid s (c.match_offers-volume.ensures a b) (c.deref-3.ensures.0 ∙ c.order-sales.ensures.ordered) (c.deref-4.ensures.0 ∙ c.order-purchases.ensures.ordered)
 
-pub returns : goal.returns
-returns c =
-    let a = c.args in
-    let b = c.first_match-first.ensures in
+pub withdraw-end-requires-clause-traded : goal.withdraw-end-requires-clause-traded
+withdraw-end-requires-clause-traded c =
+    let s = c.requires.sound in
+    let a = along-of s (c.deref.ensures.0 ∙ c.order-sales.ensures.ordered) in
+    let b = along-of s (c.deref-2.ensures.0 ∙ c.order-purchases.ensures.ordered) in
+    first-traded s (c.match_offers-volume.ensures a b)
+
+pub market_flows-flows-requires-clause-in_range : goal.market_flows-flows-requires-clause-in_range
+market_flows-flows-requires-clause-in_range c = matched-in-range c.withdraw-end.ensures.laid.sound
+
+pub returns-clause-market_cleared : goal.returns-clause-market_cleared
+returns-clause-market_cleared c = λ xs k.
+    let s = c.requires.sound in
+    let a = along-of s (c.deref.ensures.0 ∙ c.order-sales.ensures.ordered) in
+    let b = along-of s (c.deref-2.ensures.0 ∙ c.order-purchases.ensures.ordered) in
     let w = c.withdraw-end.ensures in
-    let f = c.flows-flows.ensures in record {
-      market_cleared = λ xs k. market-said a.o a.before a.published.now a.capacity.now xs (b.matching.offers (replicate 128 0))
-          (c.first_maxima-maxima.ensures a.published.now a.before xs k) w _ (c.price_of-price.ensures a.o _ b.rising w.traded);
-      market_flows = (market-flows a.o _ _ f, f.small, w.kept);
-    }
+    market-said (c.match_offers-volume.ensures a b) c.args.capacities.now c.maxima-maxima.result xs
+    (c.maxima-maxima.ensures.split _ xs k c.market_flows-market.ensures.flows c.legacy_flows-legacy.ensures.flows) w _
+    (c.price_of-price.ensures (along-of w.laid.sound (c.deref-5.ensures.0 ∙ c.order-sales.ensures.ordered ∙ sym (c.deref-3.ensures.0 ∙ c.order-sales.ensures.ordered) ∙ w.laid.rising)) w.traded)
+
+pub maxima-maxima-requires-clause-capacities_small : goal.maxima-maxima-requires-clause-capacities_small
+maxima-maxima-requires-clause-capacities_small c = small c.args.capacities.now c.told-capacities c.requires.capacities_small

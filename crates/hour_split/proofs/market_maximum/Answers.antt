@@ -1,18 +1,18 @@
-use Prim.Native.Nat.{◌+◌}
-use native.Mathlib.Omega.{arith}
+use Rattle.std.proofs.Common.{◌+◌, arith}
 use Rattle.hour_split.proofs.Laws.{part-within, maximum-said}
 use Rattle.hour_split.proofs.market_maximum.Goals as goal
 
 pub overflow_sub-result : goal.overflow_sub-result
-overflow_sub-result c = omega (arith, part-within c.less-b.result c.less-s.result (c.less-3.result + c.less-b.result) (omega arith), c.bilateral_part.ensures)
+overflow_sub-result c =
+    omega (arith, part-within c.net-b.result c.saturating_sub-s.result (c.saturating_sub.result + c.net-b.result) (omega arith), c.bilateral_part.ensures)
 
 pub returns : goal.returns
 returns c =
     let a = c.args in
-    maximum-said a.capacity a.bx a.bi a.mx a.mi a.legacy
-    c.less-b.ensures
-    c.less.ensures
-    c.less-s.ensures
-    c.less-2.ensures
-    c.less-3.ensures
+    maximum-said a.capacity a.executions.along a.executions.against a.market.along a.market.against a.legacy
+    c.net-b.ensures
+    (omega (arith, c.net.ensures, c.reversed.ensures))
+    (omega (arith, c.saturating_sub-s.ensures))
+    c.net-2.ensures
+    c.saturating_sub.ensures
     c.bilateral_part.ensures

@@ -1,39 +1,25 @@
-use mathlib.Core.Path.{refl}
-use native.Mathlib.Nat.{le_trans}
-use native.Mathlib.Omega.{arith}
-use Rattle.withdraw_keep.specs.Kept.{kept_at}
-use Rattle.withdraw.proofs.StepLaws.{along-lent, anew-long, after_lower, step-said}
+use Rattle.hour_borders.specs.Ways.{over_in}
+use Rattle.withdraw_keep.specs.Group.{group_in}
+use Rattle.withdraw_keep.proofs.ChangeLaws.{changed-sound}
+use Rattle.withdraw.proofs.StepLaws.{matched-fits, matched-ranged, offered-ranged, taken-sound, sales-along, purchases-along, step-said}
 use Rattle.withdraw.proofs.step.Goals as goal
 
-pub keep_matched-requires : goal.keep_matched-requires
-keep_matched-requires c = (c.requires.0, c.requires.2.offered-long)
+pub choose-group-requires : goal.choose-group-requires
+choose-group-requires c = matched-fits c.keep_matched.new.offers (changed-sound c.keep_matched.ensures.changed c.requires.laid.sound)
 
-pub choose-g-requires : goal.choose-g-requires
-choose-g-requires c = (c.requires.0, c.requires.1.prices, c.requires.2.part)
+pub take_from-requires-clause-in_range : goal.take_from-requires-clause-in_range
+take_from-requires-clause-in_range c = matched-ranged (changed-sound c.keep_matched.ensures.changed c.requires.laid.sound)
 
-pub take_from-requires : goal.take_from-requires
-take_from-requires c =
-    let a = c.args in
-    (c.requires.0, c.requires.2.part, anew-long (kept_at a.over.now a.border.now a.purchase.now a.legacy.now a.matched.now) a.n a.offered.now c.keep_matched.ensures.offered_after c.requires.2.offered-long)
-
-pub match_offers-requires : goal.match_offers-requires
-match_offers-requires c =
-    let a = c.args in (
-      c.requires.2.matched-long,
-      le_trans c.requires.1.rising.few c.requires.0.few,
-      le_trans c.requires.1.falling.few c.requires.0.few,
-      λ x. omega (
-        arith,
-        after_lower a.over.now a.matched.now a.n a.border.now a.purchase.now a.legacy.now a.price.now c.requires.0.borders a.offered.now (omega (arith, c.requires.0.few, c.requires.2.offered-long)) c.requires.2.within
-            c.keep_matched.ensures.offered_after c.take_from.ensures.lower x,
-        c.requires.2.small x,
-      ),
-    )
+pub match_offers-requires-clause-energies : goal.match_offers-requires-clause-energies
+match_offers-requires-clause-energies c =
+    let k = c.keep_matched.ensures in
+    offered-ranged (taken-sound (over_in c.args.over.now) c.requires.laid k.kept k.changed c.take_from.ensures.changed)
 
 pub returns : goal.returns
-returns c h sound t =
-    let a = c.args in
-    let k = c.keep_matched in
-    let f = c.take_from in
-    step-said a.over.now a.matched.now a.n a.border.now a.purchase.now a.legacy.now a.price.now c.requires.0.borders h c.choose-g.result a.offered.now k.new.offered f.new.offered c.match_offers.new.matched c.match_offers.result
-    (omega (arith, c.requires.0.few, c.requires.2.offered-long)) c.requires.2.within t k.ensures.offered_after (k.ensures.matched_after h (record { counts = t.counts; borders = t.borders; sides = t.sides; marks = t.marks; prices = refl })) (c.choose-g.ensures h k.new.offered t) f.ensures.lower (f.ensures.matched_after h t) (c.match_offers.ensures h (along-lent sound t c.requires.1.rising) (along-lent sound t c.requires.1.falling))
+returns c =
+    let k = c.keep_matched.ensures in
+    let t = c.take_from.ensures in
+    let ds = over_in c.args.over.now in
+    let l = c.requires.laid in
+    step-said ds l k.kept k.changed t.changed (group_in c.choose-group.result) c.choose-group.ensures t.taken
+    (c.match_offers.ensures (sales-along ds l k.kept k.changed t.changed) (purchases-along ds l k.kept k.changed t.changed))

@@ -1,42 +1,34 @@
-use native.Mathlib.Omega.{arith}
-use Rattle.withdraw_choose.proofs.PriceLaws.{choose-sales, choose-purchases, choose-below, choose-above}
-use Rattle.withdraw_choose.proofs.PriceLaws.{group-said, below-lent, above-lent}
+use Rattle.std.proofs.Common.{sym, ◌∙◌}
+use Rattle.rules.specs.Withdrawal as W
+use Rattle.hour_borders.specs.Ways.{over_in}
+use Rattle.withdraw_choose.proofs.PriceLaws.{chosen, below-read, above-read, purchases-go, sales-go}
 use Rattle.withdraw_choose.proofs.choose.Goals as goal
 
-pub all_past-c-requires : goal.all_past-c-requires
-all_past-c-requires c = (omega arith, c.requires.2)
+pub returns-in-None-None : goal.returns-in-None-None
+unfolding W.choose
+returns-in-None-None c =
+    chosen (over_in c.args.over.now) c.args.offers.now (sym c.in-None-None.is-0 ∙ c.lowest_purchase_price-lowest.ensures) (sym c.in-None-None.is-1 ∙ c.highest_sale_price-highest.ensures)
 
-pub all_past-v-requires : goal.all_past-v-requires
-all_past-v-requires c = (omega arith, c.requires.2)
+pub returns-in-None-Some : goal.returns-in-None-Some
+unfolding W.choose
+returns-in-None-Some c =
+    chosen (over_in c.args.over.now) c.args.offers.now (sym c.in-None-Some.is-0 ∙ c.lowest_purchase_price-lowest.ensures) (sym c.in-None-Some.is-1 ∙ c.highest_sale_price-highest.ensures)
 
-pub returns-then-p-eq-NONE : goal.returns-then-p-eq-NONE
-returns-then-p-eq-NONE c h e t =
-    let a = c.args in
-    let p = c.furthest-p in
-    let q = c.furthest-q in
-    group-said a.over.now a.matched.now a.n a.border.now a.purchase.now a.legacy.now a.price.now c.requires.0.borders h e t p.result q.result _ p.ensures q.ensures
-    (choose-sales _ p.result q.result c.if-p-eq-NONE.true)
+pub returns-in-Some-None : goal.returns-in-Some-None
+unfolding W.choose
+returns-in-Some-None c =
+    chosen (over_in c.args.over.now) c.args.offers.now (sym c.in-Some-None.is-0 ∙ c.lowest_purchase_price-lowest.ensures) (sym c.in-Some-None.is-1 ∙ c.highest_sale_price-highest.ensures)
 
-pub returns-then-q-eq-NONE : goal.returns-then-q-eq-NONE
-returns-then-q-eq-NONE c h e t =
-    let a = c.args in
-    let p = c.furthest-p in
-    let q = c.furthest-q in
-    group-said a.over.now a.matched.now a.n a.border.now a.purchase.now a.legacy.now a.price.now c.requires.0.borders h e t p.result q.result _ p.ensures q.ensures
-    (choose-purchases _ p.result q.result _ c.if-p-eq-NONE.false c.if-q-eq-NONE.true c.at_price.ensures)
+pub returns-then-purchases_below-sales_above : goal.returns-then-purchases_below-sales_above
+returns-then-purchases_below-sales_above c =
+    let os = c.args.offers.now in
+    let p = c.in-Some-Some in
+    purchases-go p.lowest p.highest os (c.purchases_below.ensures ∙ below-read p.lowest os) (c.sales_above.ensures ∙ above-read p.highest os) c.if-purchases_below-sales_above.true
+    ∙ chosen (over_in c.args.over.now) os (sym p.is-0 ∙ c.lowest_purchase_price-lowest.ensures) (sym p.is-1 ∙ c.highest_sale_price-highest.ensures)
 
-pub returns-then-c-v : goal.returns-then-c-v
-returns-then-c-v c h e t =
-    let a = c.args in
-    let p = c.furthest-p in
-    let q = c.furthest-q in
-    group-said a.over.now a.matched.now a.n a.border.now a.purchase.now a.legacy.now a.price.now c.requires.0.borders h e t p.result q.result _ p.ensures q.ensures
-    (choose-below _ p.result q.result _ c.if-p-eq-NONE.false c.if-q-eq-NONE.false (omega (arith, c.if-c-v.true, c.all_past-c.ensures, c.all_past-v.ensures, below-lent a.over.now a.matched.now a.n a.border.now a.purchase.now a.legacy.now a.price.now c.requires.0.borders h e t p.result, above-lent a.over.now a.matched.now a.n a.border.now a.purchase.now a.legacy.now a.price.now c.requires.0.borders h e t q.result)) c.at_price-then-c-v.ensures)
-
-pub returns : goal.returns
-returns c h e t =
-    let a = c.args in
-    let p = c.furthest-p in
-    let q = c.furthest-q in
-    group-said a.over.now a.matched.now a.n a.border.now a.purchase.now a.legacy.now a.price.now c.requires.0.borders h e t p.result q.result _ p.ensures q.ensures
-    (choose-above _ p.result q.result _ c.if-p-eq-NONE.false c.if-q-eq-NONE.false (omega (arith, c.if-c-v.false, c.all_past-c.ensures, c.all_past-v.ensures, below-lent a.over.now a.matched.now a.n a.border.now a.purchase.now a.legacy.now a.price.now c.requires.0.borders h e t p.result, above-lent a.over.now a.matched.now a.n a.border.now a.purchase.now a.legacy.now a.price.now c.requires.0.borders h e t q.result)) c.at_price-2.ensures)
+pub returns-else-purchases_below-sales_above : goal.returns-else-purchases_below-sales_above
+returns-else-purchases_below-sales_above c =
+    let os = c.args.offers.now in
+    let p = c.in-Some-Some in
+    sales-go p.lowest p.highest os (c.purchases_below.ensures ∙ below-read p.lowest os) (c.sales_above.ensures ∙ above-read p.highest os) c.if-purchases_below-sales_above.false
+    ∙ chosen (over_in c.args.over.now) os (sym p.is-0 ∙ c.lowest_purchase_price-lowest.ensures) (sym p.is-1 ∙ c.highest_sale_price-highest.ensures)

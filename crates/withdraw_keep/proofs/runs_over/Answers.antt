@@ -1,11 +1,14 @@
-use borrow.Author.Tests.{eq-eqb, ne_eqb}
-use Rattle.withdraw_keep.specs.Kept.{runs_over}
+use Rattle.std.proofs.Common.{sym, ◌∙◌, rules, ◌<◌}
+use Rattle.hour_offers.specs.View.{offer_in}
+use Rattle.withdraw_keep.proofs.KeptLaws.{among-over, among-outside}
 use Rattle.withdraw_keep.proofs.runs_over.Goals as goal
 
-pub returns-then-border-eq0 : goal.returns-then-border-eq0
-unfolding runs_over
-returns-then-border-eq0 c = rw (eq-eqb _ _ c.if-border-eq0.true)
+pub returns-then-contains : goal.returns-then-contains
+returns-then-contains c =
+    let h : 0 < c.args.offer.now.holder.border = search rules in
+    let k : c.args.offer.now.holder.border < 5 = search rules in
+    rw (c.way.ensures.index) (sym (among-over c.args.over.now (offer_in c.args.offer.now) h k))
 
-pub returns : goal.returns
-unfolding runs_over
-returns c = rw (ne_eqb _ _ c.if-border-eq0.false, ← c.way-w.ensures.0)
+pub returns-else-contains : goal.returns-else-contains
+returns-else-contains c =
+    c.if-contains.false ∙ sym (among-outside c.args.over.now (offer_in c.args.offer.now) (λ h k. search rules))

@@ -1,0 +1,33 @@
+use Rattle.std.proofs.Common.{rules, refl, ◌≡◌, ◌∙◌, ap, true}
+use Rattle.rules.specs.Borders.{flow, Execution as RuleExecution}
+use Rattle.rules.proofs.ListLaws.{all_map}
+use Rattle.rules.proofs.ElementLaws.{all-every, all-unmapped}
+use Rattle.hour_offers.specs.declared.Execution.{Execution}
+use Rattle.hour_offers.specs.View.{execution_in, executions_in}
+use Rattle.hour_share.specs.declared.Amount.{Amount}
+use Rattle.hour_borders.specs.Ways.{way_of}
+use Rattle.hour_borders.specs.Flows.{amount_of}
+use Rattle.hour_borders.proofs.WayLaws.{way-small}
+use Rattle.hour_borders.proofs.FlowLaws.{flow-said, keep-all}
+use Rattle.hour_borders.proofs.execution_flows.Goals as goal
+
+-- what the closure gives
+abbrev given : Execution → Amount
+given x = amount_of x.holder x.energy
+
+pub flows-requires-clause-within : goal.flows-requires-clause-within
+flows-requires-clause-within c =
+    let ok = all-unmapped execution_in c.args.executions.now c.requires.in_range in
+    all_map (λ x r a h. let e : a ≡ given x = search rules in rw e (way-small x.holder.border x.holder.purchase r.border)) ok
+
+pub flows-requires-clause-ranged : goal.flows-requires-clause-ranged
+flows-requires-clause-ranged c =
+    let ok = all-unmapped execution_in c.args.executions.now c.requires.in_range in
+    all_map (λ x r a h. let e : a ≡ given x = search rules in rw e r.energy) ok
+
+pub returns-clause-flows : goal.returns-clause-flows
+returns-clause-flows c b e h =
+    let xs = c.args.executions.now in
+    c.flows.ensures.sums given (all-every (λ x a h. search rules) xs) (way_of b e)
+    ∙ flow-said given execution_in (λ x. x.holder) (λ x. x.energy) (λ x. true) (λ x. refl) (λ x. refl) b e xs
+    ∙ ap (λ ys. flow (λ (x : RuleExecution). x.holder) (λ x. x.energy) b e ys) (keep-all (executions_in xs))

@@ -1,0 +1,34 @@
+use Rattle.std.proofs.Common.{arith, rules, refl, ◌≡◌, ◌∙◌, cond}
+use Rattle.rules.specs.Split.{legacy_flow}
+use Rattle.rules.proofs.ListLaws.{all_map}
+use Rattle.rules.proofs.ElementLaws.{all-every, all-unmapped}
+use Rattle.rules.proofs.SumLaws.{cond-le}
+use Rattle.hour_offers.specs.declared.Offer.{Offer}
+use Rattle.hour_offers.specs.View.{offer_in}
+use Rattle.hour_share.specs.declared.Amount.{Amount}
+use Rattle.hour_borders.specs.Ways.{way_of}
+use Rattle.hour_borders.specs.Flows.{amount_of}
+use Rattle.hour_borders.proofs.WayLaws.{way-small}
+use Rattle.hour_borders.proofs.FlowLaws.{flow-said}
+use Rattle.hour_borders.proofs.legacy_flows.Goals as goal
+
+-- what the closure gives
+abbrev given : Offer → Amount
+given x = amount_of x.holder (cond x.holder.legacy x.matched 0)
+
+pub flows-requires-clause-within : goal.flows-requires-clause-within
+flows-requires-clause-within c =
+    let ok = all-unmapped offer_in c.args.offers.now c.requires.in_range in
+    all_map (λ x r a h. let e : a ≡ given x = search rules in rw e (way-small x.holder.border x.holder.purchase r.border)) ok
+
+pub flows-requires-clause-ranged : goal.flows-requires-clause-ranged
+flows-requires-clause-ranged c =
+    let ok = all-unmapped offer_in c.args.offers.now c.requires.in_range in
+    all_map (λ x r a h. let e : a ≡ given x = search rules in rw e (omega (arith, cond-le x.holder.legacy x.matched, r.matched))) ok
+
+pub returns-clause-flows : goal.returns-clause-flows
+unfolding legacy_flow
+returns-clause-flows c b e h =
+    let os = c.args.offers.now in
+    c.flows.ensures.sums given (all-every (λ x a h. search rules) os) (way_of b e)
+    ∙ flow-said given offer_in (λ o. o.holder) (λ o. o.matched) (λ o. o.holder.legacy) (λ x. refl) (λ x. refl) b e os
