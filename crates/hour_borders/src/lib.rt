@@ -149,6 +149,7 @@ pub fn maxima(
     ensures none_at_home { (w : ℕ) → w < 2 → get_or result w None ≡ None }
 {
     let mut maxima = [None; 10];
+    // By index: w is the direction, whose place is the same in each array, and which names the one across from it.
     for w in 2..10 {
         maxima[w] = maximum_at(w, capacities[w], executions, market, legacy[w]);
     }
@@ -172,6 +173,7 @@ pub fn excesses(maxima: &[Option<u32>; 10], market: &[u32; 10]) -> [u32; 10]
     ensures by_index { (w : ℕ) → 2 ≤ w → w < 10 → get_or result w 0 ≡ excess_in maxima.now market.now w }
 {
     let mut over = [0u32; 10];
+    // By index: w is the direction, as above.
     for w in 2..10 {
         over[w] = excess_over(maxima[w], flow_at(market, w));
     }
