@@ -3,6 +3,7 @@ pub mod ViewLaws
 pub mod OrderLaws
 pub mod KeyLaws
 pub mod WalkLaws
+pub mod TurnLaws
 pub mod FillLaws
 pub mod MatchLaws
 pub mod PriceLaws
