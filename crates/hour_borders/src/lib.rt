@@ -1,7 +1,7 @@
 // Energy at the borders in one hour: directions, flows, maxima, excesses (document 01, "Split" and "Withdrawal step").
 #![tactic(auto)]
 
-ghost use Rattle.std.specs.Prelude.{◌≡◌, Bool, List, Option, map, cond, ℕ, ◌≤◌, ◌<◌, get_or, length, ltb};
+ghost use Rattle.std.specs.Prelude.{◌≡◌, Bool, List, Option, None, map, cond, ℕ, ◌≤◌, ◌<◌, get_or, length, ltb};
 ghost use Rattle.std.specs.List.{list_any};
 ghost use Rattle.std.specs.Fn.{FnReturnsAt};
 ghost use Rattle.rules.specs.Lists.{All, sum_of};
@@ -141,13 +141,15 @@ pub fn maxima(
     requires capacities_small { Small (energies_of capacities.now) }
     requires executions_small { Small executions.now }
     requires market_small { Small market.now }
-    ensures { (first : List RuleOffer) (xs : List RuleExecution)
+    ensures split { (first : List RuleOffer) (xs : List RuleExecution)
         → ExecutionFlows executions.now xs
         → MarketFlows market.now first
         → LegacyFlows legacy.now first
         → published_in result ≡ map (maximum_of first xs) (published_in capacities.now) }
+    ensures none_at_home { (w : ℕ) → w < 2 → get_or result w None ≡ None }
 {
     let mut maxima = [None; 10];
+    // By index: w is the direction, whose place is the same in each array, and which names the one across from it.
     for w in 2..10 {
         maxima[w] = maximum_at(w, capacities[w], executions, market, legacy[w]);
     }
@@ -171,6 +173,7 @@ pub fn excesses(maxima: &[Option<u32>; 10], market: &[u32; 10]) -> [u32; 10]
     ensures by_index { (w : ℕ) → 2 ≤ w → w < 10 → get_or result w 0 ≡ excess_in maxima.now market.now w }
 {
     let mut over = [0u32; 10];
+    // By index: w is the direction, as above.
     for w in 2..10 {
         over[w] = excess_over(maxima[w], flow_at(market, w));
     }

@@ -34,10 +34,14 @@ in_all-requires-clause-ranged g c = rw c.as_slice.ensures.value c.loop-x.invaria
 all_passed : {A B : Type 0} (f : A → B) (i : ℕ) (xs : List A) {ys zs : List B} → length xs ≤ i → zs ≡ ys → ys ≡ map f (take i xs) → zs ≡ map f xs
 all_passed f i xs h q e = q ∙ e ∙ ap (map f) (take_all i xs h)
 
+through : (over x : List ℕ) (ms ns : List Amount) → x ≡ deductions_from over ms 2 → ms ≡ ns → x ≡ deductions_from over ns 2
+through over x ms ns e q = e ∙ ap (λ (l : List Amount). deductions_from over l 2) q
+
 pub returns-clause-value : goal.returns-clause-value
 returns-clause-value g c amount k =
-    let e = all_passed amount c.loop-x.x-index c.args.holders.now (omega arith) c.as_slice.ensures.value (c.loop-x.invariant.said amount k) in
-    c.in_all.ensures.value ∙ ap (λ (ms : List Amount). deductions_from c.args.over.now ms 2) e
+    let holders = c.args.holders.now in
+    through c.args.over.now c.in_all.result.items c.as_slice.result.now (map amount holders) c.in_all.ensures.value
+    (all_passed amount c.loop-x.x-index holders (omega arith) c.as_slice.ensures.value (c.loop-x.invariant.said amount k))
 
 pub returns-clause-same_length : goal.returns-clause-same_length
 returns-clause-same_length g c = omega (arith, ap length c.as_slice.ensures.value)

@@ -1,4 +1,4 @@
-use Rattle.std.proofs.Common.{arith, ◌∙◌, ◌≤◌, ◌-◌, ap, length}
+use Rattle.std.proofs.Common.{◌≡◌, min, arith, ◌∙◌, ◌≤◌, ◌-◌, ap, length}
 use Rattle.std.proofs.lemmas.List.{length-map}
 use Rattle.rules.specs.Share.{pro_rata}
 use Rattle.rules.specs.Lists.{sum}
@@ -29,6 +29,7 @@ returns c =
     let held = c.deref_mut.ensures.value in
     let l = length-map ms (pro_rata c.min-r.result c.total-g.result) in
     let e = out-length c.deref_mut.result.now ms (c.min-r.result - c.total-floored.result) (omega (arith, ap length held, ap length f.ensures)) in
+    let r : c.min-r.result ≡ min c.args.excess (sum ms) = omega (arith, c.min-r.ensures, c.total-g.ensures) in
     refilled f.result.items c.hand_out.new.deductions (omega (arith, ap length c.hand_out.ensures, e, ap length held))
-    ∙ rw (← c.total-g.ensures, ← c.min-r.ensures)
+    ∙ rw (← r)
     (share-said c.min-r.result ms c.total-g.ensures (c.total-floored.ensures ∙ ap sum c.deref.ensures.0) f.ensures (rw held at c.hand_out.ensures))
