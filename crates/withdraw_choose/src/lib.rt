@@ -23,7 +23,8 @@ fn is_priced(purchase: bool, over: &[u32; 10], offer: &Offer) -> bool
         && withdraw_keep::runs_over(over, offer)
 }
 
-// 2. "the lowest purchase price" among these.
+// 2. "the lowest purchase price" among these. Each price has a chain of its own, as C and V' have: one function with closures for the test
+// and the choice would promise more of the closures than the chains are long.
 fn lowest_purchase_price(offers: &[Offer], over: &[u32; 10]) -> Option<u32>
     ensures { result ≡ reduce min (map (λ o. o.price) (filter (λ o. priced_of true (over_in over.now) (offer_in o)) offers.now)) }
 {

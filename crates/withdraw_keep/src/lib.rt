@@ -17,7 +17,7 @@ pub enum Group {
     AtPrice { purchase: bool, price: u32 },
 }
 
-// Whether an offer runs in a direction passed; a domestic one is at no border.
+// Whether an offer runs in a direction passed: at one of the four borders, 1 to 4, since a domestic one is at none.
 pub fn runs_over(over: &[u32; 10], offer: &Offer) -> bool
     ensures { result ≡ runs_among (over_in over.now) (offer_in offer.now) }
 {

@@ -1,4 +1,4 @@
-use Rattle.std.proofs.Common.{sym, ◌∙◌}
+use Rattle.std.proofs.Common.{arith, sym, ◌∙◌}
 use Rattle.rules.specs.Withdrawal as W
 use Rattle.hour_borders.specs.Ways.{over_in}
 use Rattle.withdraw_choose.proofs.PriceLaws.{chosen, below-read, above-read, purchases-go, sales-go}
@@ -23,12 +23,12 @@ pub returns-then-purchases_below-sales_above : goal.returns-then-purchases_below
 returns-then-purchases_below-sales_above c =
     let os = c.args.offers.now in
     let p = c.in-Some-Some in
-    purchases-go p.lowest p.highest os (c.purchases_below.ensures ∙ below-read p.lowest os) (c.sales_above.ensures ∙ above-read p.highest os) c.if-purchases_below-sales_above.true
+    purchases-go p.lowest p.highest os (c.purchases_below.ensures ∙ below-read p.lowest os) (c.sales_above.ensures ∙ above-read p.highest os) (omega arith)
     ∙ chosen (over_in c.args.over.now) os (sym p.is-0 ∙ c.lowest_purchase_price-lowest.ensures) (sym p.is-1 ∙ c.highest_sale_price-highest.ensures)
 
 pub returns-else-purchases_below-sales_above : goal.returns-else-purchases_below-sales_above
 returns-else-purchases_below-sales_above c =
     let os = c.args.offers.now in
     let p = c.in-Some-Some in
-    sales-go p.lowest p.highest os (c.purchases_below.ensures ∙ below-read p.lowest os) (c.sales_above.ensures ∙ above-read p.highest os) c.if-purchases_below-sales_above.false
+    sales-go p.lowest p.highest os (c.purchases_below.ensures ∙ below-read p.lowest os) (c.sales_above.ensures ∙ above-read p.highest os) (omega arith)
     ∙ chosen (over_in c.args.over.now) os (sym p.is-0 ∙ c.lowest_purchase_price-lowest.ensures) (sym p.is-1 ∙ c.highest_sale_price-highest.ensures)
