@@ -1,3 +1,4 @@
 pub mod FormLaws
+pub mod HourLaws
 pub mod JudgeLaws
 pub mod RoundTrips
