@@ -1,28 +1,15 @@
 -- Bytes as one number, and the fields in them.
 use Prim.Native.Nat.{ℕ, zero, suc, ◌+◌, ◌*◌, ◌-◌, ◌/◌, ◌%◌, ◌^◌, ◌≤◌, ◌<◌, min}
 use mathlib.Core.Path.{◌≡◌, refl, ap, sym, ◌∙◌}
-use mathlib.Core.Bool.{Bool, true, false}
 use mathlib.Core.List.{List, [], ◌∷◌}
 use native.Mathlib.Omega.{arith}
 use native.Mathlib.Nat.{zero-add, one-mul, mod-eq_of_lt, zero-min, min-zero, suc-min-suc}
-use borrow.Author.Tests.{leb-true, leb-false, le-leb, lt-leb}
-use lib.Dec.{leb}
 use lib.Pow.{pow-lt}
-use lib.ListN.{length, take, drop, get_or, length-drop, get_or-eq_default}
+use lib.ListN.{length, take, drop, get_or, length-drop}
 use Rattle.rules.specs.Message.{value, field, bits_of}
 use Rattle.rules.proofs.ListLaws.{Under}
 use Rattle.rules.proofs.BitLaws.{length-bits_of, bits_of-under, field-add, field-inner, word, field-word, word-four}
 use Rattle.message_bits.specs.Bits.{word_at}
-
-pub word-past : (bytes : List ℕ) (i : ℕ) → length bytes ≤ i → 0 ≡ word_at bytes i
-unfolding word_at
-word-past bytes i h =
-    rw (
-      get_or-eq_default bytes 0 h,
-      get_or-eq_default bytes 0 {n = i + 1} (omega arith),
-      get_or-eq_default bytes 0 {n = i + 2} (omega arith),
-      get_or-eq_default bytes 0 {n = i + 3} (omega arith),
-    )
 
 one_more : (i : ℕ) (bytes : List ℕ) → word 5 i bytes ≡ word 4 i bytes * 256 + get_or bytes (i + 4) 0
 unfolding word
@@ -91,20 +78,3 @@ field-there at w bytes = rw (← length-bits_of bytes, ← length-drop at (bits_
 pub field-none : (at : ℕ) (bs : List ℕ) → field at 0 bs ≡ 0
 unfolding field value
 field-none at bs = refl
-
--- the test whether the bits of a field are there
-module _ (at w : ℕ) (bytes : List ℕ) where
-  abbrev has : Bool
-  has = leb (at + w) (length (bits_of bytes))
-
-  pub has_all : at + w ≤ 8 * length bytes → true ≡ has
-  has_all h = sym (le-leb (at + w) (length (bits_of bytes)) (omega (arith, length-bits_of bytes)))
-
-  pub has-not : 8 * length bytes < at + w → false ≡ has
-  has-not h = sym (lt-leb (at + w) (length (bits_of bytes)) (omega (arith, length-bits_of bytes)))
-
-  pub all-had : has ≡ true → at + w ≤ 8 * length bytes
-  all-had e = omega (arith, length-bits_of bytes, leb-true (at + w) (length (bits_of bytes)) e)
-
-  pub not-had : has ≡ false → 8 * length bytes < at + w
-  not-had e = omega (arith, length-bits_of bytes, leb-false (at + w) (length (bits_of bytes)) e)
