@@ -1,12 +1,12 @@
 // The head of a message: its first eight bytes, as one number, hold every field before the slots.
 ghost use Rattle.std.specs.Prelude.{◌≡◌, true, not, eqb, ◌+◌, ◌*◌, ◌-◌, ◌<◌, ◌≤◌, length, MatchOption};
 ghost use Rattle.rules.specs.Message.{form1, bits_of, field, length_for, slots_end, set_bits, wrong_form};
+ghost use Rattle.message.specs.View.{no_fields};
 ghost use Rattle.message_reader.specs.Slots.{blank};
 
 use message::Fields;
 use message::form::{length_for, slots_end};
 use message_bits::{part, slot_at};
-use rules::HOURS;
 
 #[derive(Clone, Copy)]
 pub struct Head<'a> {
@@ -62,20 +62,16 @@ impl<'a> Head<'a> {
         wrong || kind == 1 && self.bad_filling(map)
     }
 
-    // The fields before the slots; the hours are still blank.
+    // Puts in the fields before the slots; the hours stay blank.
     #[tactic(auto, unfolding(rules::specs::Message::is_execution, rules::specs::Message::map_of))]
-    pub fn blank(self) -> Fields
-        ensures { result ≡ blank (bits_of self.entry.bytes.now) }
+    pub fn put(self, m: &mut Fields)
+        requires { m.old ≡ no_fields }
+        ensures { m.new ≡ blank (bits_of self.entry.bytes.now) }
     {
-        Fields {
-            execution: self.field(4, 2) == 1,
-            default: self.field(6, 1) == 1,
-            reserved: 0,
-            unit: self.field(7, 16),
-            contract: self.field(23, 16),
-            map: self.field(39, 25),
-            energies: [0; HOURS],
-            prices: [0; HOURS],
-        }
+        m.execution = self.field(4, 2) == 1;
+        m.default = self.field(6, 1) == 1;
+        m.unit = self.field(7, 16);
+        m.contract = self.field(23, 16);
+        m.map = self.field(39, 25);
     }
 }

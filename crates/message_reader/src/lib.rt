@@ -3,15 +3,15 @@
 
 mod head;
 
-ghost use Rattle.std.specs.Prelude.{◌≡◌, true, false, MatchOption, IfOk};
+ghost use Rattle.std.specs.Prelude.{◌≡◌, true, false, MatchOption, OnOk};
 ghost use Rattle.rules.specs.Message.{form1, form_of, message_of, wrong_form, read as reading};
-ghost use Rattle.message.specs.View.{fields_in, outcome_of, reading_as};
+ghost use Rattle.message.specs.View.{fields_in, no_fields, outcome_of, reading_as};
 ghost use Rattle.message_reader.specs.Slots.{ToFill, bad_hours, filled};
 
 use head::Head;
 use message::form::price_width;
 use message::hours::Hours;
-use message::{Fields, Reading};
+use message::{Fields, NO_FIELDS, Reading};
 use message_bits::slot_at;
 use message_ranges::{bad_key, bad_map, bad_slot};
 use rules::MAX_ENERGY;
@@ -33,12 +33,12 @@ pub fn bad_form(s: &[u8]) -> bool
 }
 
 // Fills in the energy and the price of each hour that the map names, and says whether one is outside its range.
-fn fill(s: &[u8], m: &mut Fields) -> bool
-    requires { ToFill form1 s.now m.old }
+fn fill(s: &[u8], execution: bool, m: &mut Fields) -> bool
+    requires kind { execution ≡ m.old.execution }
+    requires to_fill { ToFill form1 s.now m.old }
     ensures judged { result ≡ bad_hours form1 s.now m.old }
     ensures filled { m.new ≡ filled form1 s.now m.old }
 {
-    let execution = m.execution;
     let hours = Hours::of(m.map);
     let energies = &mut m.energies;
     let prices = &mut m.prices;
@@ -58,13 +58,27 @@ fn fill(s: &[u8], m: &mut Fields) -> bool
     bad
 }
 
+// The same. A kind by itself in each call has the loop compiled for it, with widths that are fixed.
+fn fill_by_kind(s: &[u8], m: &mut Fields) -> bool
+    requires { ToFill form1 s.now m.old }
+    ensures judged { result ≡ bad_hours form1 s.now m.old }
+    ensures filled { m.new ≡ filled form1 s.now m.old }
+{
+    if m.execution {
+        fill(s, true, m)
+    } else {
+        fill(s, false, m)
+    }
+}
+
 // What a message of the right form says.
 fn said(head: Head) -> Fields
     requires { wrong_form head.bytes.now ≡ false }
     ensures { fields_in result ≡ message_of head.entry.bytes.now }
 {
-    let mut m = head.blank();
-    let _bad = fill(head.bytes, &mut m);
+    let mut m = NO_FIELDS;
+    head.put(&mut m);
+    let _bad = fill_by_kind(head.bytes, &mut m);
     m
 }
 
@@ -91,25 +105,34 @@ pub fn top_of(s: &[u8]) -> u32
     MAX_ENERGY
 }
 
-// A message's fields, or the refusal: 3, 4, 5 in the table's order.
-pub fn read_fields(s: &[u8]) -> Result<Fields, Row>
-    ensures outcome { reading s.now ≡ outcome_of fields_in result }
-    ensures reserved { IfOk result (λ m. m.reserved ≡ 0) }
+// Reads a message into fields that are all 0, or finds the refusal: 3, 4, 5 in the table's order. A `Result` that brought the fields
+// itself would be copied whole: two hours then take twice as long to read.
+fn read_into(s: &[u8], m: &mut Fields) -> Result<(), Row>
+    requires { m.old ≡ no_fields }
+    ensures outcome { reading s.now ≡ outcome_of (λ _. fields_in m.new) result }
+    ensures reserved { OnOk result (m.new.reserved ≡ 0) }
 {
     let head = right_head(s).ok_or(Row::Form)?;
-    let mut m = head.blank();
+    head.put(m);
     if bad_map(m.map) {
         return Err(Row::Hour);
     }
-    if bad_key(m.execution, m.unit, m.contract) || fill(s, &mut m) {
+    if bad_key(m.execution, m.unit, m.contract) || fill_by_kind(s, m) {
         return Err(Row::Range);
     }
-    Ok(m)
+    Ok(())
 }
 
-// The same as C has it.
+// A message's fields, or the refusal, as C has it: filled in where it is returned, so that the arrays are copied once.
 pub fn read(s: &[u8]) -> Reading
     ensures { result ≡ reading_as (reading s.now) }
 {
-    Reading::from(read_fields(s))
+    let mut reading = Reading {
+        row: 0,
+        fields: NO_FIELDS,
+    };
+    if let Err(row) = read_into(s, &mut reading.fields) {
+        reading = Reading::from(Err(row));
+    }
+    reading
 }

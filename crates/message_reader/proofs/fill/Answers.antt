@@ -9,7 +9,7 @@ use Rattle.message_reader.proofs.fill.Goals as goal
 
 pub loop-h-init : goal.loop-h-init
 loop-h-init c =
-    rw (c.into_iter-h-iterator.ensures.into_iter_gives, c.of-hours.ensures, c.requires.energies, c.requires.prices) (filling-start 64 17 max_energy _ _ _ c.requires.map c.requires.there)
+    rw (c.into_iter-h-iterator.ensures.into_iter_gives, c.of-hours.ensures, c.requires.kind, c.requires.to_fill.energies, c.requires.to_fill.prices) (filling-start 64 17 max_energy _ _ _ c.requires.to_fill.map c.requires.to_fill.there)
 
 pub slot_at-slot-requires-clause-in_four : goal.slot_at-slot-requires-clause-in_four
 slot_at-slot-requires-clause-in_four c = (slot_there _ _ _ c.loop-h.invariant c.in-Some.ensures.steps c.price_width-price.ensures.value).3
@@ -34,9 +34,9 @@ loop-h-preserved c =
     rw (c.bad_slot-bad.ensures, e, p, q, c.price_width-price.ensures.value) (filling-next 64 17 max_energy _ _ _ c.loop-h.invariant _ _ c.in-Some.ensures.steps)
 
 pub returns-clause-judged : goal.returns-clause-judged
-returns-clause-judged c = (filling-end 64 17 max_energy _ _ _ c.loop-h.invariant c.in-None.ensures.steps.0).0
+returns-clause-judged c = rw c.requires.kind at (filling-end 64 17 max_energy _ _ _ c.loop-h.invariant c.in-None.ensures.steps.0).0
 
 pub returns-clause-filled : goal.returns-clause-filled
 returns-clause-filled c =
-    let e = filling-end 64 17 max_energy _ _ _ c.loop-h.invariant c.in-None.ensures.steps.0 in
+    let e = rw c.requires.kind at (filling-end 64 17 max_energy _ _ _ c.loop-h.invariant c.in-None.ensures.steps.0) in
     rw (e.1, e.2) refl

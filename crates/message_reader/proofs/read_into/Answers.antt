@@ -6,8 +6,8 @@ use Rattle.rules.specs.declared.row.Row.TheVariants.{Form}
 use Rattle.message_reader.specs.Slots.{blank}
 use Rattle.message_reader.proofs.ReadLaws.{to_fill, read-3, read-4, read-5, read-given}
 use Rattle.message_reader.proofs.SlotLaws.{fields_told}
-use Rattle.message_reader.proofs.read_fields.Goals.{then-bad_key-via-then-bad_key, then-bad_key-via-else-bad_key+then-fill}
-use Rattle.message_reader.proofs.read_fields.Goals as goal
+use Rattle.message_reader.proofs.read_into.Goals.{then-bad_key-via-then-bad_key, then-bad_key-via-else-bad_key+then-fill_by_kind}
+use Rattle.message_reader.proofs.read_into.Goals as goal
 
 pub returns-in_err-head-clause-outcome : goal.returns-in_err-head-clause-outcome
 returns-in_err-head-clause-outcome c =
@@ -21,29 +21,29 @@ pub returns-then-bad_map-clause-outcome : goal.returns-then-bad_map-clause-outco
 unfolding form_of
 returns-then-bad_map-clause-outcome c =
     let f = rw c.in_ok-head.ensures.ok_part at c.right_head.ensures in
-    let e : c.blank-m.result ≡ blank (bits_of c.args.s.now) = c.blank-m.ensures ∙ ap (λ b. blank (bits_of b.now)) f.1 in
+    let e : c.put.new.m ≡ blank (bits_of c.args.s.now) = c.put.ensures ∙ ap (λ b. blank (bits_of b.now)) f.1 in
     read-4 _ form1 refl _ e f.0 (sym c.if-bad_map.ensures)
 
-pub fill-requires : goal.fill-requires
+pub fill_by_kind-requires : goal.fill_by_kind-requires
 unfolding form_of
-fill-requires c =
+fill_by_kind-requires c =
     let f = rw c.in_ok-head.ensures.ok_part at c.right_head.ensures in
-    to_fill _ form1 refl _ (c.blank-m.ensures ∙ ap (λ b. blank (bits_of b.now)) f.1) f.0
+    to_fill _ form1 refl _ (c.put.ensures ∙ ap (λ b. blank (bits_of b.now)) f.1) f.0
 
 pub returns-then-bad_key-clause-outcome : goal.returns-then-bad_key-clause-outcome
 unfolding form_of
 returns-then-bad_key-clause-outcome c =
     let f = rw c.in_ok-head.ensures.ok_part at c.right_head.ensures in
-    let e : c.blank-m.result ≡ blank (bits_of c.args.s.now) = c.blank-m.ensures ∙ ap (λ b. blank (bits_of b.now)) f.1 in
+    let e : c.put.new.m ≡ blank (bits_of c.args.s.now) = c.put.ensures ∙ ap (λ b. blank (bits_of b.now)) f.1 in
     read-5 _ form1 refl _ e f.0 (sym c.if-bad_map.ensures) (elim c.then-bad_key.branch [
         then-bad_key-via-then-bad_key w ↦ rw w.if-bad_key.true at (fields_told form1 _ refl _ e _ _ c.bad_key.ensures refl)
-      | then-bad_key-via-else-bad_key+then-fill w ↦ rw (w.if-bad_key.false, w.if-fill.true) at (fields_told form1 _ refl _ e _ _ c.bad_key.ensures w.fill.ensures.judged)
+      | then-bad_key-via-else-bad_key+then-fill_by_kind w ↦ rw (w.if-bad_key.false, w.if-fill_by_kind.true) at (fields_told form1 _ refl _ e _ _ c.bad_key.ensures w.fill_by_kind.ensures.judged)
     ])
 
 pub returns-clause-outcome : goal.returns-clause-outcome
 unfolding form_of
 returns-clause-outcome c =
     let f = rw c.in_ok-head.ensures.ok_part at c.right_head.ensures in
-    let e : c.blank-m.result ≡ blank (bits_of c.args.s.now) = c.blank-m.ensures ∙ ap (λ b. blank (bits_of b.now)) f.1 in
-    let told = fields_told form1 _ refl _ e _ _ c.bad_key.ensures c.fill.ensures.judged in
-    rw c.fill.ensures.filled (read-given _ form1 refl _ e f.0 (sym c.if-bad_map.ensures) (rw (c.if-bad_key.false, c.if-fill.false) at told))
+    let e : c.put.new.m ≡ blank (bits_of c.args.s.now) = c.put.ensures ∙ ap (λ b. blank (bits_of b.now)) f.1 in
+    let told = fields_told form1 _ refl _ e _ _ c.bad_key.ensures c.fill_by_kind.ensures.judged in
+    rw c.fill_by_kind.ensures.filled (read-given _ form1 refl _ e f.0 (sym c.if-bad_map.ensures) (rw (c.if-bad_key.false, c.if-fill_by_kind.false) at told))
