@@ -1,5 +1,5 @@
 -- What the judging functions find, as the rules' definitions have it.
-use Prim.Native.Nat.{ℕ, zero, suc, ◌+◌, ◌-◌, ◌/◌, ◌%◌, ◌^◌, ◌≤◌, ◌<◌}
+use Prim.Native.Nat.{ℕ, zero, suc, ◌+◌, ◌-◌, ◌/◌, ◌%◌, ◌^◌, ◌≤◌}
 use mathlib.Core.Bool.{Bool, ◌||◌}
 use mathlib.Core.Path.{◌≡◌, refl, ap}
 use Rattle.std.specs.List.{list_any, range_with_len}
@@ -8,8 +8,7 @@ use native.Mathlib.Numerals.{add-one}
 use lib.Dec.{eqb}
 use lib.ListN.{get_or}
 use Rattle.rules.specs.Lists.{any, from, hourly}
-use Rattle.rules.specs.Message.{Fields, bits, hour_bits, names, bad_hour}
-use Rattle.message_ranges.specs.Slots.{bad_slot}
+use Rattle.rules.specs.Message.{bits, hour_bits, names}
 
 -- a bit by its index: j bits stand before it, k after
 bit_at : (w n j k : ℕ) → j + suc k ≡ w → get_or (bits w n) j 0 ≡ n / 2 ^ k % 2

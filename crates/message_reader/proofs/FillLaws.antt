@@ -4,9 +4,8 @@ use mathlib.Core.Path.{◌≡◌, refl, ap, sym, ◌∙◌}
 use mathlib.Core.Bool.{Bool, true, false, ◌||◌}
 use mathlib.Core.List.{List, [], ◌∷◌, ◌++◌}
 use native.Mathlib.Omega.{arith}
-use native.Mathlib.Nat.{lt_of_not-le, pos_of_ne-zero, div-eq_of_lt, mul-add-mod_self_right, pow-suc, suc-mul, zero-mul}
-use lib.Count.{count_leading_zeros, leading_length, leading_top, leading_unique}
-use lib.Pow.{pow_pos, pow_mono, high, low}
+use native.Mathlib.Nat.{div-eq_of_lt, mul-add-mod_self_right, pow-suc, suc-mul, zero-mul}
+use lib.Pow.{pow_mono, high, low}
 use lib.ListN.{length, drop, set, replicate, length-set}
 use lib.Seq.{drop-drop}
 use Rattle.rules.specs.Lists.{sum}

@@ -1,5 +1,5 @@
 -- The outcomes of reading, in the table's order.
-use mathlib.Core.Path.{◌≡◌, refl, sym, ◌∙◌}
+use mathlib.Core.Path.{◌≡◌, refl, ◌∙◌}
 use lib.Dec.{eqb, ltb}
 use borrow.Author.Tests.{eqb-true, ltb-false, not-false, le-ltb}
 use Rattle.rules.proofs.BoolLaws.{neither}
@@ -7,12 +7,12 @@ use mathlib.Core.Bool.{Bool, true, false, not, ◌||◌}
 use mathlib.Core.List.{List}
 use Prim.Native.Nat.{ℕ, ◌+◌, ◌*◌, ◌-◌, ◌≤◌}
 use native.Mathlib.Omega.{arith}
-use lib.ListN.{length, drop}
+use lib.ListN.{length}
 use Rattle.rules.specs.Lists.{round_up}
 use Rattle.rules.specs.Refusals.{row, first_row, unless, outcome, refused, given}
-use Rattle.rules.specs.Message.{Form, form1, value, bits_of, field, price_width, head_width, slot_width, slots_end, length_for, set_bits, hour_bits, read_slots, is_execution, map_of, fields_of, decode, form_of, message_of, bad_filling, bad_form, wrong_form, bad_map, wrong_range, read_rows, read}
+use Rattle.rules.specs.Message.{Form, form1, value, bits_of, field, price_width, slot_width, slots_end, length_for, set_bits, is_execution, map_of, fields_of, decode, form_of, message_of, bad_filling, bad_form, wrong_form, bad_map, wrong_range, read_rows, read}
 use Rattle.rules.proofs.BitLaws.{length-bits_of, bits_of-under, field_lt}
-use Rattle.rules.proofs.MessageLaws.{formed, form-right}
+use Rattle.rules.proofs.MessageLaws.{form-right}
 use Rattle.message.proofs.FormLaws.{Long, filling-field, filling-read, length-read, slots_read}
 use Rattle.message.specs.declared.Fields.{Fields}
 use Rattle.message.specs.View.{fields_in}

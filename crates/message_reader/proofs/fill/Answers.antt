@@ -1,10 +1,10 @@
 -- The invariant: filling the hours that are left of the map, from the bits that are left, gives the slots of the whole.
-use Rattle.std.proofs.Common.{◌≡◌, ◌+◌, ◌*◌, ◌-◌, ◌/◌, ◌%◌, ◌^◌, ◌≤◌, ◌∙◌, ap, arith, bit_and, length, refl}
+use Rattle.std.proofs.Common.{◌≡◌, ◌+◌, ◌*◌, ◌-◌, ◌/◌, ◌%◌, ◌^◌, ◌∙◌, ap, arith, bit_and, refl}
 use lib.Bits.{and_mask}
 use Rattle.rules.specs.Units.{max_energy}
 use Rattle.rules.specs.Message.{bits_of, field}
 use Rattle.message_bits.proofs.WordLaws.{shifted_one}
-use Rattle.message_reader.proofs.FillLaws.{Midway, filling-start, filling-next, filling-end, slot_there, slot-energy, slot-price}
+use Rattle.message_reader.proofs.FillLaws.{filling-start, filling-next, filling-end, slot_there, slot-energy, slot-price}
 use Rattle.message_reader.proofs.fill.Goals as goal
 
 pub loop-h-init : goal.loop-h-init

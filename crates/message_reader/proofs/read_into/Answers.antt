@@ -1,7 +1,7 @@
 -- Each way out is an outcome of the table, in its order.
-use Rattle.std.proofs.Common.{◌≡◌, ◌||◌, false, true, None, ap, sym, ◌∙◌, refl}
+use Rattle.std.proofs.Common.{◌≡◌, None, ap, sym, ◌∙◌, refl}
 use Rattle.std.proofs.lemmas.Result.{err_from_is_err_and}
-use Rattle.rules.specs.Message.{form1, bits_of, form_of, wrong_form, bad_map, wrong_range}
+use Rattle.rules.specs.Message.{form1, bits_of, form_of}
 use Rattle.rules.specs.declared.row.Row.TheVariants.{Form}
 use Rattle.message_reader.specs.Slots.{blank}
 use Rattle.message_reader.proofs.ReadLaws.{to_fill, read-3, read-4, read-5, read-given}
