@@ -1,4 +1,3 @@
-use Rattle.rules.specs.Message.{bits_of}
 use Rattle.message_cursor.proofs.HourLaws.{Midway}
 use Rattle.message_cursor.proofs.fieldwise.take_hours.Given as goal
 
