@@ -36,7 +36,7 @@ length-written f m is = rw is (encode-length f m)
 
 pub row_positive : (r : Row) → 0 < number_of r
 row_positive = elim [
-    Date ↦ omega arith
+  | Date ↦ omega arith
   | Gate ↦ omega arith
   | FormRow ↦ omega arith
   | Hour ↦ omega arith

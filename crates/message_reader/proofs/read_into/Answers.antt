@@ -36,7 +36,7 @@ returns-then-bad_key-clause-outcome c =
     let f = rw c.in_ok-head.ensures.ok_part at c.right_head.ensures in
     let e : c.put.new.m ≡ blank (bits_of c.args.s.now) = c.put.ensures ∙ ap (λ b. blank (bits_of b.now)) f.1 in
     read-5 _ form1 refl _ e f.0 (sym c.if-bad_map.ensures) (elim c.then-bad_key.branch [
-        then-bad_key-via-then-bad_key w ↦ rw w.if-bad_key.true at (fields_told form1 _ refl _ e _ _ c.bad_key.ensures refl)
+      | then-bad_key-via-then-bad_key w ↦ rw w.if-bad_key.true at (fields_told form1 _ refl _ e _ _ c.bad_key.ensures refl)
       | then-bad_key-via-else-bad_key+then-fill_by_kind w ↦ rw (w.if-bad_key.false, w.if-fill_by_kind.true) at (fields_told form1 _ refl _ e _ _ c.bad_key.ensures w.fill_by_kind.ensures.judged)
     ])
 
