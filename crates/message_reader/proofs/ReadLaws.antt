@@ -94,9 +94,6 @@ module _ (bytes : List ℕ) (long : 8 ≤ length bytes) {kind map form end : ℕ
     long_read : Long form1 bytes
     long_read = found.0 ∙ length-read form1 bytes k m l
 
-    pub form-length : kind ≡ 1 → length bytes ≡ length_for form1 true (set_bits map)
-    form-length o = found.0 ∙ rw o at l
-
     pub form-filled : kind ≡ 1 → {r : Bool}
         → r ≡ not (eqb (field (slots_end form1 true (set_bits map)) (length bytes * 8 - slots_end form1 true (set_bits map)) (bits_of bytes)) 0) → r ≡ wrong_form bytes
     form-filled o q = rw (tests, t) (q ∙ filling-read form1 bytes k m long_read (rw o refl))
