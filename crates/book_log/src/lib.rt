@@ -99,7 +99,7 @@ fn at_most(n: u64, top: u64) -> u64
 pub fn number_at(p: &[u8], i: usize) -> u32
     ensures { result ≡ word_at p.now i }
 {
-    word_at(p, i) as u32
+    word_at(p, i)
 }
 
 // A mark is a byte: 0 for no.

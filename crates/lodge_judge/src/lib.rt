@@ -63,7 +63,7 @@ pub fn judge_fields(
     if bad_hours(s.hours, m.map) {
         return HOUR;
     }
-    if bad_fields(m, top) {
+    if bad_fields(&m, top) {
         return RANGE;
     }
     if bad_holder(s, key, holder) {

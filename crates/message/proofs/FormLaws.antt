@@ -10,7 +10,7 @@ use lib.Dec.{eqb, lit<, eqb-suc-zero}
 use lib.Pow.{pow_pos, mod-pow-add}
 use lib.ListN.{length, drop, length-drop}
 use lib.Seq.{take_all}
-use borrow.Author.Tests.{eq-eqb, ne_eqb, lt-ltb, le-ltb}
+use borrow.Author.Tests.{ne_eqb, lt-ltb}
 use Rattle.rules.specs.Lists.{any, sum, round_up}
 use Rattle.rules.specs.Message.{Form, bits, value, field, bits_of, head_width, set_bits, hour_bits, slot_width, slots_end, price_width, length_for, is_execution, map_of, bad_filling, bad_form}
 use Rattle.rules.proofs.BitLaws.{length-bits_of}
@@ -68,7 +68,7 @@ module _ (f : Form) where
   pub ends-in : (x : Bool) (n : ℕ) {l e : ℕ} → l ≡ length_for f x n → e ≡ slots_end f x n → (e ≤ l * 8) × (l * 8 < e + 8)
   ends-in x n p q = (omega (arith, length-end x n), omega (arith, length-end x n))
 
--- "wrong length, form, kind or filling", one after the other
+-- "A length under 8 is 3"
 
 module _ (f : Form) (bytes : List ℕ) where
   -- the length that the map and the kind fix
@@ -78,22 +78,6 @@ module _ (f : Form) (bytes : List ℕ) where
   pub form-short : length bytes < 8 → true ≡ bad_form f bytes
   unfolding bad_form
   form-short a = rw (lt-ltb (length bytes) 8 a)
-
-  pub form-length : 8 ≤ length bytes → (Long → ⊥) → true ≡ bad_form f bytes
-  unfolding bad_form
-  form-length a b = rw (le-ltb (length bytes) 8 a, ne_eqb _ _ b)
-
-  pub form-form : 8 ≤ length bytes → Long → (field 0 4 (bits_of bytes) ≡ f.number → ⊥) → true ≡ bad_form f bytes
-  unfolding bad_form
-  form-form a b d = rw (le-ltb (length bytes) 8 a, eq-eqb _ _ b, ne_eqb _ _ d)
-
-  pub form-kind : 8 ≤ length bytes → Long → field 0 4 (bits_of bytes) ≡ f.number → 1 < field 4 2 (bits_of bytes) → true ≡ bad_form f bytes
-  unfolding bad_form
-  form-kind a b d e = rw (le-ltb (length bytes) 8 a, eq-eqb _ _ b, eq-eqb _ _ d, lt-ltb _ _ e)
-
-  pub form-filling : 8 ≤ length bytes → Long → field 0 4 (bits_of bytes) ≡ f.number → field 4 2 (bits_of bytes) ≤ 1 → bad_filling f (bits_of bytes) ≡ bad_form f bytes
-  unfolding bad_form
-  form-filling a b d e = rw (le-ltb (length bytes) 8 a, eq-eqb _ _ b, eq-eqb _ _ d, le-ltb _ _ e)
 
 -- bits are all 0 where they stand for 0
 any-set : (bs : List ℕ) → any (λ b. not (eqb b 0)) bs ≡ not (eqb (value bs) 0)

@@ -1,3 +1,5 @@
 pub mod FormLaws
+pub mod HourLaws
 pub mod JudgeLaws
+pub mod OutcomeLaws
 pub mod RoundTrips

@@ -5,26 +5,27 @@ ghost use Rattle.rules.specs.Message.{form1, price_width, slots_end, set_bits, l
 use rules::MAPS;
 
 // The bits of a price: an execution has none.
+#[tactic(auto, unfolding(rules::specs::Message::price_width))]
 pub fn price_width(execution: bool) -> usize
-    ensures { (result ≡ price_width execution) × (result ≤ 15) }
+    ensures value { result ≡ price_width execution }
+    ensures most { result ≤ 15 }
 {
-    if execution {
-        return 0;
-    }
-    15
+    if execution { 0 } else { 15 }
 }
 
 // The bits of a message up to the end of its last slot.
 pub fn slots_end(execution: bool, map: u32) -> usize
-    ensures { (result ≡ slots_end form1 execution (set_bits map)) × (result ≤ 864) }
+    ensures value { result ≡ slots_end form1 execution (set_bits map) }
+    ensures most { result ≤ 864 }
 {
-    let n = u32::count_ones(map % MAPS) as usize;
-    64 + n * (17 + price_width(execution))
+    let named = (map % MAPS).count_ones() as usize;
+    64 + named * (17 + price_width(execution))
 }
 
 // "The number of set bits n fixes the length: 8 + 4n bytes, or 8 + 17n/8 rounded up."
+#[tactic(auto, unfolding(rules::specs::Message::length_for, rules::specs::Lists::round_up))]
 pub fn length_for(execution: bool, map: u32) -> usize
     ensures { result ≡ length_for form1 execution (set_bits map) }
 {
-    (slots_end(execution, map) + 7) / 8
+    slots_end(execution, map).div_ceil(8)
 }

@@ -6,35 +6,39 @@ ghost use Rattle.message.specs.View.{fields_in};
 
 use super::Fields;
 use message_ranges::{bad_key, bad_slot};
+use rules::HOURS;
 
 // Whether the map names hour h.
 pub fn named(map: u32, h: usize) -> bool
-    requires { (1 ≤ h) × (h ≤ 25) }
+    requires first { 1 ≤ h }
+    requires last { h ≤ 25 }
     ensures { result ≡ names map h }
 {
     (map >> (25 - h)) % 2 == 1
 }
 
-// In one of the 25 hours an energy or a price is outside its range.
-fn bad_hours(m: Fields, top: u32) -> bool
-    ensures { result ≡ any (bad_hour top (fields_in m)) (from 1 25) }
+// In hour h the energy or the price is outside its range.
+#[tactic(auto, unfolding(rules::specs::Message::bad_hour, message_ranges::specs::Slots::bad_slot, rules::specs::Lists::hourly))]
+fn bad_hour(m: &Fields, h: usize, top: u32) -> bool
+    requires first { 1 ≤ h }
+    requires last { h ≤ 25 }
+    ensures { result ≡ bad_hour top (fields_in m.now) h }
 {
-    for h in 1..26 {
-        let i = h - 1;
-        let set = named(m.map, h);
-        if bad_slot(top, m.execution, set, m.energies[i], m.prices[i]) {
-            return true;
-        }
-    }
-    false
+    let set = named(m.map, h);
+    bad_slot(top, m.execution, set, m.energies[h - 1], m.prices[h - 1])
+}
+
+// In one of the 25 hours it is.
+fn bad_hours(m: &Fields, top: u32) -> bool
+    ensures { result ≡ any (bad_hour top (fields_in m.now)) (from 1 25) }
+{
+    (1..HOURS + 1).any(|h| bad_hour(m, h, top))
 }
 
 // 5: a value outside its range, an energy being at most `top`.
-pub fn bad_fields(m: Fields, top: u32) -> bool
-    ensures { result ≡ bad_fields top (fields_in m) }
+#[tactic(auto, unfolding(rules::specs::Message::bad_fields, rules::specs::Message::bad_key))]
+pub fn bad_fields(m: &Fields, top: u32) -> bool
+    ensures { result ≡ bad_fields top (fields_in m.now) }
 {
-    if bad_key(m.execution, m.unit, m.contract) {
-        return true;
-    }
-    bad_hours(m, top)
+    bad_key(m.execution, m.unit, m.contract) || bad_hours(m, top)
 }

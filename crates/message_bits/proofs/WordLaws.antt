@@ -1,28 +1,15 @@
 -- Bytes as one number, and the fields in them.
 use Prim.Native.Nat.{ℕ, zero, suc, ◌+◌, ◌*◌, ◌-◌, ◌/◌, ◌%◌, ◌^◌, ◌≤◌, ◌<◌, min}
 use mathlib.Core.Path.{◌≡◌, refl, ap, sym, ◌∙◌}
-use mathlib.Core.Bool.{Bool, true, false}
 use mathlib.Core.List.{List, [], ◌∷◌}
 use native.Mathlib.Omega.{arith}
 use native.Mathlib.Nat.{zero-add, one-mul, mod-eq_of_lt, zero-min, min-zero, suc-min-suc}
-use borrow.Author.Tests.{leb-true, leb-false, le-leb, lt-leb}
-use lib.Dec.{leb}
 use lib.Pow.{pow-lt}
-use lib.ListN.{length, take, drop, get_or, length-drop, get_or-eq_default}
+use lib.ListN.{length, take, drop, get_or, length-drop}
 use Rattle.rules.specs.Message.{value, field, bits_of}
 use Rattle.rules.proofs.ListLaws.{Under}
-use Rattle.rules.proofs.BitLaws.{length-bits_of, bits_of-under, field-add, field-inner, word, field-word, word-four}
+use Rattle.rules.proofs.BitLaws.{length-bits_of, bits_of-under, field-inner, word, field-word, word-four}
 use Rattle.message_bits.specs.Bits.{word_at}
-
-pub word-past : (bytes : List ℕ) (i : ℕ) → length bytes ≤ i → 0 ≡ word_at bytes i
-unfolding word_at
-word-past bytes i h =
-    rw (
-      get_or-eq_default bytes 0 h,
-      get_or-eq_default bytes 0 {n = i + 1} (omega arith),
-      get_or-eq_default bytes 0 {n = i + 2} (omega arith),
-      get_or-eq_default bytes 0 {n = i + 3} (omega arith),
-    )
 
 one_more : (i : ℕ) (bytes : List ℕ) → word 5 i bytes ≡ word 4 i bytes * 256 + get_or bytes (i + 4) 0
 unfolding word
@@ -57,14 +44,9 @@ slot_read i c at w {bytes} u l h s e =
     let k : 8 * i + (b + w + c) ≤ length (bits_of bytes) = rw length-bits_of (omega arith) in
     rw (four-read i u l h) (sym (rw (f, g) at (field-inner (8 * i) b w c (bits_of-under bytes) k)))
 
--- the head of a message as two numbers of four bytes
-pub head_read : {bytes : List ℕ} → Under 256 bytes → 8 ≤ length bytes → {a b : ℕ} → (a ≡ word_at bytes 0) × (a < 2 ^ 32) → (b ≡ word_at bytes 4) × (b < 2 ^ 32)
-    → a * 4294967296 + b ≡ field 0 64 (bits_of bytes)
-head_read {bytes} u l e f =
-    let g = four-read 0 u (omega arith) (rw e.0 at e.1) in
-    let h = four-read 4 u (omega arith) (rw f.0 at f.1) in
-    let r : 0 + 32 + 32 ≤ length (bits_of bytes) = rw length-bits_of (omega arith) in
-    rw (e.0, f.0, g, h) (sym (field-add 0 32 32 (bits_of bytes) r))
+-- the head of a message, its first eight bytes, as one number
+pub head_read : {bytes : List ℕ} → Under 256 bytes → 8 ≤ length bytes → {n : ℕ} → n < 2 ^ 64 → n ≡ word 8 0 bytes → n ≡ field 0 64 (bits_of bytes)
+head_read u l s e = omega (arith, e) ∙ sym (field-word 8 0 64 u (omega arith) (omega arith))
 
 -- a field before the slots, from the head as one number
 pub head-part : (at w below : ℕ) (bytes : List ℕ) → 8 ≤ length bytes → at + w + below ≡ 64 → {word r : ℕ} → word ≡ field 0 64 (bits_of bytes)
@@ -91,20 +73,3 @@ field-there at w bytes = rw (← length-bits_of bytes, ← length-drop at (bits_
 pub field-none : (at : ℕ) (bs : List ℕ) → field at 0 bs ≡ 0
 unfolding field value
 field-none at bs = refl
-
--- the test whether the bits of a field are there
-module _ (at w : ℕ) (bytes : List ℕ) where
-  abbrev has : Bool
-  has = leb (at + w) (length (bits_of bytes))
-
-  pub has_all : at + w ≤ 8 * length bytes → true ≡ has
-  has_all h = sym (le-leb (at + w) (length (bits_of bytes)) (omega (arith, length-bits_of bytes)))
-
-  pub has-not : 8 * length bytes < at + w → false ≡ has
-  has-not h = sym (lt-leb (at + w) (length (bits_of bytes)) (omega (arith, length-bits_of bytes)))
-
-  pub all-had : has ≡ true → at + w ≤ 8 * length bytes
-  all-had e = omega (arith, length-bits_of bytes, leb-true (at + w) (length (bits_of bytes)) e)
-
-  pub not-had : has ≡ false → 8 * length bytes < at + w
-  not-had e = omega (arith, length-bits_of bytes, leb-false (at + w) (length (bits_of bytes)) e)

@@ -9,9 +9,10 @@ use lib.Dec.{eqb}
 use lib.ListN.{length, take, drop, get_or, set, length-set, drop_of_length-le}
 use lib.Seq.{drop-cons, take-suc-set, take_all}
 use Rattle.rules.specs.Lists.{hourly}
-use Rattle.rules.specs.Message.{bit, bits, hour_bits, names}
+use Rattle.rules.specs.Message.{bit, bits, bits_of, hour_bits, names}
 use Rattle.rules.proofs.BitLaws.{length-bits, bits-under}
 use Rattle.rules.proofs.ListLaws.{all-at}
+use Rattle.message_cursor.specs.declared.Reader.{Reader}
 use Rattle.message_cursor.specs.Taking.{SlotTaken, SlotsTaken, none, more}
 
 -- the bit of an hour in the map
@@ -69,3 +70,8 @@ module _ (bs : List ℕ) (w : ℕ) (x : Bool) (map at : ℕ) where
     passed-all h =
         rw (← take_all i energies (omega (arith, c.energies-long)), ← take_all i prices (omega (arith, c.prices-long)), ← append-nil (take i energies), ← append-nil (take i prices))
         (c.whole [] [] next (rw (drop_of_length-le (hour_bits map) {i = i} (rw (long map) h)) none))
+
+-- the same of form 1, by a reader that stands at the next hour's slot
+pub record Midway (old : Reader) (x : Bool) (map : ℕ) (reader : Reader) (energies prices : List ℕ) (i : ℕ) : Type 0 where
+  pub same : reader.message ≡ old.message
+  pub passed : Passed (bits_of old.message.now) 17 x map old.at energies prices reader.at i

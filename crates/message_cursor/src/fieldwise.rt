@@ -1,135 +1,102 @@
-// A lodging message read field by field: each field is taken by a reader set over the message.
+// A lodging message read field by field, by a reader set over it.
 ghost use Rattle.std.specs.Prelude.{◌≡◌, length};
 ghost use Rattle.rules.specs.Refusals.{given};
-ghost use Rattle.rules.specs.Message.{bit, bits_of, hour_bits, message_of, read as reading};
-ghost use Rattle.message.specs.View.{no_fields, reading_as};
+ghost use Rattle.rules.specs.Message.{form1, bit, bits_of, hour_bits, message_of, read as reading};
+ghost use Rattle.message.specs.View.{fields_as, reading_as, reading_of};
 ghost use Rattle.message_cursor.specs.Taking.{SlotTaken, SlotsTaken};
 
-use crate::take_from;
+use crate::Reader;
 use message::form::price_width;
 use message::judge::{bad_fields, named};
-use message::{Fields, Reading};
+use message::{Fields, NO_FIELDS, Reading};
 use message_ranges::bad_map;
 use message_reader::{bad_form, top_of};
 use rules::HOURS;
-use rules::row::{FORM, HOUR, RANGE};
+use rules::row::Row;
 
-// An hour's energy and price, and the position after them.
+// An hour's energy and price.
 #[derive(Clone, Copy)]
 struct Slot {
     energy: u32,
     price: u32,
-    next: usize,
 }
 
-// The slot of an hour from bit `at` on: an energy of `width` bits, "and for an offer price 15". An hour that is not named has none.
-fn slot_from(s: &[u8], at: usize, width: usize, execution: bool, named: bool) -> Slot
-    ensures { SlotTaken (bits_of s.now) width execution at (bit named) result.energy result.price result.next }
+// The next slot: energy 17, "and for an offer price 15". An hour that is not named has none.
+fn take_slot(reader: &mut Reader, execution: bool, named: bool) -> Slot
+    ensures taken { SlotTaken (bits_of reader.old.message.now) form1.width execution reader.old.at (bit named) result.energy result.price reader.new.at }
+    ensures same { reader.new.message ≡ reader.old.message }
 {
     if named {
-        let energy = take_from(s, at, width);
-        let price = take_from(s, energy.next, price_width(execution));
-        return Slot {
-            energy: energy.value,
-            price: price.value,
-            next: price.next,
-        };
-    }
-    Slot {
-        energy: 0,
-        price: 0,
-        next: at,
+        let energy = reader.take(17);
+        let price = reader.take(price_width(execution));
+        Slot { energy, price }
+    } else {
+        Slot {
+            energy: 0,
+            price: 0,
+        }
     }
 }
 
-// Fills in every hour's energy and price, the slots from bit `at` on, and gives the position after the last.
-fn slots_from(
-    s: &[u8],
-    at: usize,
-    width: usize,
-    execution: bool,
-    map: u32,
-    energies: &mut [u32; HOURS],
-    prices: &mut [u32; HOURS],
-) -> usize
-    requires { (length energies.old ≡ 25) × (length prices.old ≡ 25) }
-    ensures { SlotsTaken (bits_of s.now) width execution (hour_bits map) at energies.new prices.new result }
+// Fills in every hour's energy and price, after the fields before the slots were taken.
+fn take_hours(reader: &mut Reader, m: &mut Fields)
+    ensures taken { SlotsTaken (bits_of reader.old.message.now) form1.width m.old.execution (hour_bits m.old.map) reader.old.at m.new.energies m.new.prices reader.new.at }
+    ensures others { m.new ≡ record m.old { energies = m.new.energies; prices = m.new.prices } }
 {
-    let mut next = at;
+    let execution = m.execution;
+    let map = m.map;
+    let energies = &mut m.energies;
+    let prices = &mut m.prices;
     for i in 0..HOURS {
-        let slot = slot_from(s, next, width, execution, named(map, i + 1));
+        let slot = take_slot(reader, execution, named(map, i + 1));
         energies[i] = slot.energy;
         prices[i] = slot.price;
-        next = slot.next;
     }
-    next
 }
 
 // What a message says, its fields taken one after the other from the first bit on.
 fn fields_of(s: &[u8]) -> Fields
-    ensures { result ≡ (reading_as (given (message_of s.now))).fields }
+    ensures { result ≡ fields_as (message_of s.now) }
 {
-    let form = take_from(s, 0, 4);
-    let kind = take_from(s, form.next, 2);
-    let mark = take_from(s, kind.next, 1);
-    let unit = take_from(s, mark.next, 16);
-    let contract = take_from(s, unit.next, 16);
-    let map = take_from(s, contract.next, 25);
-    let execution = kind.value == 1;
-    let mut energies = [0u32; HOURS];
-    let mut prices = [0u32; HOURS];
-    let _end = slots_from(
-        s,
-        map.next,
-        17,
-        execution,
-        map.value,
-        &mut energies,
-        &mut prices,
-    );
-    Fields {
-        execution,
-        default: mark.value == 1,
-        reserved: 0,
-        unit: unit.value,
-        contract: contract.value,
-        map: map.value,
-        energies,
-        prices,
-    }
+    let mut reader = Reader::over(s);
+    let _form = reader.take(4);
+    let kind = reader.take(2);
+    let mark = reader.take(1);
+    let unit = reader.take(16);
+    let contract = reader.take(16);
+    let map = reader.take(25);
+    let mut m = Fields {
+        execution: kind == 1,
+        default: mark == 1,
+        unit,
+        contract,
+        map,
+        ..NO_FIELDS
+    };
+    take_hours(&mut reader, &mut m);
+    m
 }
 
-fn refused(n: u32) -> Reading
-    ensures { result ≡ record { row = n; fields = no_fields } }
-{
-    Reading {
-        row: n,
-        fields: Fields {
-            execution: false,
-            default: false,
-            reserved: 0,
-            unit: 0,
-            contract: 0,
-            map: 0,
-            energies: [0; HOURS],
-            prices: [0; HOURS],
-        },
-    }
-}
-
-// A message's fields, or the refusal: what `message_reader::read` answers.
-pub fn read(s: &[u8]) -> Reading
-    ensures { result ≡ reading_as (reading s.now) }
+// A message's fields, or the refusal: 3, 4, 5 in the table's order.
+fn read_fields(s: &[u8]) -> Result<Fields, Row>
+    ensures { reading_of result ≡ reading_as (reading s.now) }
 {
     if bad_form(s) {
-        return refused(FORM);
+        return Err(Row::Form);
     }
     let m = fields_of(s);
     if bad_map(m.map) {
-        return refused(HOUR);
+        return Err(Row::Hour);
     }
-    if bad_fields(m, top_of(s)) {
-        return refused(RANGE);
+    if bad_fields(&m, top_of(s)) {
+        return Err(Row::Range);
     }
-    Reading { row: 0, fields: m }
+    Ok(m)
+}
+
+// The same as C has it: what `message_reader::read` answers.
+pub fn read(s: &[u8]) -> Reading
+    ensures { result ≡ reading_as (reading s.now) }
+{
+    Reading::from(read_fields(s))
 }

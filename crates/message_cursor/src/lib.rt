@@ -5,9 +5,8 @@ pub mod fieldwise;
 
 ghost use Rattle.std.specs.Prelude.{◌≡◌, ◌+◌, ◌-◌, ◌^◌, min, leb, length};
 ghost use Rattle.rules.specs.Message.{bits_of, field};
-ghost use Rattle.message_cursor.specs.Taking.{Takes};
 
-use message_bits::{Taken, has_at, take_at};
+use message_bits::{bits_at, has_at};
 
 #[derive(Clone, Copy)]
 pub struct Reader<'a> {
@@ -18,7 +17,8 @@ pub struct Reader<'a> {
 impl<'a> Reader<'a> {
     // A reader set over a message, at its first bit.
     pub fn over(message: &'a [u8]) -> Reader<'a>
-        ensures { (result.message ≡ message.entry) × (result.at ≡ 0) }
+        ensures over { result.message ≡ message.entry }
+        ensures at_first { result.at ≡ 0 }
     {
         Reader { message, at: 0 }
     }
@@ -26,13 +26,14 @@ impl<'a> Reader<'a> {
     // The next `width` bits as a number, at most 32 of them, and the reader moves past them. Bits beyond the message's end are none:
     // the number is that of the bits before it.
     pub fn take(&mut self, width: usize) -> u32
-        ensures { (result ≡ field self.old.at (min width 32) (bits_of self.old.message.now))
-            × (self.new.message ≡ self.old.message)
-            × (self.new.at ≡ min (self.old.at + min width 32) (2 ^ 64 - 1)) }
+        ensures value { result ≡ field self.old.at (min width 32) (bits_of self.old.message.now) }
+        ensures same { self.new.message ≡ self.old.message }
+        ensures moved { self.new.at ≡ min (self.old.at + min width 32) (2 ^ 64 - 1) }
     {
-        let t = take_at(self.message, self.at, width);
-        self.at = t.next;
-        t.value
+        let taken = width.min(32);
+        let value = bits_at(self.message, self.at, taken);
+        self.at = self.at.saturating_add(taken);
+        value
     }
 
     // Whether the message has the next `width` bits; of 0 bits, whether all that were taken were there.
@@ -40,18 +41,5 @@ impl<'a> Reader<'a> {
         ensures { result ≡ leb (self.entry.at + width) (length (bits_of self.entry.message.now)) }
     {
         has_at(self.message, self.at, width)
-    }
-}
-
-// One field by a reader set over the message: at bit `at` it takes the next `width` bits. The number, and the position at which it then stands.
-pub fn take_from(message: &[u8], at: usize, width: usize) -> Taken
-    ensures { Takes (bits_of message.now) at width result.value result.next }
-{
-    let mut reader = Reader::over(message);
-    reader.at = at;
-    let value = reader.take(width);
-    Taken {
-        value,
-        next: reader.at,
     }
 }

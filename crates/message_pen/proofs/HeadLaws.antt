@@ -1,7 +1,8 @@
 -- The first 39 bits of a message as one number.
 use Prim.Native.Nat.{ℕ, ◌+◌, ◌*◌, ◌≤◌, ◌<◌}
 use mathlib.Core.Bool.{Bool, true, false, ◌||◌}
-use mathlib.Core.Path.{◌≡◌, ap, sym, ◌∙◌}
+use mathlib.Core.Path.{◌≡◌, refl, ap, sym, ◌∙◌}
+use mir.Val.{bool_byte}
 use mathlib.Core.List.{List, ◌++◌, append_assoc, append-nil}
 use native.Mathlib.Omega.{arith}
 use lib.Dec.{eqb, ltb}
@@ -33,6 +34,12 @@ head-fits top m h =
     (number_fits m.key.unit a.0, contract-fits m.key.execution m.key.contract a.1)
 
 -- The head
+
+-- a mark as a bit
+pub bit-of : (b : Bool) → (bool_byte b ≡ bit b) × (bool_byte b ≤ 1)
+unfolding bit
+bit-of true = (refl, omega arith)
+bit-of false = (refl, omega arith)
 
 head-joined : (k x d u c : ℕ) (rest : List ℕ) → x < 4 → d < 2 → u < 65536 → c < 65536
     → bits 39 ((((k * 4 + x) * 2 + d) * 65536 + u) * 65536 + c) ++ rest ≡ bits 4 k ++ (bits 2 x ++ (bits 1 d ++ (bits 16 u ++ (bits 16 c ++ rest))))

@@ -1,13 +1,15 @@
 -- What the buffer holds as bits are appended.
 use Prim.Native.Nat.{ℕ, zero, suc, ◌+◌, ◌*◌, ◌-◌, ◌/◌, ◌%◌, ◌^◌, ◌≤◌, ◌<◌}
-use mathlib.Core.Path.{◌≡◌, ap, sym, ◌∙◌}
+use Rattle.std.specs.Int.{byte_at, bytes_high_first}
+use borrow.Rule.Slice.PartMut.{put_mid}
+use mathlib.Core.Path.{◌≡◌, refl, ap, sym, ◌∙◌}
 use mathlib.Core.List.{List, [], ◌++◌, append_assoc, append-nil}
 use native.Mathlib.Omega.{arith}
-use native.Mathlib.Nat.{add-zero, pos_of_ne-zero}
-use native.Mathlib.Numerals.{add-one}
+use native.Mathlib.Nat.{add-zero, zero-add, suc-add, pos_of_ne-zero, pow-suc}
 use lib.Arith.{digits_lt}
-use lib.Pow.{pow_mono, shl_exact}
-use lib.ListN.{length, set, length-append}
+use lib.Pow.{pow-add, pow_mono, shl_exact}
+use lib.ListN.{length, set, take, drop, length-append}
+use lib.Seq.{drop-drop, sets-eq}
 use Rattle.rules.specs.Lists.{round_up}
 use Rattle.rules.specs.Message.{bits, groups, bytes_of}
 use Rattle.message_pen.specs.declared.Pen.{Pen}
@@ -15,38 +17,39 @@ use Rattle.message_pen.specs.Pens.{stored, completed, Appended, Room}
 use Rattle.rules.proofs.BitLaws.{length-bits, bits-split, bits-join, length-bytes_of}
 use Rattle.message_pen.proofs.PackLaws.{bits-mod, bytes_of-more, bytes_of-whole, bytes_of-last, sets-append}
 
--- Bytes, one after the other
+-- Bytes, highest first
 
-pub stored-none : (buf : List ℕ) (at v n : ℕ) → n ≤ 0 → stored buf at v n ≡ buf
-unfolding stored bits bytes_of groups round_up
-stored-none buf at v n h = let z : n ≡ 0 = omega arith in rw z
+bytes-power : (k : ℕ) → 256 ^ k ≡ 2 ^ (k * 8)
+bytes-power zero = refl
+bytes-power (suc k) =
+    let e : suc k * 8 ≡ k * 8 + 8 = omega arith in
+    rw e (omega (arith, pow-suc 256 k, pow-add 2 (k * 8) 8, bytes-power k))
 
-pub stored_next : (buf : List ℕ) (at v n : ℕ) → 0 < n
-    → stored (set buf at (v / 2 ^ ((n - 1) * 8) % 256)) (at + 1) v (n - 1) ≡ stored buf at v n
-unfolding stored
-stored_next buf at v zero h = absurd (omega arith)
-stored_next buf at v (suc n) h =
-    let q : suc n - 1 ≡ n = omega arith in
-    rw (q, add-one at, bytes_of-more n v)
+byte-same : (k v : ℕ) → byte_at k v ≡ v / 2 ^ (k * 8) % 256
+byte-same zero v = omega arith
+byte-same (suc k) v = rw (bytes-power (suc k)) refl
 
-pub stored-four : (buf : List ℕ) (at v : ℕ)
-    → set (set (set (set buf at (v / 2 ^ 24 % 256)) (at + 1) (v / 2 ^ 16 % 256)) (at + 2) (v / 2 ^ 8 % 256)) (at + 3) (v % 256) ≡ stored buf at v 4
-stored-four buf at v =
-    let a = set buf at (v / 2 ^ 24 % 256) in
-    let b = set a (at + 1) (v / 2 ^ 16 % 256) in
-    let c = set b (at + 2) (v / 2 ^ 8 % 256) in
-    let d = set c (at + 3) (v / 2 ^ 0 % 256) in
-    let one : v ≡ v / 2 ^ 0 = omega arith in
-    let two : at + 2 ≡ at + 1 + 1 = omega arith in
-    let three : at + 3 ≡ at + 2 + 1 = omega arith in
-    ap (λ x. set c (at + 3) (x % 256)) one
-    ∙ sym (stored-none d (at + 3 + 1) v 0 (omega arith))
-    ∙ stored_next c (at + 3) v 1 (omega arith)
-    ∙ ap (λ i. stored c i v 1) three
-    ∙ stored_next b (at + 2) v 2 (omega arith)
-    ∙ ap (λ i. stored b i v 2) two
-    ∙ stored_next a (at + 1) v 3 (omega arith)
-    ∙ stored_next buf at v 4 (omega arith)
+high-first : (n v : ℕ) → bytes_high_first n v ≡ bytes_of (bits (n * 8) v)
+unfolding bits bytes_of groups round_up
+high-first zero v = refl
+high-first (suc n) v = rw (bytes_of-more n v, byte-same n v, high-first n v)
+
+-- of more bytes, the last n
+last-bytes : (k n v : ℕ) → drop k (bytes_high_first (k + n) v) ≡ bytes_high_first n v
+last-bytes zero n v = rw zero-add
+last-bytes (suc k) n v = rw (suc-add k n) (last-bytes k n v)
+
+-- the last n bytes of v, copied into a buffer
+pub stored-copy : (buf : List ℕ) (at v n : ℕ) {new : List ℕ} → n ≤ 8 → at + n ≤ length buf → new ≡ drop (8 - n) (bytes_high_first 8 v)
+    → put_mid at (at + n - at) buf new ≡ stored buf at v n
+unfolding stored round_up
+stored-copy buf at v n {new} e l q =
+    let b = bytes_of (bits (n * 8) v) in
+    let m : length b ≡ n = rw (length-bytes_of (bits (n * 8) v), length-bits (n * 8) v) (omega arith) in
+    let k : at + n - at ≡ n = omega arith in
+    let j : 8 ≡ 8 - n + n = omega arith in
+    let r : new ≡ b = q ∙ ap (λ i. drop (8 - n) (bytes_high_first i v)) j ∙ last-bytes (8 - n) n v ∙ high-first n v in
+    rw (k, r, drop-drop n at buf, ← append_assoc (take at buf) b (drop (at + n) buf)) (sym (sets-eq b buf at (omega (arith, m)) ∙ ap (λ i. take at buf ++ b ++ drop (at + i) buf) m))
 
 -- Bits, appended
 

@@ -1,15 +1,14 @@
 -- The hours that a map names: their slots, one after the other, and their ranges.
-use Prim.Native.Nat.{ℕ, zero, suc, ◌+◌, ◌*◌, ◌-◌, ◌%◌, ◌^◌, ◌≤◌, ◌<◌}
+use Prim.Native.Nat.{ℕ, zero, suc, ◌+◌, ◌*◌, ◌-◌, ◌^◌, ◌≤◌, ◌<◌}
 use mathlib.Core.Bool.{Bool, true, false, not, cond, ◌||◌, true≢false, false≢true}
 use mathlib.Core.Logic.{◌⊎◌, inl, inr}
 use mathlib.Core.Path.{◌≡◌, refl, ap, sym, ◌∙◌}
 use mathlib.Core.List.{List, [], ◌++◌, append-nil}
 use native.Mathlib.Omega.{arith}
-use native.Mathlib.Nat.{add-zero, zero-div, one-mul, div-eq_of_lt, pow-suc, eq-or-lt_of_le, lt_of_lt_of_le, lt_of_not-le, lt_irrefl, le_trans, pos_of_ne-zero}
+use native.Mathlib.Nat.{add-zero, zero-div, div-eq_of_lt, pow-suc, eq-or-lt_of_le, lt_of_lt_of_le, pos_of_ne-zero}
 use lib.Dec.{eqb, leb, ltb}
-use lib.Count.{count_leading_zeros, leading_top}
 use lib.Arith.{digits_lt}
-use lib.Pow.{pow_mono, pow-add, shl_exact, high, low}
+use lib.Pow.{pow_mono, pow-add, high, low}
 use lib.ListN.{drop, get_or}
 use lib.Seq.{get_or-drop}
 use borrow.Author.Tests.{ltb-false, not-false, eqb-true, eqb-false, leb-false}
@@ -18,7 +17,8 @@ use Rattle.rules.specs.Message.{Fields, bits, slot, slots, slot_width, price_wid
 use Rattle.rules.proofs.BoolLaws.{neither}
 use Rattle.rules.proofs.ListLaws.{any_false, all_from, hourly-suc}
 use Rattle.rules.proofs.BitLaws.{bits-join}
-use Rattle.message_pen.specs.Pens.{SlotFits, SlotWord, FirstHour, slots_of}
+use Rattle.message.specs.Hours.{FirstHour}
+use Rattle.message_pen.specs.Pens.{SlotFits, SlotWord, slots_of}
 use Rattle.message_pen.proofs.PackLaws.{no_bits, bits-mod}
 
 -- The next hour
@@ -104,26 +104,6 @@ unfolding bad_map
 map-fits map h =
     let a = neither (eqb map 0) (leb (2 ^ 25) map) h in
     (pos_of_ne-zero (eqb-false map 0 a.0), leb-false (2 ^ 25) map a.1)
-
--- The first hour of a map
-
--- the index of the highest bit that is set, by the zeros before it
-pub leading : (map : ℕ) → 0 < map → map < 2 ^ 25
-    → (7 ≤ count_leading_zeros 32 map) × (count_leading_zeros 32 map ≤ 31) × (2 ^ (31 - count_leading_zeros 32 map) ≤ map) × (map < 2 ^ (31 - count_leading_zeros 32 map) * 2)
-leading map p h =
-    let t = leading_top 32 map p (omega arith) in
-    let j = t.0 in
-    let e : 31 - count_leading_zeros 32 map ≡ j = omega (arith, t.1) in
-    let k : j < 25 = lt_of_not-le (λ (g : 25 ≤ j). lt_irrefl map (lt_of_lt_of_le h (le_trans (pow_mono {i = 25} {j = j} g) t.2))) in
-    (omega (arith, t.1), omega (arith, t.1), rw e t.2, rw e (omega (arith, t.3, pow-suc 2 j)))
-
-pub one_shifted : (k : ℕ) → k ≤ 31 → 1 * 2 ^ k % 2 ^ 32 ≡ 2 ^ k
-one_shifted k h = shl_exact {a = 1} 1 k 32 (omega arith) (omega arith) ∙ one-mul (2 ^ k)
-
-pub first-hour : (map z b : ℕ) → 7 ≤ z → z ≤ 31 → 2 ^ (31 - z) ≤ map → map < 2 ^ (31 - z) * 2 → b ≡ 2 ^ (31 - z) → FirstHour map (z - 7) (map - b)
-first-hour map z b h k l u e =
-    let q : 24 - (z - 7) ≡ 31 - z = omega arith in
-    record { within = omega arith; first = rw (q, e) (omega arith); after = rw (q, e) (omega arith) }
 
 -- the bits of the slot of hour i, counted from 0
 unfoldable pub slot_at : ℕ → Fields → ℕ → List ℕ

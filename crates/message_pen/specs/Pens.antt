@@ -1,5 +1,5 @@
 -- Writing bits into a buffer of bytes: how far a message is written, and what the buffer holds once it is written out.
-use Rattle.std.specs.Prelude.{ℕ, ◌+◌, ◌*◌, ◌-◌, ◌/◌, ◌%◌, ◌^◌, ◌≤◌, ◌<◌, Bool, false, ◌≡◌, List, ◌++◌, length}
+use Rattle.std.specs.Prelude.{ℕ, ◌+◌, ◌*◌, ◌/◌, ◌%◌, ◌^◌, ◌≤◌, ◌<◌, Bool, false, ◌≡◌, List, ◌++◌, length}
 use Rattle.std.proofs.lemmas.List.Edits.{sets}
 use Rattle.rules.specs.Units.{max_energy}
 use Rattle.rules.specs.Message as M
@@ -43,9 +43,3 @@ pub record SlotFits (w : ℕ) (execution : Bool) (e p : ℕ) : Type 0 where
 pub record SlotWord (w : ℕ) (execution : Bool) (e p v : ℕ) : Type 0 where
   pub small : v < 2 ^ M.slot_width w execution
   pub bits : M.bits (M.slot_width w execution) v ≡ M.slot w execution 1 e p
-
--- the first hour of a map, counted from 0, is its highest bit; `rest` is the map without it
-pub record FirstHour (map hour rest : ℕ) : Type 0 where
-  pub within : hour < 25
-  pub first : map ≡ 2 ^ (24 - hour) + rest
-  pub after : rest < 2 ^ (24 - hour)

@@ -4,16 +4,17 @@ use mathlib.Core.Path.{◌≡◌, refl, ap, sym, ◌∙◌}
 use mathlib.Core.Bool.{Bool, true, false, ◌||◌}
 use mathlib.Core.List.{List, [], ◌∷◌, ◌++◌}
 use native.Mathlib.Omega.{arith}
-use native.Mathlib.Nat.{lt_of_not-le, pos_of_ne-zero, div-eq_of_lt, mul-add-mod_self_right, pow-suc, suc-mul, zero-mul}
-use lib.Count.{count_leading_zeros, leading_length, leading_top, leading_unique}
-use lib.Pow.{pow_pos, pow_mono, high, low}
+use native.Mathlib.Nat.{div-eq_of_lt, mul-add-mod_self_right, pow-suc, suc-mul, zero-mul}
+use lib.Pow.{pow_mono, high, low}
 use lib.ListN.{length, drop, set, replicate, length-set}
 use lib.Seq.{drop-drop}
 use Rattle.rules.specs.Lists.{sum}
+use Rattle.rules.specs.Units.{max_energy}
 use Rattle.rules.specs.Message.{bits, bits_of, field, price_width, slot_width, set_bits, hour_bits, read_slots}
 use Rattle.rules.proofs.BitLaws.{length-bits, length-bits_of, bits_of-under, bits-same, field-drop, field_lt, field-add}
 use Rattle.message_ranges.specs.Slots.{bad_slot}
 use Rattle.message_reader.specs.Slots.{bad_slots}
+use Rattle.message.specs.Hours.{FirstHour}
 use Rattle.message.proofs.FormLaws.{slots-most}
 
 -- A map of w bits whose first set bit has k bits before it and j after it
@@ -100,64 +101,33 @@ or_assoc : (a b c : Bool) → (a || b || c) ≡ (a || (b || c))
 or_assoc true b c = refl
 or_assoc false b c = refl
 
--- The first hour that a map names, h hours before it
+-- The first hour that a map names, h hours before it, and the rest of the map
 
--- it is found by its leading zeros, also in 32 bits
-module _ (map : ℕ) (l : map < 2 ^ 25) where
-  short : (m : ℕ) × (count_leading_zeros 32 map + m ≡ 32) × (map < 2 ^ m) × (2 ^ m ≤ 2 * map + 1) × (m ≤ 25)
-  short =
-      let t = leading_length 32 map (omega (arith, l)) in
-      let s : t.0 < 26 = lt_of_not-le (λ g. absurd (omega (arith, l, t.3, pow_mono {i = 26} {j = t.0} g))) in
-      (t.0, t.1, t.2, t.3, omega arith)
+module _ {map h rest : ℕ} (t : FirstHour map h rest) where
+  whole : 1 * 2 ^ (24 - h) + rest ≡ map
+  whole = omega (arith, t.first)
 
-  pub leading-seven : 7 ≤ count_leading_zeros 32 map
-  leading-seven = let t = short in omega (arith, t.1, t.4)
-
-  pub leading-here : count_leading_zeros 32 map - 7 ≡ count_leading_zeros 25 map
-  leading-here = let t = short in leading_unique 25 map (count_leading_zeros 32 map - 7) t.0 (omega (arith, t.1, t.4)) t.2 t.3
-
--- the map without it is below its bit
-pub record Next (map h : ℕ) : Type 0 where
-  pub inside : h < 25
-  pub above : 2 ^ (24 - h) ≤ map
-  pub under : map - 2 ^ (24 - h) < 2 ^ (24 - h)
-
-pub next : (map h : ℕ) → map < 2 ^ 25 → (map ≡ 0 → ⊥) → h ≡ count_leading_zeros 25 map → Next map h
-next map h l z e =
-    let t = leading_top 25 map (pos_of_ne-zero z) l in
-    let j : t.0 ≡ 24 - h = omega (arith, t.1) in
-    let a = rw j at t.2 in
-    let b = rw j at t.3 in
-    record { inside = omega (arith, t.1); above = a; under = omega (arith, pow-suc 2 (24 - h)) }
-
-module _ {map h : ℕ} (t : Next map h) where
-  whole : 1 * 2 ^ (24 - h) + (map - 2 ^ (24 - h)) ≡ map
-  whole = omega (arith, t.above)
-
-  here : hour_bits map ≡ replicate h 0 ++ (1 ∷ bits (24 - h) (map - 2 ^ (24 - h)))
+  here : hour_bits map ≡ replicate h 0 ++ (1 ∷ bits (24 - h) rest)
   unfolding hour_bits
-  here = ap (bits 25) (sym whole) ∙ bits-first h 25 (24 - h) (map - 2 ^ (24 - h)) (omega (arith, t.inside)) t.under
+  here = ap (bits 25) (sym whole) ∙ bits-first h 25 (24 - h) rest (omega (arith, t.within)) t.after
 
-  gone : hour_bits (map - 2 ^ (24 - h)) ≡ replicate h 0 ++ (0 ∷ bits (24 - h) (map - 2 ^ (24 - h)))
+  gone : hour_bits rest ≡ replicate h 0 ++ (0 ∷ bits (24 - h) rest)
   unfolding hour_bits
-  gone = bits-after h 25 (24 - h) (map - 2 ^ (24 - h)) (omega (arith, t.inside)) t.under
-
-  pub less : map - 2 ^ (24 - h) < map
-  less = omega (arith, t.above, pow_pos (24 - h))
+  gone = bits-after h 25 (24 - h) rest (omega (arith, t.within)) t.after
 
   -- one named hour less
-  pub count_next : set_bits map ≡ suc (set_bits (map - 2 ^ (24 - h)))
+  pub count_next : set_bits map ≡ suc (set_bits rest)
   unfolding set_bits sum
-  count_next = rw (here, gone, sum_zeros) (omega (arith, sum_zeros h (0 ∷ bits (24 - h) (map - 2 ^ (24 - h)))))
+  count_next = rw (here, gone, sum_zeros) (omega (arith, sum_zeros h (0 ∷ bits (24 - h) rest)))
 
   pub fill-next : (f : List ℕ → ℕ) (n : ℕ) (bs es : List ℕ) → h < length es
-      → fill_slots f n (hour_bits map) bs es ≡ fill_slots f n (hour_bits (map - 2 ^ (24 - h))) (drop n bs) (set es h (f bs))
-  fill-next f n bs es l = rw (here, gone) (fill-first f n h (bits (24 - h) (map - 2 ^ (24 - h))) bs es l)
+      → fill_slots f n (hour_bits map) bs es ≡ fill_slots f n (hour_bits rest) (drop n bs) (set es h (f bs))
+  fill-next f n bs es l = rw (here, gone) (fill-first f n h (bits (24 - h) rest) bs es l)
 
   pub bad-next : (w top : ℕ) (x : Bool) (bs : List ℕ)
       → bad_slots w top x (hour_bits map) bs
-      ≡ (bad_slot top x true (field 0 w bs) (field w (price_width x) bs) || bad_slots w top x (hour_bits (map - 2 ^ (24 - h))) (drop (slot_width w x) bs))
-  bad-next w top x bs = rw (here, gone) (bad-first w top x h (bits (24 - h) (map - 2 ^ (24 - h))) bs)
+      ≡ (bad_slot top x true (field 0 w bs) (field w (price_width x) bs) || bad_slots w top x (hour_bits rest) (drop (slot_width w x) bs))
+  bad-next w top x bs = rw (here, gone) (bad-first w top x h (bits (24 - h) rest) bs)
 
 -- A slot as one number: the energy of w bits and, below it, the price
 
@@ -242,7 +212,7 @@ module _ (start w top : ℕ) (bytes : List ℕ) (x : Bool) (map : ℕ) where
     pub filling-end : rest ≡ 0 → (bad ≡ Bad) × (energies ≡ Slots (field 0 w)) × (prices ≡ Slots (field w (price_width x)))
     filling-end z = (judged z, full (field 0 w) energies z i.energies-so, full (field w (price_width x)) prices z i.prices-so)
 
-    module _ (h : ℕ) (t : Next rest h) where
+    module _ (h rest' : ℕ) (t : FirstHour rest h rest') where
       -- the bits of the next slot are there
       pub room_next : (at + w + price_width x ≤ 8 * length bytes) × (at + w + price_width x ≤ start + 25 * (w + 15)) × (start ≤ at)
       unfolding slot_width
@@ -255,7 +225,7 @@ module _ (start w top : ℕ) (bytes : List ℕ) (x : Bool) (map : ℕ) where
       pub filling-next : Filling (set energies h (field at w (bits_of bytes)))
           (set prices h (field (at + w) (price_width x) (bits_of bytes)))
           (at + w + price_width x)
-          (rest - 2 ^ (24 - h))
+          rest'
           (bad || bad_slot top x true (field at w (bits_of bytes)) (field (at + w) (price_width x) (bits_of bytes)))
       unfolding slot_width field
       filling-next =
@@ -265,14 +235,27 @@ module _ (start w top : ℕ) (bytes : List ℕ) (x : Bool) (map : ℕ) where
           let e : drop n bs ≡ drop (at + w + price_width x) (bits_of bytes) = rw (drop-drop n at (bits_of bytes), q) in
           let p : field w (price_width x) bs ≡ field (at + w) (price_width x) (bits_of bytes) = field-drop at w (price_width x) (bits_of bytes) in
           record {
-            small = omega (arith, i.small);
+            small = omega (arith, i.small, t.first);
             energies-long = length-set energies h _ ∙ i.energies-long;
             prices-long = length-set prices h _ ∙ i.prices-long;
             room = omega (arith, rw (count_next t, suc-mul) at i.room);
             near = omega (arith, rw (count_next t, suc-mul) at i.near);
             passed = suc i.passed;
             begun = omega (arith, i.begun, suc-mul i.passed n);
-            energies-so = rw (← e) (sym (fill-next t (field 0 w) n bs energies (omega (arith, t.inside, i.energies-long))) ∙ i.energies-so);
-            prices-so = rw (← e, ← p) (sym (fill-next t (field w (price_width x)) n bs prices (omega (arith, t.inside, i.prices-long))) ∙ i.prices-so);
-            bad-so = rw (← e, ← p) (or_assoc bad (bad_slot top x true (field 0 w bs) (field w (price_width x) bs)) (bad_slots w top x (hour_bits (rest - 2 ^ (24 - h))) (drop n bs)) ∙ ap (λ b. bad || b) (sym (bad-next t w top x bs)) ∙ i.bad-so);
+            energies-so = rw (← e) (sym (fill-next t (field 0 w) n bs energies (omega (arith, t.within, i.energies-long))) ∙ i.energies-so);
+            prices-so = rw (← e, ← p) (sym (fill-next t (field w (price_width x)) n bs prices (omega (arith, t.within, i.prices-long))) ∙ i.prices-so);
+            bad-so = rw (← e, ← p) (or_assoc bad (bad_slot top x true (field 0 w bs) (field w (price_width x) bs)) (bad_slots w top x (hour_bits rest') (drop n bs)) ∙ ap (λ b. bad || b) (sym (bad-next t w top x bs)) ∙ i.bad-so);
           }
+
+-- The loop over form 1: the first slot begins at bit 64, energies have 17 bits
+
+abbrev pub Midway : List ℕ → Bool → ℕ → List ℕ → List ℕ → ℕ → ℕ → Bool → Type 0
+Midway bytes x map energies prices at rest bad = Filling 64 17 max_energy bytes x map energies prices at rest bad
+
+module _ (bytes : List ℕ) (x : Bool) (map : ℕ) {energies prices : List ℕ} {at rest : ℕ} {bad : Bool} (i : Midway bytes x map energies prices at rest bad)
+    {h rest' price : ℕ} (t : FirstHour rest h rest') (p : price ≡ price_width x) where
+  -- where the slot of a turn lies
+  pub slot_there : (at + 17 + price ≤ 8 * length bytes) × (at + 17 + price ≤ 864) × (64 ≤ at) × ((at + (17 + price) + 7) / 8 * 8 ≤ at + 32)
+  slot_there =
+      let r = room_next 64 17 max_energy bytes x map i h rest' t in
+      rw p (r.0, r.1, r.2, slot-in-four x at i.passed i.begun)

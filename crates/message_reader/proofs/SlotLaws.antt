@@ -12,8 +12,8 @@ use Rattle.rules.specs.Message.{Form, Fields, bits_of, field, price_width, head_
 use Rattle.rules.proofs.ListLaws.{Under}
 use Rattle.rules.proofs.BitLaws.{length-bits, bits-under}
 use Rattle.message_ranges.specs.Slots.{bad_slot}
-use Rattle.message_reader.specs.Slots.{head_in, bad_slots}
-use Rattle.message_reader.specs.declared.Head.{Head}
+use Rattle.message.specs.declared.Fields.{Fields as Read}
+use Rattle.message_reader.specs.Slots.{blank, bad_slots, bad_hours}
 
 -- the test of an hour, by what three lists have for it: whether it is set, its energy and its price
 unfoldable tested : ℕ → Bool → List ℕ → List ℕ → List ℕ → ℕ → Bool
@@ -92,8 +92,8 @@ module _ (f : Form) (bytes : List ℕ) where
   unfolding bad_fields bad_key decode fields_of
   fields-judged = ap (λ b. bad_number (field 7 16 (bits_of bytes)) || bad_contract (is_execution (bits_of bytes)) (field 23 16 (bits_of bytes)) || b) slots-judged
 
-  -- the same, of a message that is read by form f, of a head that was read and of what the tests of its key and of its slots found
-  pub fields_told : form_of bytes ≡ f → (h : Head) → h ≡ head_in (bits_of bytes) → (k b : Bool) → k ≡ (bad_number h.unit || bad_contract h.execution h.contract)
-      → b ≡ bad_slots f.width f.top h.execution (hour_bits h.map) (drop (head_width f) (bits_of bytes)) → wrong_range bytes ≡ (k || b)
+  -- the same, of a message that is read by form f, of the fields before its slots and of what the tests of its key and of its slots found
+  pub fields_told : form_of bytes ≡ f → (m : Read) → m ≡ blank (bits_of bytes) → (k b : Bool) → k ≡ (bad_number m.unit || bad_contract m.execution m.contract)
+      → b ≡ bad_hours f bytes m → wrong_range bytes ≡ (k || b)
   unfolding wrong_range message_of
-  fields_told is h e k b s t = rw (is, s, t, e) fields-judged
+  fields_told is m e k b s t = rw (is, s, t, e) fields-judged

@@ -1,146 +1,92 @@
 // Reading a lodging message.
 #![tactic(auto)]
 
-ghost use Rattle.std.specs.Prelude.{◌≡◌, false, ◌||◌, List, ℕ, ◌^◌, ◌<◌, ◌≤◌, length, replicate};
-ghost use Rattle.std.specs.Int.Count.{count_leading_zeros};
-ghost use Rattle.rules.specs.Message.{form1, form_of, bits_of, field, message_of, wrong_form, read as reading};
-ghost use Rattle.message_reader.specs.Slots.{ToFill, SlotsRead, head_in, no_head, reading_of};
-ghost use Rattle.message.specs.View.{fields_in, reading_as};
+mod head;
 
-use message::form::{length_for, price_width, slots_end};
-use message::{Fields, Reading};
-use message_bits::{four_at, part, power, slot_at};
+ghost use Rattle.std.specs.Prelude.{◌≡◌, true, false, MatchOption, OnOk};
+ghost use Rattle.rules.specs.Message.{form1, form_of, message_of, wrong_form, read as reading};
+ghost use Rattle.message.specs.View.{fields_in, no_fields, outcome_of, reading_as};
+ghost use Rattle.message_reader.specs.Slots.{ToFill, bad_hours, filled};
+
+use head::Head;
+use message::form::price_width;
+use message::hours::Hours;
+use message::{Fields, NO_FIELDS, Reading};
+use message_bits::slot_at;
 use message_ranges::{bad_key, bad_map, bad_slot};
-use rules::row::{FORM, HOUR, RANGE};
-use rules::{HOURS, MAX_ENERGY};
+use rules::MAX_ENERGY;
+use rules::row::Row;
 
-// The first eight bytes as one number: it holds every field before the slots.
-fn head_word(s: &[u8]) -> u64
-    requires { 8 ≤ length s.now }
-    ensures { result ≡ field 0 64 (bits_of s.now) }
+// The head of a message of the right form.
+fn right_head(s: &[u8]) -> Option<Head<'_>>
+    ensures { MatchOption result (wrong_form s.now ≡ true) (λ head. (wrong_form s.now ≡ false) × (head.bytes ≡ s.entry)) }
 {
-    four_at(s, 0) * 4294967296 + four_at(s, 4)
-}
-
-// 3: wrong length, form, kind or filling, of a message with a head. An offer ends with a byte and has no filling.
-fn bad_head(s: &[u8], word: u64) -> bool
-    requires { (8 ≤ length s.now) × (word ≡ field 0 64 (bits_of s.now)) }
-    ensures { result ≡ wrong_form s.now }
-{
-    let kind = part(word, 58, 2);
-    let map = part(word, 0, 25);
-    if s.len() != length_for(kind == 1, map) {
-        return true;
-    }
-    if part(word, 60, 4) != 1 {
-        return true;
-    }
-    if kind == 0 {
-        return false;
-    }
-    if 1 < kind {
-        return true;
-    }
-    let end = slots_end(kind == 1, map);
-    slot_at(s, end, s.len() * 8 - end) != 0
+    let head = Head::over(s)?;
+    if head.bad_form() { None } else { Some(head) }
 }
 
 // 3: wrong length, form, kind or filling.
 pub fn bad_form(s: &[u8]) -> bool
     ensures { result ≡ wrong_form s.now }
 {
-    if s.len() < 8 {
-        return true;
-    }
-    let word = head_word(s);
-    bad_head(s, word)
+    right_head(s).is_none()
 }
 
-// The hours before the first that the map names.
-fn next_hour(map: u32) -> usize
-    requires { map < 2 ^ 25 }
-    ensures { result ≡ count_leading_zeros 25 map }
+// Fills in the energy and the price of each hour that the map names, and says whether one is outside its range.
+fn fill(s: &[u8], execution: bool, m: &mut Fields) -> bool
+    requires kind { execution ≡ m.old.execution }
+    requires to_fill { ToFill form1 s.now m.old }
+    ensures judged { result ≡ bad_hours form1 s.now m.old }
+    ensures filled { m.new ≡ filled form1 s.now m.old }
 {
-    (u32::leading_zeros(map) - 7) as usize
-}
-
-// Whether one of two holds.
-fn either(a: bool, b: bool) -> bool
-    ensures { result ≡ (a || b) }
-{
-    if a {
-        return true;
-    }
-    b
-}
-
-// Fills in the energy and the price of each named hour, and says whether one is outside its range.
-fn fill(
-    s: &[u8],
-    execution: bool,
-    map: u32,
-    energies: &mut [u32; HOURS],
-    prices: &mut [u32; HOURS],
-) -> bool
-    requires { ToFill form1 s.now execution map energies.old prices.old }
-    ensures { SlotsRead form1 s.now execution map result energies.new prices.new }
-{
+    let hours = Hours::of(m.map);
+    let energies = &mut m.energies;
+    let prices = &mut m.prices;
     let price = price_width(execution);
-    let mask = power(price) as u32 - 1;
-    let mut at: usize = 64;
-    let mut rest = map;
+    let mask = (1u32 << price) - 1;
+    let mut at = 64;
     let mut bad = false;
-    while rest != 0 {
-        let h = next_hour(rest);
+    for h in hours {
         let slot = slot_at(s, at, 17 + price);
         let e = slot >> price;
         let p = slot & mask;
         energies[h] = e;
         prices[h] = p;
-        bad = either(bad, bad_slot(MAX_ENERGY, execution, true, e, p));
-        at = at + 17 + price;
-        rest = rest - power(24 - h) as u32;
+        bad |= bad_slot(MAX_ENERGY, execution, true, e, p);
+        at += 17 + price;
     }
     bad
 }
 
 // The same. A kind by itself in each call has the loop compiled for it, with widths that are fixed.
-fn fill_by_kind(
-    s: &[u8],
-    execution: bool,
-    map: u32,
-    energies: &mut [u32; HOURS],
-    prices: &mut [u32; HOURS],
-) -> bool
-    requires { ToFill form1 s.now execution map energies.old prices.old }
-    ensures { SlotsRead form1 s.now execution map result energies.new prices.new }
+fn fill_by_kind(s: &[u8], m: &mut Fields) -> bool
+    requires { ToFill form1 s.now m.old }
+    ensures judged { result ≡ bad_hours form1 s.now m.old }
+    ensures filled { m.new ≡ filled form1 s.now m.old }
 {
-    if execution {
-        return fill(s, true, map, energies, prices);
+    if m.execution {
+        fill(s, true, m)
+    } else {
+        fill(s, false, m)
     }
-    fill(s, false, map, energies, prices)
 }
 
-// The fields before the hours' slots.
-#[derive(Clone, Copy)]
-struct Head {
-    execution: bool,
-    default: bool,
-    unit: u32,
-    contract: u32,
-    map: u32,
+// What a message of the right form says.
+fn said(head: Head) -> Fields
+    requires { wrong_form head.bytes.now ≡ false }
+    ensures { fields_in result ≡ message_of head.entry.bytes.now }
+{
+    let mut m = NO_FIELDS;
+    head.put(&mut m);
+    let _bad = fill_by_kind(head.bytes, &mut m);
+    m
 }
 
-fn head_of(word: u64) -> Head
-    ensures { ((bytes : List ℕ) → 8 ≤ length bytes → word ≡ field 0 64 (bits_of bytes) → result ≡ head_in (bits_of bytes)) × (result.map < 2 ^ 25) }
+// What a message says, or nothing where its form is wrong.
+pub fn formed(s: &[u8]) -> Option<Fields>
+    ensures { MatchOption result (wrong_form s.now ≡ true) (λ m. (wrong_form s.now ≡ false) × (fields_in m ≡ message_of s.now)) }
 {
-    Head {
-        execution: part(word, 58, 2) == 1,
-        default: part(word, 57, 1) == 1,
-        unit: part(word, 41, 16),
-        contract: part(word, 25, 16),
-        map: part(word, 0, 25),
-    }
+    Some(said(right_head(s)?))
 }
 
 // What a message says, after its form was found right.
@@ -148,104 +94,45 @@ pub fn fields_of(s: &[u8]) -> Fields
     requires { wrong_form s.now ≡ false }
     ensures { fields_in result ≡ message_of s.now }
 {
-    let word = head_word(s);
-    let head = head_of(word);
-    let mut energies = [0u32; HOURS];
-    let mut prices = [0u32; HOURS];
-    let _bad = fill(s, head.execution, head.map, &mut energies, &mut prices);
-    Fields {
-        execution: head.execution,
-        default: head.default,
-        reserved: 0,
-        unit: head.unit,
-        contract: head.contract,
-        map: head.map,
-        energies,
-        prices,
-    }
+    said(right_head(s).unwrap())
 }
 
 // The largest energy that a message's form may say.
+#[tactic(auto, unfolding(rules::specs::Message::form_of))]
 pub fn top_of(s: &[u8]) -> u32
     ensures { result ≡ (form_of s.now).top }
 {
     MAX_ENERGY
 }
 
-// What is read of a message beside its energies and prices: row 0 and the head, or the table's number and a head that is all 0.
-#[derive(Clone, Copy)]
-struct HeadRead {
-    row: u32,
-    head: Head,
-}
-
-fn refused(n: u32) -> HeadRead
-    ensures { result ≡ record { row = n; head = no_head } }
+// Reads a message into fields that are all 0, or finds the refusal: 3, 4, 5 in the table's order. A `Result` that brought the fields
+// itself would be copied whole: two hours then take twice as long to read.
+fn read_into(s: &[u8], m: &mut Fields) -> Result<(), Row>
+    requires { m.old ≡ no_fields }
+    ensures outcome { reading s.now ≡ outcome_of (λ _. fields_in m.new) result }
+    ensures reserved { OnOk result (m.new.reserved ≡ 0) }
 {
-    HeadRead {
-        row: n,
-        head: Head {
-            execution: false,
-            default: false,
-            unit: 0,
-            contract: 0,
-            map: 0,
-        },
+    let head = right_head(s).ok_or(Row::Form)?;
+    head.put(m);
+    if bad_map(m.map) {
+        return Err(Row::Hour);
     }
+    if bad_key(m.execution, m.unit, m.contract) || fill_by_kind(s, m) {
+        return Err(Row::Range);
+    }
+    Ok(())
 }
 
-// A refusal's energies and prices are 0.
-fn clear(energies: &mut [u32; HOURS], prices: &mut [u32; HOURS])
-    ensures { (energies.new ≡ replicate 25 0) × (prices.new ≡ replicate 25 0) }
-{
-    *energies = [0; HOURS];
-    *prices = [0; HOURS];
-}
-
-// Fills in a message's energies and prices, or finds the refusal: 3, 4, 5 in the table's order.
-fn judged(s: &[u8], energies: &mut [u32; HOURS], prices: &mut [u32; HOURS]) -> HeadRead
-    requires { (energies.old ≡ replicate 25 0) × (prices.old ≡ replicate 25 0) }
-    ensures { reading_of result energies.new prices.new ≡ reading_as (reading s.now) }
-{
-    if s.len() < 8 {
-        return refused(FORM);
-    }
-    let word = head_word(s);
-    if bad_head(s, word) {
-        return refused(FORM);
-    }
-    let head = head_of(word);
-    if bad_map(head.map) {
-        return refused(HOUR);
-    }
-    if bad_key(head.execution, head.unit, head.contract) {
-        return refused(RANGE);
-    }
-    if fill_by_kind(s, head.execution, head.map, energies, prices) {
-        clear(energies, prices);
-        return refused(RANGE);
-    }
-    HeadRead { row: 0, head }
-}
-
-// A message's fields, or the refusal. The result is made in one place, so that the arrays are copied once.
+// A message's fields, or the refusal, as C has it: filled in where it is returned, so that the arrays are copied once.
 pub fn read(s: &[u8]) -> Reading
     ensures { result ≡ reading_as (reading s.now) }
 {
-    let mut energies = [0u32; HOURS];
-    let mut prices = [0u32; HOURS];
-    let told = judged(s, &mut energies, &mut prices);
-    Reading {
-        row: told.row,
-        fields: Fields {
-            execution: told.head.execution,
-            default: told.head.default,
-            reserved: 0,
-            unit: told.head.unit,
-            contract: told.head.contract,
-            map: told.head.map,
-            energies,
-            prices,
-        },
+    let mut reading = Reading {
+        row: 0,
+        fields: NO_FIELDS,
+    };
+    if let Err(row) = read_into(s, &mut reading.fields) {
+        reading = Reading::from(Err(row));
     }
+    reading
 }

@@ -1,19 +1,17 @@
 -- Writing hour after hour.
-use Prim.Native.Nat.{ℕ, ◌+◌, ◌-◌, ◌^◌, ◌<◌}
+use Prim.Native.Nat.{ℕ, ◌+◌, ◌^◌, ◌<◌}
 use mathlib.Core.Path.{◌≡◌, refl, ap, sym, ◌∙◌}
 use mathlib.Core.List.{List, ◌++◌, append_assoc}
 use native.Mathlib.Omega.{arith}
-use lib.Pow.{pow_pos}
 use lib.ListN.{length, get_or, length-append}
 use Rattle.rules.specs.Message.{Fields, bits, slot_width}
 use Rattle.message_pen.specs.declared.Pen.{Pen}
-use Rattle.message_pen.specs.Pens.{completed, Appended, Room, InRanges, FirstHour, SlotWord, slots_of}
+use Rattle.message.specs.Hours.{FirstHour}
+use Rattle.message.proofs.HourLaws.{first-less}
+use Rattle.message_pen.specs.Pens.{completed, Appended, Room, InRanges, SlotWord, slots_of}
 use Rattle.rules.proofs.BitLaws.{length-bits}
 use Rattle.message_pen.proofs.SlotLaws.{map-fits, slot_at, slots_of-next, slots_of-none}
 use Rattle.message_pen.proofs.PenLaws.{room_after}
-
-pub first-less : (map i rest : ℕ) → FirstHour map i rest → rest < map
-first-less map i rest f = omega (arith, f.first, pow_pos (24 - i))
 
 -- energies have `wide` bits, and the hours of `rest` are still to be written: once they are, the buffer holds the slots of the whole map
 pub record Midway (wide : ℕ) (m : Fields) (old : List ℕ) (start : Pen) (buf : List ℕ) (p : Pen) (rest : ℕ) : Type 0 where

@@ -1,21 +1,16 @@
-use native.Mathlib.Omega.{arith}
-use mathlib.Core.Path.{refl}
+use Rattle.std.proofs.Common.{arith, refl, ◌∙◌}
 use Rattle.rules.specs.Units.{max_energy}
 use Rattle.rules.specs.Message.{form1}
-use Rattle.message_pen.proofs.HeadLaws.{head-fits, head-word-alone}
+use Rattle.message_pen.proofs.HeadLaws.{bit-of, head-fits, head-word-alone}
 use Rattle.message_pen.proofs.head_word.Goals as goal
 
-pub overflow_add-unit : goal.overflow_add-unit
-overflow_add-unit c = omega (arith, head-fits max_energy _ c.requires.values)
+pub returns-clause-small : goal.returns-clause-small
+returns-clause-small c =
+    omega (arith, head-fits max_energy _ c.requires.values, (bit-of c.args.m.now.execution).1, (bit-of c.args.m.now.default).1)
 
-pub overflow_mul-result : goal.overflow_mul-result
-overflow_mul-result c = omega (arith, head-fits max_energy _ c.requires.values)
-
-pub overflow_add-result : goal.overflow_add-result
-overflow_add-result c = omega (arith, head-fits max_energy _ c.requires.values)
-
-pub returns : goal.returns
-returns c = (
-  omega (arith, head-fits max_energy _ c.requires.values),
-  head-word-alone form1 max_energy _ _ _ refl c.flag-kind.ensures.0 c.flag.ensures.0 c.flag-kind.ensures.1 c.flag.ensures.1 c.requires.values,
-)
+pub returns-clause-bits : goal.returns-clause-bits
+returns-clause-bits c =
+    let x = bit-of c.args.m.now.execution in
+    let d = bit-of c.args.m.now.default in
+    rw (c.from-2.ensures, c.from-3.ensures)
+    (head-word-alone form1 max_energy _ _ _ refl (c.from-kind.ensures ∙ x.0) (c.from.ensures ∙ d.0) (rw c.from-kind.ensures x.1) (rw c.from.ensures d.1) c.requires.values)

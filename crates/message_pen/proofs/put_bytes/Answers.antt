@@ -1,22 +1,12 @@
-use lib.ListN.{length-set}
-use mathlib.Core.Path.{refl, sym, ◌∙◌}
-use borrow.Author.Rules.{rules}
-use Rattle.message_pen.proofs.PenLaws.{stored-none, stored_next}
+use Rattle.std.proofs.Common.{◌-◌, arith, ap, drop, length, length-drop, ◌∙◌}
+use lib.Seq.{take_all}
+use Rattle.message_pen.proofs.PenLaws.{stored-copy}
 use Rattle.message_pen.proofs.put_bytes.Goals as goal
 
 pub returns-then-n-eq4 : goal.returns-then-n-eq4
-returns-then-n-eq4 c = rw c.if-n-eq4.true c.put_four.ensures
+returns-then-n-eq4 c = rw c.if-n-eq4.true (stored-copy _ _ _ 4 (omega arith) (omega arith) (rw c.to_be_bytes-bytes.ensures at c.copy_from_slice.ensures.after))
 
-pub loop-left-init : goal.loop-left-init
-loop-left-init c = (search rules, search rules, refl, refl)
-
-pub loop-left-preserved : goal.loop-left-preserved
-loop-left-preserved c = (
-  search rules,
-  search rules,
-  simp length-set c.loop-left.invariant.2,
-  stored_next _ _ _ _ c.loop-left-test.true ∙ c.loop-left.invariant.3,
-)
-
-pub returns : goal.returns
-returns c = sym (stored-none _ _ _ _ c.loop-left-test.false) ∙ c.loop-left.invariant.3
+pub returns-else-n-eq4 : goal.returns-else-n-eq4
+returns-else-n-eq4 c =
+    stored-copy _ _ _ _ c.requires.eight c.requires.room
+    (c.copy_from_slice-else-n-eq4.ensures.after ∙ take_all _ (drop (8 - c.args.n) c.to_be_bytes-bytes.result) (simp length-drop (omega (arith, ap length c.to_be_bytes-bytes.ensures))) ∙ ap (drop (8 - c.args.n)) c.to_be_bytes-bytes.ensures)

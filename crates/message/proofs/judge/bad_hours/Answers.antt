@@ -1,20 +1,12 @@
-use borrow.Author.Rules.{rules}
-use native.Mathlib.Omega.{arith}
-use mathlib.Core.Path.{refl}
+use Rattle.std.proofs.Common.{rules, tests, refl, ◌∙◌}
+use Rattle.std.proofs.lemmas.Iterator.{YieldsList-from_range}
+use Rattle.std.proofs.lemmas.Iterator.Search.{any_from_yields_List}
+use Rattle.rules.specs.Message.{bad_hour}
 use Rattle.message.specs.View.{fields_in}
-use Rattle.message.proofs.JudgeLaws.{bad_from, hours-here, hours-later, hours-past}
+use Rattle.message.proofs.JudgeLaws.{any_list}
 use Rattle.message.proofs.judge.bad_hours.Goals as goal
 
-pub loop-h-init : goal.loop-h-init
-unfolding bad_from
-loop-h-init c = (omega arith, omega arith, refl)
-
-pub returns-then-bad_slot : goal.returns-then-bad_slot
-returns-then-bad_slot c = hours-here _ (fields_in c.args.m) _ _ _ c.named-set.ensures c.bad_slot.ensures (omega arith) c.loop-h.invariant.2 c.if-bad_slot.true
-
-pub loop-h-preserved : goal.loop-h-preserved
-loop-h-preserved c =
-    (search rules, search rules, hours-later _ (fields_in c.args.m) _ _ _ c.named-set.ensures c.bad_slot.ensures (omega arith) c.loop-h.invariant.2 c.if-bad_slot.false)
-
 pub returns : goal.returns
-returns c = hours-past _ _ _ (omega arith) c.loop-h.invariant.2
+returns c =
+    any_from_yields_List (bad_hour c.args.top (fields_in c.args.m.now)) _ _ _ c.any.ensures.ran (YieldsList-from_range 1 26 25 refl refl) (λ x b q k. search (rules, tests))
+    ∙ any_list _ 1 25
