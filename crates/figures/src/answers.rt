@@ -75,8 +75,8 @@ impl fmt::Display for Said {
         f.write_str(if execution { "execution" } else { "offer" })?;
         f.write_str(if default { " default" } else { "" })?;
         write!(f, " unit {unit} contract {contract} map {map}")?;
-        for (hour, (energy, price)) in (1..=25).zip(energies.iter().zip(&prices)) {
-            if *energy != 0 {
+        for (hour, (energy, price)) in (1..=25).zip(energies.into_iter().zip(prices)) {
+            if energy != 0 {
                 write!(f, " {hour}:{energy}@{price}")?;
             }
         }

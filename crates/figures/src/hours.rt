@@ -121,12 +121,17 @@ impl fmt::Display for Maxima<'_> {
                 ("import", border * 2 + 1, border * 2),
             ] {
                 if let (Some(capacity), Some(maximum)) = (capacities[way], figures.maxima[way]) {
-                    let bilateral = i64::from(capacity) + i64::from(figures.market[across])
-                        - i64::from(figures.market[way]);
+                    let market = &figures.market;
+                    let bilateral = maximum_left(capacity, market[across], market[way]);
                     write!(f, " {border} {name} {maximum} {bilateral}")?;
                 }
             }
         }
         Ok(())
     }
+}
+
+// A direction's capacity less the final market balance: what it still carries, executions aside.
+fn maximum_left(capacity: u32, across: u32, along: u32) -> i64 {
+    i64::from(capacity) + i64::from(across) - i64::from(along)
 }
