@@ -1,0 +1,58 @@
+// What a line asks for.
+use crate::calls::{Call, availability, capacities, key, message, unit};
+use crate::messages::fields;
+use crate::queries::{Query, query_named};
+use crate::words::{Words, number, parted};
+use calendar::Date;
+use message::Fields;
+
+#[derive(Drop)]
+pub enum Line {
+    // A fresh session of the date.
+    Open(Date),
+    Call(Call),
+    // A message of these fields, written and lodged.
+    Message(Fields),
+    Query(Query),
+    Report,
+}
+
+// 2006-10-29
+fn date(word: &[u8]) -> Option<Date> {
+    let (year, rest) = parted(word, b'-')?;
+    let (month, day) = parted(rest, b'-')?;
+    Some(Date {
+        year: number(year)?,
+        month: number(month)?,
+        day: number(day)?,
+    })
+}
+
+// What a line asks for by its first word and those behind it that are read.
+pub fn asked(name: &[u8], words: &mut Words) -> Option<Line> {
+    Some(match name {
+        b"open" => Line::Open(date(words.next()?)?),
+        b"register" => Line::Call(Call::Register(unit(words)?)),
+        b"capacity" => Line::Call(Call::Capacity(capacities(words)?)),
+        b"available" => Line::Call(Call::Available(availability(words)?)),
+        b"offer" => Line::Message(fields(words, false)?),
+        b"execution" => Line::Message(fields(words, true)?),
+        b"lodge" => Line::Call(Call::Lodge(message(words)?)),
+        b"annul" => Line::Call(Call::Annul(key(words)?)),
+        b"close" => Line::Call(Call::Close),
+        b"clear" => Line::Call(Call::Clear),
+        b"report" => Line::Report,
+        _ => Line::Query(query_named(name, words)?),
+    })
+}
+
+impl Line {
+    // What a line asks for, where all its words are understood.
+    pub fn read(line: &[u8]) -> Option<Line> {
+        let mut words = Words::of(line);
+        let name = words.next()?;
+        let line = asked(name, &mut words)?;
+        words.end()?;
+        Some(line)
+    }
+}
