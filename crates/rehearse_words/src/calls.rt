@@ -109,7 +109,7 @@ fn direction_index(border: u32, import: bool) -> Option<usize> {
     Some(before * 2 + import as usize)
 }
 
-// capacity 1 export 100x25 1 import 80x24,0: no direction twice.
+// capacity 1 export 100x25 1 import 80x24,0: no direction twice, so there are no more than there are directions.
 pub fn capacities(words: &mut Words) -> Option<Capacities> {
     let absent = Published {
         count: 0,
@@ -119,7 +119,10 @@ pub fn capacities(words: &mut Words) -> Option<Capacities> {
         energies: [0; HOURS],
     };
     let mut directions = [absent; DIRECTIONS];
-    while let Some(border) = words.next() {
+    for _ in 0..DIRECTIONS {
+        let Some(border) = words.next() else {
+            break;
+        };
         let import = words.either(b"export", b"import")?;
         let (count, energies) = energies(words.next()?)?;
         let at = direction_index(number(border)?, import)?;

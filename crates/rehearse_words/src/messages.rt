@@ -64,9 +64,10 @@ pub fn fields(words: &mut Words, execution: bool) -> Option<Fields> {
         prices: [0; HOURS],
     };
     let hours = *words;
-    for (i, word) in words.enumerate() {
+    for word in words {
         let slot = read_slot(word, execution)?;
-        if hours.take(i).any(|earlier| names(earlier, slot.hour)) {
+        let second = hours.filter(|word| names(word, slot.hour)).nth(1);
+        if second.is_some() {
             return None;
         }
         put(&mut fields, slot);

@@ -1,5 +1,8 @@
 // The words of a line, and what a word says.
 
+ghost use Rattle.std.specs.Prelude.{length};
+ghost use Rattle.std.specs.Iterator.{at_most};
+
 // White space of ASCII other than the line's end.
 pub fn is_blank(byte: u8) -> bool {
     matches!(byte, 9 | 11..=13 | 28..=32)
@@ -19,10 +22,12 @@ impl<'a> Iterator for Words<'a> {
     fn next(&mut self) -> Option<&'a [u8]> {
         let from = self.rest.iter().position(|b| !is_blank(*b))?;
         let start = &self.rest[from..];
-        let end = start.iter().position(|b| is_blank(*b));
-        let (word, rest) = start.split_at(end.unwrap_or(start.len()));
-        self.rest = rest;
-        Some(word)
+        let Some(end) = start.iter().position(|b| is_blank(*b)) else {
+            self.rest = &[];
+            return Some(start);
+        };
+        self.rest = &start[end + 1..];
+        Some(&start[..end])
     }
 }
 
