@@ -1,11 +1,51 @@
-// The session's queries, each by a number.
+// The session's queries as one type, and a query's reply.
 #![tactic(auto)]
 
-ghost use Rattle.query_any.specs.Asked.{asked, Replied};
+ghost use Rattle.std.specs.Prelude.{◌≡◌};
+ghost use Rattle.query.specs.Replies.{Answered};
+ghost use Rattle.query_any.specs.Asked.{asked, query_in, query_of, Replied};
 
 use answer::Response;
-use rules::row::FORM;
+use rules::row::Row;
 use session::Session;
+
+// A query, with what it asks about. The hour is a number, whether the day has it or not.
+#[derive(Clone, Copy, Debug, PartialEq, Eq)]
+pub enum Query {
+    // Of a lodging number.
+    Verdict(u32),
+    // Of a unit in an hour.
+    Matched {
+        unit: u32,
+        hour: u32,
+    },
+    Executed {
+        unit: u32,
+        hour: u32,
+    },
+    // Of a border in an hour.
+    Market {
+        border: u32,
+        hour: u32,
+    },
+    Bilateral {
+        border: u32,
+        hour: u32,
+    },
+    // Of an hour.
+    Price(u32),
+    // Of a border's direction in an hour.
+    MarketMaximum {
+        border: u32,
+        export: bool,
+        hour: u32,
+    },
+    BilateralMaximum {
+        border: u32,
+        export: bool,
+        hour: u32,
+    },
+}
 
 // The numbers of the queries are 101 to 200: those below are the log's records, those above a rehearsal's other lines
 // (crates/rehearse_words).
@@ -25,34 +65,63 @@ pub const MARKET_MAXIMUM: u8 = 107;
 
 pub const BILATERAL_MAXIMUM: u8 = 108;
 
-// A query of a lodging number, a unit or a border, of a direction and of an hour, where its kind asks for them. A kind that is no
-// query's is refused as 3.
-pub fn reply_to(s: Session, kind: u8, of: u32, export: bool, hour: u32) -> Response
-    ensures { Replied s (asked kind of export hour) result }
+impl Query {
+    // The query of a number, of a lodging number, a unit or a border, of a direction and of an hour, where it asks for them.
+    #[tactic(auto, unfolding(crate::specs::Asked::asked))]
+    pub fn numbered(kind: u8, of: u32, export: bool, hour: u32) -> Option<Query>
+        ensures { query_of result ≡ asked kind of export hour }
+    {
+        match kind {
+            VERDICT => Some(Query::Verdict(of)),
+            MATCHED => Some(Query::Matched { unit: of, hour }),
+            EXECUTED => Some(Query::Executed { unit: of, hour }),
+            MARKET => Some(Query::Market { border: of, hour }),
+            BILATERAL => Some(Query::Bilateral { border: of, hour }),
+            PRICE => Some(Query::Price(hour)),
+            MARKET_MAXIMUM => Some(Query::MarketMaximum {
+                border: of,
+                export,
+                hour,
+            }),
+            BILATERAL_MAXIMUM => Some(Query::BilateralMaximum {
+                border: of,
+                export,
+                hour,
+            }),
+            _ => None,
+        }
+    }
+
+    pub fn reply(self, s: &Session) -> Response
+        ensures { Answered s.now (query_in self) result }
+    {
+        match self {
+            Query::Verdict(number) => query_verdict::verdict(*s, number),
+            Query::Matched { unit, hour } => query_unit::matched(*s, unit, hour),
+            Query::Executed { unit, hour } => query_unit::executed(*s, unit, hour),
+            Query::Market { border, hour } => query_balance::market(*s, border, hour),
+            Query::Bilateral { border, hour } => query_balance::bilateral(*s, border, hour),
+            Query::Price(hour) => query::price(*s, hour),
+            Query::MarketMaximum {
+                border,
+                export,
+                hour,
+            } => query_maximum::market_maximum(*s, border, export, hour),
+            Query::BilateralMaximum {
+                border,
+                export,
+                hour,
+            } => query_maximum::bilateral_maximum(*s, border, export, hour),
+        }
+    }
+}
+
+// The reply to a query by its number. A number that is no query's is refused as 3.
+pub fn reply_to(s: &Session, kind: u8, of: u32, export: bool, hour: u32) -> Response
+    ensures { Replied s.now (asked kind of export hour) result }
 {
-    if kind == VERDICT {
-        return query_verdict::verdict(s, of);
+    match Query::numbered(kind, of, export, hour) {
+        Some(query) => query.reply(s),
+        None => answer::refused(Row::Form.number(), 0),
     }
-    if kind == MATCHED {
-        return query_unit::matched(s, of, hour);
-    }
-    if kind == EXECUTED {
-        return query_unit::executed(s, of, hour);
-    }
-    if kind == MARKET {
-        return query_balance::market(s, of, hour);
-    }
-    if kind == BILATERAL {
-        return query_balance::bilateral(s, of, hour);
-    }
-    if kind == PRICE {
-        return query::price(s, hour);
-    }
-    if kind == MARKET_MAXIMUM {
-        return query_maximum::market_maximum(s, of, export, hour);
-    }
-    if kind == BILATERAL_MAXIMUM {
-        return query_maximum::bilateral_maximum(s, of, export, hour);
-    }
-    answer::refused(FORM, 0)
 }

@@ -14,7 +14,7 @@
 use arrayvec::ArrayVec;
 use calendar::Date;
 use rehearse_lines::telling::{Said, tell};
-use rehearse_report::Told;
+use rehearse_report::replies::Told;
 use rehearse_words::words::{Words, is_blank};
 use rehearse_words::{hex, lines};
 use session::Session;

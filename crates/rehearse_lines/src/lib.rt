@@ -9,7 +9,6 @@ use calendar::Date;
 use message::Fields;
 use rehearse_words::calls::Call;
 use rehearse_words::lines::Line;
-use rehearse_words::queries::Query;
 use session::{Effect, Session};
 
 // The session before the first `open`.
@@ -59,27 +58,13 @@ fn lodge_message(session: &mut Session, fields: Fields) -> Response {
     )
 }
 
-fn reply(session: &Session, query: Query) -> Response {
-    let s = *session;
-    match query {
-        Query::Verdict { number } => query_verdict::verdict(s, number),
-        Query::Matched { unit, hour } => query_unit::matched(s, unit, hour),
-        Query::Executed { unit, hour } => query_unit::executed(s, unit, hour),
-        Query::Market { border, hour } => query_balance::market(s, border, hour),
-        Query::Bilateral { border, hour } => query_balance::bilateral(s, border, hour),
-        Query::Price { hour } => query::price(s, hour),
-        Query::MarketMaximum { border, export, hour } => query_maximum::market_maximum(s, border, export, hour),
-        Query::BilateralMaximum { border, export, hour } => query_maximum::bilateral_maximum(s, border, export, hour),
-    }
-}
-
 // A line that is understood.
 pub fn run(session: &mut Session, line: Line) -> Said {
     match line {
         Line::Open(date) => Said::Answer(open(session, date)),
         Line::Call(call) => Said::Answer(run_call(session, call)),
         Line::Message(fields) => Said::Answer(lodge_message(session, fields)),
-        Line::Query(query) => Said::Answer(reply(session, query)),
+        Line::Query(query) => Said::Answer(query.reply(session)),
         Line::Report => Said::Report,
     }
 }

@@ -1,6 +1,7 @@
 // A rehearsal line's answer, and how it is written.
 use answer::{REFUSED, Response};
-use rehearse_report::{Report, Told};
+use rehearse_report::Report;
+use rehearse_report::replies::Told;
 use session::Session;
 use std::{fmt, io};
 

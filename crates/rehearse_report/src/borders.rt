@@ -1,116 +1,156 @@
 // The hours with their prices, and in each hour a row for each border.
-use crate::figures::{is_number, is_some, put_figure};
-use crate::hours::put_hour;
-use crate::text::put;
-use query_any::{BILATERAL, BILATERAL_MAXIMUM, MARKET, MARKET_MAXIMUM, PRICE, reply_to};
+use crate::cells::{Cell, Hour, number_in};
+use query_any::Query;
 use session::Session;
+use std::fmt;
+
+#[derive(Clone, Copy, Debug, PartialEq, Eq)]
+enum Border {
+    France,
+    Andorra,
+    Portugal,
+    Morocco,
+}
+
+impl Border {
+    const ALL: [Border; 4] = [
+        Border::France,
+        Border::Andorra,
+        Border::Portugal,
+        Border::Morocco,
+    ];
+
+    fn number(self) -> u32 {
+        match self {
+            Border::France => 1,
+            Border::Andorra => 2,
+            Border::Portugal => 3,
+            Border::Morocco => 4,
+        }
+    }
+}
+
+impl fmt::Display for Border {
+    fn fmt<W: fmt::Write>(&self, f: &mut fmt::Formatter<W>) -> fmt::Result {
+        f.pad(match self {
+            Border::France => "France",
+            Border::Andorra => "Andorra",
+            Border::Portugal => "Portugal",
+            Border::Morocco => "Morocco",
+        })
+    }
+}
+
+// The number that a query is answered with.
+fn figure(session: &Session, query: Query) -> Option<i64> {
+    number_in(query.reply(session))
+}
 
 // Whether a border has a capacity, or a balance other than 0, in an hour.
-fn is_used(s: Session, border: u32, hour: u32) -> bool {
-    if is_some(reply_to(s, MARKET, border, true, hour)) {
-        return true;
-    }
-    if is_some(reply_to(s, BILATERAL, border, true, hour)) {
-        return true;
-    }
-    if is_number(reply_to(s, MARKET_MAXIMUM, border, true, hour)) {
-        return true;
-    }
-    is_number(reply_to(s, MARKET_MAXIMUM, border, false, hour))
+fn is_used(session: &Session, border: u32, hour: u32) -> bool {
+    let has_capacity = |export| {
+        figure(
+            session,
+            Query::MarketMaximum {
+                border,
+                export,
+                hour,
+            },
+        )
+        .is_some()
+    };
+    figure(session, Query::Market { border, hour }).unwrap_or(0) != 0
+        || figure(session, Query::Bilateral { border, hour }).unwrap_or(0) != 0
+        || has_capacity(true)
+        || has_capacity(false)
 }
 
-// Whether it has so in any hour of the day.
-fn is_shown(s: Session, border: u32) -> bool {
-    for i in 0..25u32 {
-        if is_used(s, border, i + 1) {
-            return true;
+// The figures of a border in an hour.
+#[derive(Clone, Copy)]
+struct Row<'a> {
+    session: &'a Session,
+    border: Border,
+    hour: u32,
+}
+
+impl fmt::Display for Row<'_> {
+    fn fmt<W: fmt::Write>(&self, f: &mut fmt::Formatter<W>) -> fmt::Result {
+        let session = self.session;
+        let border = self.border.number();
+        let hour = self.hour;
+        write!(f, "  {:<8}", self.border)?;
+        for query in [
+            Query::Market { border, hour },
+            Query::Bilateral { border, hour },
+            Query::MarketMaximum {
+                border,
+                export: true,
+                hour,
+            },
+            Query::MarketMaximum {
+                border,
+                export: false,
+                hour,
+            },
+            Query::BilateralMaximum {
+                border,
+                export: true,
+                hour,
+            },
+            Query::BilateralMaximum {
+                border,
+                export: false,
+                hour,
+            },
+        ] {
+            write!(f, "{:>10}", Cell(figure(session, query)))?;
         }
-    }
-    false
-}
-
-fn put_name(border: u32) {
-    match border {
-        1 => put(b"  France  "),
-        2 => put(b"  Andorra "),
-        3 => put(b"  Portugal"),
-        _ => put(b"  Morocco "),
+        writeln!(f)
     }
 }
 
-fn put_cell(s: Session, kind: u8, border: u32, export: bool, hour: u32) {
-    let r = reply_to(s, kind, border, export, hour);
-    put_figure(r, 10);
-}
+const HEAD: &str = "
+                                                          market    market bilateral bilateral
+                                      market bilateral   maximum   maximum   maximum   maximum
+  hour  clock      price  border     balance   balance    export    import    export    import
+";
 
-fn put_border(s: Session, border: u32, hour: u32) {
-    put_name(border);
-    put_cell(s, MARKET, border, true, hour);
-    put_cell(s, BILATERAL, border, true, hour);
-    put_cell(s, MARKET_MAXIMUM, border, true, hour);
-    put_cell(s, MARKET_MAXIMUM, border, false, hour);
-    put_cell(s, BILATERAL_MAXIMUM, border, true, hour);
-    put_cell(s, BILATERAL_MAXIMUM, border, false, hour);
-    put(b"\n");
-}
+// All hours of the day. Borders without a capacity and a balance in the day are left out.
+#[derive(Clone, Copy)]
+pub struct Hours<'a>(pub &'a Session);
 
-// The first border stands beside the hour.
-fn put_next_border(s: Session, border: u32, hour: u32, first: bool) {
-    if !first {
-        put(b"                        ");
-    }
-    put_border(s, border, hour);
-}
-
-fn put_borders(s: Session, shown: [bool; 5], hour: u32) {
-    let mut first = true;
-    for border in 1..5u32 {
-        if shown[border as usize] {
-            put_next_border(s, border, hour, first);
-            first = false;
+impl fmt::Display for Hours<'_> {
+    fn fmt<W: fmt::Write>(&self, f: &mut fmt::Formatter<W>) -> fmt::Result {
+        let session = self.0;
+        let shown = Border::ALL.map(|border| {
+            (1..=session.hours)
+                .any(|hour| is_used(session, border.number(), hour))
+                .then_some(border)
+        });
+        f.write_str(HEAD)?;
+        for hour in 1..=session.hours {
+            let date = session.date;
+            let price = Cell(figure(session, Query::Price(hour)));
+            write!(f, "{}{price:>7}", Hour { date, hour })?;
+            // The first border stands beside the hour.
+            let mut indent = 0;
+            for border in shown.into_iter().flatten() {
+                write!(
+                    f,
+                    "{:indent$}{}",
+                    "",
+                    Row {
+                        session,
+                        border,
+                        hour
+                    }
+                )?;
+                indent = 24;
+            }
+            if indent == 0 {
+                writeln!(f)?;
+            }
         }
-    }
-    if first {
-        put(b"\n");
-    }
-}
-
-fn put_row(s: Session, shown: [bool; 5], hour: u32) {
-    let date = s.date;
-    put_hour(date, hour);
-    let price = reply_to(s, PRICE, 0, true, hour);
-    put_figure(price, 7);
-    put_borders(s, shown, hour);
-}
-
-// Borders without a capacity and a balance in the day are left out.
-fn shown_borders(s: Session) -> [bool; 5] {
-    [
-        false,
-        is_shown(s, 1),
-        is_shown(s, 2),
-        is_shown(s, 3),
-        is_shown(s, 4),
-    ]
-}
-
-fn put_head() {
-    put(
-        b"\n                                                          market    market bilateral bilateral\n",
-    );
-    put(
-        b"                                      market bilateral   maximum   maximum   maximum   maximum\n",
-    );
-    put(
-        b"  hour  clock      price  border     balance   balance    export    import    export    import\n",
-    );
-}
-
-pub fn put_hours(s: Session) {
-    put_head();
-    let shown = shown_borders(s);
-    let hours = s.hours;
-    for i in 0..hours {
-        put_row(s, shown, i + 1);
+        Ok(())
     }
 }

@@ -2,51 +2,63 @@
 // (docs/REHEARSAL.md, "Report").
 #![tactic(auto)]
 
+use borders::Hours;
 use calendar::Date;
 use session::Session;
-use text::{put, put_number, put_two_digits};
+use std::fmt;
+use units::{Energies, Energy};
+use verdicts::Verdicts;
 
 mod borders;
-mod figures;
-mod hours;
+mod cells;
 pub mod replies;
-pub mod text;
 mod units;
 mod verdicts;
 
-// "2006-10-29, 25 hours"
-fn put_day(date: Date, hours: u32) {
-    put(b"  ");
-    put_number(date.year);
-    put(b"-");
-    put_two_digits(date.month);
-    put(b"-");
-    put_two_digits(date.day);
-    put(b", ");
-    put_number(hours);
-    put(b" hours\n");
+// The report of a session: lines that are empty or start with two blanks.
+#[derive(Clone, Copy)]
+pub struct Report<'a>(pub &'a Session);
+
+impl fmt::Display for Report<'_> {
+    fn fmt<W: fmt::Write>(&self, f: &mut fmt::Formatter<W>) -> fmt::Result {
+        let session = self.0;
+        writeln!(f, "  {}, {} hours", Day(session.date), session.hours)?;
+        if !session.closed {
+            return writeln!(f, "  not closed");
+        }
+        write!(f, "{}", Verdicts(session))?;
+        if !session.cleared {
+            return writeln!(f, "\n  not cleared");
+        }
+        write!(f, "{}", Figures(session))
+    }
 }
 
-fn put_figures(s: Session) {
-    put(
-        b"\n  Energies in tenths of MWh, prices in hundredths of a euro per MWh, balances exports less imports.\n",
-    );
-    borders::put_hours(s);
-    units::put_energies(s, query_any::MATCHED);
-    units::put_energies(s, query_any::EXECUTED);
+// "2006-10-29"
+#[derive(Clone, Copy)]
+struct Day(Date);
+
+impl fmt::Display for Day {
+    fn fmt<W: fmt::Write>(&self, f: &mut fmt::Formatter<W>) -> fmt::Result {
+        let Date { year, month, day } = self.0;
+        write!(f, "{year}-{month:02}-{day:02}")
+    }
 }
 
-pub fn put_report(s: Session) {
-    let date = s.date;
-    put_day(date, s.hours);
-    if !s.closed {
-        put(b"  not closed\n");
-        return;
+#[derive(Clone, Copy)]
+struct Figures<'a>(&'a Session);
+
+impl fmt::Display for Figures<'_> {
+    fn fmt<W: fmt::Write>(&self, f: &mut fmt::Formatter<W>) -> fmt::Result {
+        let session = self.0;
+        writeln!(
+            f,
+            "\n  Energies in tenths of MWh, prices in hundredths of a euro per MWh, balances exports less imports."
+        )?;
+        write!(f, "{}", Hours(session))?;
+        for energy in [Energy::Matched, Energy::Executed] {
+            write!(f, "{}", Energies { session, energy })?;
+        }
+        Ok(())
     }
-    verdicts::put_verdicts(s);
-    if !s.cleared {
-        put(b"\n  not cleared\n");
-        return;
-    }
-    put_figures(s);
 }

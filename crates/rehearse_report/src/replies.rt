@@ -1,78 +1,51 @@
 // What the gate says, in words.
-use crate::text::{put, put_count, put_number, put_signed};
 use answer::{ABSENT, ACCEPTED, FIGURE, HIDDEN, LIMIT, NUMBERED, REFUSED, Response};
+use rules::row::Row;
+use std::fmt;
 
-// The word of a row of the refusal table.
-fn put_row(row: u32) {
-    match row {
-        1 => put(b"date"),
-        2 => put(b"gate"),
-        3 => put(b"form"),
-        4 => put(b"hour"),
-        5 => put(b"range"),
-        6 => put(b"unit"),
-        7 => put(b"taken"),
-        _ => put_later_row(row),
+// The answer of a call or a query: "accepted", "refused 10 maximum hour 3", "number 5".
+#[derive(Clone, Copy)]
+pub struct Told(pub Response);
+
+impl fmt::Display for Told {
+    fn fmt<W: fmt::Write>(&self, f: &mut fmt::Formatter<W>) -> fmt::Result {
+        let Response {
+            kind,
+            row,
+            hour,
+            value,
+            count,
+            ..
+        } = self.0;
+        match kind {
+            ACCEPTED => f.write_str("accepted"),
+            REFUSED => write!(f, "refused {}", Because { row, hour }),
+            NUMBERED => write!(f, "number {value}"),
+            HIDDEN => f.write_str("hidden"),
+            LIMIT => write!(f, "limit {}", Because { row, hour }),
+            FIGURE => write!(f, "{value}"),
+            ABSENT => f.write_str("none"),
+            _ => write!(f, "steps {count}"),
+        }
     }
 }
 
-fn put_later_row(row: u32) {
-    match row {
-        8 => put(b"second"),
-        9 => put(b"full"),
-        10 => put(b"maximum"),
-        11 => put(b"available"),
-        12 => put(b"border"),
-        13 => put(b"absent"),
-        _ => put(b"short"),
-    }
+// "10 maximum hour 3", "2 gate": a row that has no hour of its own gives 0.
+#[derive(Clone, Copy)]
+struct Because {
+    row: u32,
+    hour: u32,
 }
 
-fn put_hour(hour: u32) {
-    put(b" hour ");
-    put_number(hour);
-}
-
-// "refused 10 maximum hour 3", "refused 2 gate": a row that has no hour of its own gives 0.
-fn put_refusal(row: u32, hour: u32) {
-    put(b"refused ");
-    put_number(row);
-    put(b" ");
-    put_row(row);
-    if hour != 0 {
-        put_hour(hour);
-    }
-}
-
-fn put_limit(row: u32, hour: u32) {
-    put(b"limit ");
-    put_number(row);
-    put(b" ");
-    put_row(row);
-    put_hour(hour);
-}
-
-fn put_lodged(number: i64) {
-    put(b"number ");
-    put_signed(number);
-}
-
-fn put_steps(count: u64) {
-    put(b"steps ");
-    put_count(count);
-}
-
-// The answer of a call or a query.
-pub fn put_response(r: Response) {
-    let kind = r.kind;
-    match kind {
-        ACCEPTED => put(b"accepted"),
-        REFUSED => put_refusal(r.row, r.hour),
-        NUMBERED => put_lodged(r.value),
-        HIDDEN => put(b"hidden"),
-        LIMIT => put_limit(r.row, r.hour),
-        FIGURE => put_signed(r.value),
-        ABSENT => put(b"none"),
-        _ => put_steps(r.count),
+impl fmt::Display for Because {
+    fn fmt<W: fmt::Write>(&self, f: &mut fmt::Formatter<W>) -> fmt::Result {
+        write!(f, "{}", self.row)?;
+        if let Ok(row) = Row::try_from(self.row) {
+            write!(f, " {row}")?;
+        }
+        if self.hour != 0 {
+            write!(f, " hour {}", self.hour)?;
+        }
+        Ok(())
     }
 }

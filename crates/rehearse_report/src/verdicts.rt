@@ -1,49 +1,39 @@
 // The verdicts: a row for each lodgement that stood at closing.
-use crate::replies::put_response;
-use crate::text::{put, put_number_right, put_right};
-use query_any::{VERDICT, reply_to};
-use session::{Key, Lodgement, Session};
+use crate::cells::Cell;
+use crate::replies::Told;
+use query_any::Query;
+use session::{Key, Session};
+use std::fmt;
 
-// "       6  execution  normal       8        12  "
-fn put_key(number: u32, key: Key) {
-    put(b"  ");
-    put_number_right(number, 6);
-    if key.execution {
-        put(b"  execution  ");
-    } else {
-        put(b"  offer      ");
-    }
-    if key.default {
-        put(b"default");
-    } else {
-        put(b"normal ");
-    }
-    put_number_right(key.unit, 7);
-    if key.execution {
-        put_number_right(key.contract, 10);
-    } else {
-        put_right(b"-", 10);
-    }
-    put(b"  ");
-}
+#[derive(Clone, Copy)]
+pub struct Verdicts<'a>(pub &'a Session);
 
-fn put_verdict(s: Session, l: Lodgement) {
-    let key = l.key;
-    put_key(l.number, key);
-    let verdict = reply_to(s, VERDICT, l.number, true, 0);
-    put_response(verdict);
-    put(b"\n");
-}
-
-pub fn put_verdicts(s: Session) {
-    put(b"\n  number  kind       mark        unit  contract  verdict\n");
-    let lodgements = s.lodgements;
-    let standing = s.standing;
-    for i in 0..128usize {
-        if standing <= i {
-            break;
+impl fmt::Display for Verdicts<'_> {
+    fn fmt<W: fmt::Write>(&self, f: &mut fmt::Formatter<W>) -> fmt::Result {
+        let session = self.0;
+        writeln!(
+            f,
+            "\n  number  kind       mark        unit  contract  verdict"
+        )?;
+        for lodgement in session.lodgements.iter().take(session.standing) {
+            let number = lodgement.number;
+            let verdict = Told(Query::Verdict(number).reply(session));
+            writeln!(f, "  {number:>6}  {}  {verdict}", Holder(lodgement.key))?;
         }
-        let l = lodgements[i];
-        put_verdict(s, l);
+        Ok(())
+    }
+}
+
+// "execution  normal       8        12"
+#[derive(Clone, Copy)]
+struct Holder(Key);
+
+impl fmt::Display for Holder {
+    fn fmt<W: fmt::Write>(&self, f: &mut fmt::Formatter<W>) -> fmt::Result {
+        let key = self.0;
+        let kind = if key.execution { "execution" } else { "offer" };
+        let mark = if key.default { "default" } else { "normal" };
+        let contract = Cell(key.execution.then_some(key.contract));
+        write!(f, "{kind:<9}  {mark:<7}{:>7}{contract:>10}", key.unit)
     }
 }

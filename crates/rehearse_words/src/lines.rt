@@ -1,10 +1,11 @@
 // What a line asks for.
 use crate::calls::{Call, availability, capacities, key, message, unit};
 use crate::messages::fields;
-use crate::queries::{Query, query_named};
+use crate::queries::query;
 use crate::words::{Words, number, parted};
 use calendar::Date;
 use message::Fields;
+use query_any::Query;
 
 #[derive(Drop)]
 pub enum Line {
@@ -42,7 +43,7 @@ pub fn asked(name: &[u8], words: &mut Words) -> Option<Line> {
         b"close" => Line::Call(Call::Close),
         b"clear" => Line::Call(Call::Clear),
         b"report" => Line::Report,
-        _ => Line::Query(query_named(name, words)?),
+        _ => Line::Query(query(name, words)?),
     })
 }
 

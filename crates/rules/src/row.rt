@@ -1,6 +1,6 @@
 // The rows of the table "When the gate says no", by its words.
-ghost use Rattle.std.specs.Prelude.{◌≡◌};
-ghost use Rattle.rules.specs.Rows.{number_of};
+ghost use Rattle.std.specs.Prelude.{◌≡◌, Some};
+ghost use Rattle.rules.specs.Rows.{number_of, word_of, RowOf};
 
 use std::error::Error;
 use std::fmt;
@@ -78,8 +78,40 @@ impl Row {
 
 impl Error for Row {}
 
+// A number that is none of the table's.
+#[derive(Clone, Copy, Debug, PartialEq, Eq)]
+pub struct UnknownRow(pub u32);
+
+impl TryFrom<u32> for Row {
+    type Error = UnknownRow;
+
+    ghost try_from_gives = { RowOf };
+
+    fn try_from(number: u32) -> Result<Row, UnknownRow> {
+        match number {
+            1 => Ok(Row::Date),
+            2 => Ok(Row::Gate),
+            3 => Ok(Row::Form),
+            4 => Ok(Row::Hour),
+            5 => Ok(Row::Range),
+            6 => Ok(Row::Unit),
+            7 => Ok(Row::Taken),
+            8 => Ok(Row::Second),
+            9 => Ok(Row::Full),
+            10 => Ok(Row::Maximum),
+            11 => Ok(Row::Available),
+            12 => Ok(Row::Border),
+            13 => Ok(Row::Absent),
+            14 => Ok(Row::Short),
+            _ => Err(UnknownRow(number)),
+        }
+    }
+}
+
 // The table's word.
 impl fmt::Display for Row {
+    ghost output = { λ row. Some (word_of row) };
+
     fn fmt<W: fmt::Write>(&self, f: &mut fmt::Formatter<W>) -> fmt::Result {
         f.write_str(match self {
             Row::Date => "date",
