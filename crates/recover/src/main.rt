@@ -15,8 +15,8 @@ use arrayvec::ArrayVec;
 use calendar::Date;
 use rehearse_lines::telling::{Said, tell};
 use rehearse_report::replies::Told;
+use rehearse_words::lines;
 use rehearse_words::words::{Words, is_blank};
-use rehearse_words::{hex, lines};
 use session::Session;
 use std::io::Read;
 use std::{fmt, io};
@@ -70,7 +70,7 @@ fn read_date(words: &mut Words) -> Option<Date> {
 fn asked(words: &mut Words) -> Option<Line> {
     let name = words.next()?;
     Some(match name {
-        b"log" => Line::Log(hex::bytes(words.next()?)?),
+        b"log" => Line::Log(words.bytes()?),
         b"byte" => Line::Byte(
             words.number()? as usize,
             u8::try_from(words.number()?).ok()?,

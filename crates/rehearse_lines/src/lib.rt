@@ -3,6 +3,15 @@
 
 pub mod telling;
 
+ghost use Rattle.std.specs.Prelude.{◌≡◌, ◌≢◌, ◌↔◌};
+ghost use Rattle.rules.specs.Message as M;
+ghost use Rattle.calendar.specs.View.{date_in};
+ghost use Rattle.message.specs.View.{fields_in};
+ghost use Rattle.session.specs.Image.{image};
+ghost use Rattle.session.specs.Steps.{Met, Opens};
+ghost use Rattle.rules.specs.Hours.{fresh};
+ghost use Rattle.rehearse_lines.specs.Runs.{call_in, Lodges, Ran, IfAnswer};
+
 use crate::telling::Said;
 use answer::Response;
 use calendar::Date;
@@ -12,7 +21,9 @@ use rehearse_words::lines::Line;
 use session::{Effect, Session};
 
 // The session before the first `open`.
-pub fn first_session() -> Session {
+pub fn first_session() -> Session
+    ensures { result ≡ image (fresh (record { year = 2002; month = 1; day = 1 })) }
+{
     Session::fresh(Date {
         year: 2002,
         month: 1,
@@ -20,20 +31,19 @@ pub fn first_session() -> Session {
     })
 }
 
-fn called(session: &mut Session, effect: Effect) -> Response {
-    *session = effect.session;
-    effect.answer
-}
-
-fn open(session: &mut Session, date: Date) -> Response {
+fn open(session: &mut Session, date: Date) -> Response
+    ensures { Opens (date_in date) (record { answer = result; session = session.new }) }
+{
     let opened = session::open(date);
     *session = opened.session;
     opened.answer
 }
 
-fn run_call(session: &mut Session, call: Call) -> Response {
-    let s = *session;
-    let effect = match call {
+// What a call does.
+fn effect(s: Session, call: Call) -> Effect
+    ensures { Met s (call_in call) result }
+{
+    match call {
         Call::Register(unit) => register::register(s, unit),
         Call::Capacity(notice) => notify_capacity::capacity(s, notice),
         Call::Available(notice) => notify_unavailability::available(s, notice),
@@ -41,25 +51,38 @@ fn run_call(session: &mut Session, call: Call) -> Response {
         Call::Annul(key) => annul::annul(s, key),
         Call::Close => close::close(s),
         Call::Clear => clear::clear(s),
-    };
-    called(session, effect)
+    }
+}
+
+fn run_call(session: &mut Session, call: Call) -> Response
+    ensures { Met session.old (call_in call) (record { session = session.new; answer = result }) }
+{
+    let effect = effect(*session, call);
+    *session = effect.session;
+    effect.answer
 }
 
 // A message written and lodged.
-fn lodge_message(session: &mut Session, fields: Fields) -> Response {
+fn lodge_message(session: &mut Session, fields: Fields) -> Response
+    ensures { Lodges session.old (M.write 108 (fields_in fields)) session.new result }
+{
     let mut message = [0u8; 108];
     let written = message_writer::write(fields, &mut message);
     if written.row != 0 {
         return answer::refused(written.row, 0);
     }
-    called(
-        session,
-        lodge::lodge::lodge(*session, &message[..written.count]),
-    )
+    let effect = lodge::lodge::lodge(*session, &message[..written.count]);
+    *session = effect.session;
+    effect.answer
 }
 
 // A line that is understood.
-pub fn run(session: &mut Session, line: Line) -> Said {
+pub fn run(session: &mut Session, line: Line) -> Said
+    ensures answer { IfAnswer result (Ran session.old line session.new) }
+    ensures report { (result ≡ Said.Report) ↔ (line ≡ Line.Report) }
+    ensures report_kept { result ≡ Said.Report → session.new ≡ session.old }
+    ensures understood { result ≢ Said.NotUnderstood }
+{
     match line {
         Line::Open(date) => Said::Answer(open(session, date)),
         Line::Call(call) => Said::Answer(run_call(session, call)),

@@ -1,5 +1,4 @@
 // A line that is a call.
-use crate::hex;
 use crate::words::{Words, number, parted};
 use arrayvec::ArrayVec;
 use notify_capacity::Capacities;
@@ -15,6 +14,7 @@ pub enum Call {
     Register(Unit),
     Capacity(Capacities),
     Available(Availability),
+    // lodge 10000E0000600000003C1194002F9130
     Lodge(ArrayVec<u8, MESSAGE>),
     Annul(Key),
     Close,
@@ -22,7 +22,7 @@ pub enum Call {
 }
 
 // register 7 agent 100 border 1 purchase max 500 legacy
-pub fn unit(words: &mut Words) -> Option<Unit> {
+pub(crate) fn unit(words: &mut Words) -> Option<Unit> {
     let number = words.number()?;
     words.expect(b"agent")?;
     let agent = words.number()?;
@@ -44,7 +44,7 @@ pub fn unit(words: &mut Words) -> Option<Unit> {
 }
 
 // annul execution 8 default contract 12
-pub fn key(words: &mut Words) -> Option<Key> {
+pub(crate) fn key(words: &mut Words) -> Option<Key> {
     let execution = words.either(b"offer", b"execution")?;
     let unit = words.number()?;
     let default = words.take_if(b"default");
@@ -59,7 +59,7 @@ pub fn key(words: &mut Words) -> Option<Key> {
 }
 
 // An execution names a contract; the contract of an offer is 0.
-pub fn contract(words: &mut Words, execution: bool) -> Option<u32> {
+pub(crate) fn contract(words: &mut Words, execution: bool) -> Option<u32> {
     if !execution {
         return Some(0);
     }
@@ -93,7 +93,7 @@ fn energies(word: &[u8]) -> Option<(usize, [u32; HOURS])> {
 }
 
 // available 7 500x10,0x5,500x10
-pub fn availability(words: &mut Words) -> Option<Availability> {
+pub(crate) fn availability(words: &mut Words) -> Option<Availability> {
     let unit = words.number()?;
     let (count, energies) = energies(words.next()?)?;
     Some(Availability {
@@ -110,7 +110,7 @@ fn direction_index(border: u32, import: bool) -> Option<usize> {
 }
 
 // capacity 1 export 100x25 1 import 80x24,0: no direction twice, so there are no more than there are directions.
-pub fn capacities(words: &mut Words) -> Option<Capacities> {
+pub(crate) fn capacities(words: &mut Words) -> Option<Capacities> {
     let absent = Published {
         count: 0,
         published: false,
@@ -139,9 +139,4 @@ pub fn capacities(words: &mut Words) -> Option<Capacities> {
         };
     }
     Some(Capacities { directions })
-}
-
-// lodge 10000E0000600000003C1194002F9130
-pub fn message(words: &mut Words) -> Option<ArrayVec<u8, MESSAGE>> {
-    hex::bytes(words.next()?)
 }

@@ -2,8 +2,7 @@
 #![tactic(auto)]
 
 pub mod calls;
-pub mod hex;
 pub mod lines;
-pub mod messages;
-pub mod queries;
+mod messages;
+mod queries;
 pub mod words;

@@ -1,5 +1,5 @@
 // What a line asks for.
-use crate::calls::{Call, availability, capacities, key, message, unit};
+use crate::calls::{Call, availability, capacities, key, unit};
 use crate::messages::fields;
 use crate::queries::query;
 use crate::words::{Words, number, parted};
@@ -38,7 +38,7 @@ pub fn asked(name: &[u8], words: &mut Words) -> Option<Line> {
         b"available" => Line::Call(Call::Available(availability(words)?)),
         b"offer" => Line::Message(fields(words, false)?),
         b"execution" => Line::Message(fields(words, true)?),
-        b"lodge" => Line::Call(Call::Lodge(message(words)?)),
+        b"lodge" => Line::Call(Call::Lodge(words.bytes()?)),
         b"annul" => Line::Call(Call::Annul(key(words)?)),
         b"close" => Line::Call(Call::Close),
         b"clear" => Line::Call(Call::Clear),

@@ -49,7 +49,7 @@ fn put(fields: &mut Fields, slot: Slot) {
 }
 
 // offer 7 default 3:120@4500 4:95@4400; execution 8 contract 12 3:60 4:60. No hour twice.
-pub fn fields(words: &mut Words, execution: bool) -> Option<Fields> {
+pub(crate) fn fields(words: &mut Words, execution: bool) -> Option<Fields> {
     let unit = words.number()?;
     let default = words.take_if(b"default");
     let contract = contract(words, execution)?;

@@ -1,7 +1,10 @@
 // The words of a line, and what a word says.
 
-ghost use Rattle.std.specs.Prelude.{length};
+ghost use Rattle.std.specs.Prelude.{◌≡◌, length, IfSome, Ok};
 ghost use Rattle.std.specs.Iterator.{at_most};
+ghost use Rattle.hex.specs.Hex.{decode_of};
+
+use arrayvec::ArrayVec;
 
 // White space of ASCII other than the line's end.
 pub fn is_blank(byte: u8) -> bool {
@@ -41,13 +44,18 @@ impl<'a> Words<'a> {
         number(self.next()?)
     }
 
+    // The next word is some bytes in hexadecimal.
+    pub fn bytes<const N: usize>(&mut self) -> Option<ArrayVec<u8, N>> {
+        bytes(self.next()?)
+    }
+
     // The next word is this one.
-    pub fn expect(&mut self, word: &[u8]) -> Option<()> {
+    pub(crate) fn expect(&mut self, word: &[u8]) -> Option<()> {
         if self.next()? == word { Some(()) } else { None }
     }
 
     // Whether the next word is this one, which is then taken.
-    pub fn take_if(&mut self, word: &[u8]) -> bool {
+    pub(crate) fn take_if(&mut self, word: &[u8]) -> bool {
         let mut ahead = *self;
         let is_next = ahead.next() == Some(word);
         if is_next {
@@ -57,7 +65,7 @@ impl<'a> Words<'a> {
     }
 
     // The next word is the first of two, which says no, or the second, which says yes.
-    pub fn either(&mut self, no: &[u8], yes: &[u8]) -> Option<bool> {
+    pub(crate) fn either(&mut self, no: &[u8], yes: &[u8]) -> Option<bool> {
         let word = self.next()?;
         if word == no {
             Some(false)
@@ -78,15 +86,25 @@ impl<'a> Words<'a> {
 }
 
 // A number has one to nine digits.
-pub fn number(word: &[u8]) -> Option<u32> {
+pub(crate) fn number(word: &[u8]) -> Option<u32> {
     if word.len() > 9 || !word.iter().all(|b| b.is_ascii_digit()) {
         return None;
     }
     str::from_utf8(word).ok()?.parse().ok()
 }
 
+// Bytes in hexadecimal, two digits each, N at most.
+fn bytes<const N: usize>(word: &[u8]) -> Option<ArrayVec<u8, N>>
+    ensures { IfSome result (λ bytes. decode_of word.now ≡ Ok bytes.items) }
+{
+    let mut bytes = ArrayVec::from([0u8; N]);
+    bytes.truncate(word.len() / 2);
+    hex::decode_to_slice(word, bytes.as_mut_slice()).ok()?;
+    Some(bytes)
+}
+
 // What stands before a mark and behind it.
-pub fn parted(word: &[u8], mark: u8) -> Option<(&[u8], &[u8])> {
+pub(crate) fn parted(word: &[u8], mark: u8) -> Option<(&[u8], &[u8])> {
     let at = word.iter().position(|b| *b == mark)?;
     Some((&word[..at], &word[at + 1..]))
 }
