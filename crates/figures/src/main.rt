@@ -17,57 +17,70 @@
 // Any other line is written as it stands. tests/figures makes the input and, from the independent model, what is expected.
 #![tactic(auto)]
 
-pub mod questions;
+use answers::{Counted, Named, Told, Written};
+use hours::NextHour;
+use message::Fields;
+use questions::Question;
+use std::io;
+use std::io::{BufRead, BufReader, BufWriter, Write};
 
-ghost use Rattle.std.specs.Prelude.{◌≤◌, ◌<◌, length};
-
-use crate::questions::{answer_plain, numbers_of};
-use hour::Hour;
-
+mod answers;
 mod hours;
+mod numbers;
+mod questions;
 
-const STDIN: i32 = 0;
-
-// A line's answer, and the hour that is being given after it.
-fn answer(line: &[u8], h: Hour) -> Hour {
-    if line.len() == 0 {
-        return h;
+// A message written, if its room is not more than the buffer has.
+fn write<W: Write>(room: usize, fields: Fields, out: &mut W) -> io::Result<()> {
+    let mut buffer = [0xA5; 128];
+    match buffer.get_mut(..room) {
+        Some(buffer) => writeln!(out, "{}", Written::into(buffer, fields)),
+        None => Ok(()),
     }
-    let kind = line[0];
-    let tens = numbers_of(&line[1..], false);
-    if hours::is_part(kind) {
-        return hours::after(h, kind, tens);
-    }
-    answer_plain(line, kind, tens);
-    h
 }
 
-// The index of the next line end from `at` on, or the end.
-fn line_end(s: &[u8], at: usize) -> usize
-    requires { at ≤ length s.now }
-    ensures { (at ≤ result) × (result ≤ length s.now) }
-{
-    for i in at..s.len() {
-        if s[i] == b'\n' {
-            return i;
+fn answer<W: Write>(question: Question, hour: &mut NextHour, out: &mut W) -> io::Result<()> {
+    match question {
+        Question::Hours(date) => writeln!(out, "{}", Counted(calendar::hours_at(date))),
+        Question::ClockName(date, hour) => writeln!(out, "{}", Named(calendar::clock_at(date, hour))),
+        Question::HourNamed(date, clock) => writeln!(out, "{}", Counted(calendar::hour_at(date, clock))),
+        Question::Read(message) => writeln!(out, "{}", Told::of(&message, message_reader::read)),
+        Question::ReadFieldwise(message) => writeln!(out, "{}", Told::of(&message, message_cursor::fieldwise::read)),
+        Question::Write(room, fields) => write(room, fields, out),
+        Question::Offer(offer) => {
+            hour.offer(offer);
+            Ok(())
+        }
+        Question::Execution(execution) => {
+            hour.execution(execution);
+            Ok(())
+        }
+        Question::Capacity(border, export, energy) => {
+            hour.capacity(border, export, energy);
+            Ok(())
+        }
+        Question::Clear => writeln!(out, "{}", hour.clear()),
+    }
+}
+
+fn answer_line<W: Write>(line: &[u8], hour: &mut NextHour, out: &mut W) -> io::Result<()> {
+    if line.is_empty() {
+        return Ok(());
+    }
+    match Question::of(line) {
+        Some(question) => answer(question, hour, out),
+        None => {
+            out.write_all(line)?;
+            out.write_all(b"\n")
         }
     }
-    s.len()
 }
 
-fn answer_all(s: &[u8]) {
-    let mut at: usize = 0;
-    let mut h = hours::no_hour();
-    while at < s.len() {
-        let end = line_end(s, at);
-        let next = answer(&s[at..end], h);
-        h = next;
-        at = end + 1;
+fn main(rt: HostRuntime) -> io::Result<()> {
+    let alloc = rt.alloc();
+    let mut out = BufWriter::new(alloc, io::writer(&rt))?;
+    let mut hour = NextHour::new();
+    for line in BufReader::new(alloc, rt.reader())?.split(alloc, b'\n') {
+        answer_line(&line?, &mut hour, &mut out)?;
     }
-}
-
-fn main() {
-    let mut input = io::large_buffer();
-    let n = io::read_full(STDIN, &mut input);
-    answer_all(&input[..n]);
+    out.flush()
 }
