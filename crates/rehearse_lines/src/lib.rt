@@ -9,7 +9,7 @@ ghost use Rattle.calendar.specs.View.{date_in};
 ghost use Rattle.message.specs.View.{fields_in};
 ghost use Rattle.session.specs.Image.{image};
 ghost use Rattle.session.specs.Steps.{Met, Opens};
-ghost use Rattle.rules.specs.Hours.{fresh};
+ghost use Rattle.rules.specs.Book.{fresh};
 ghost use Rattle.rehearse_lines.specs.Runs.{call_in, Lodges, Ran, IfAnswer};
 
 use crate::telling::Said;
