@@ -1,4 +1,7 @@
 // What a line asks for.
+ghost use Rattle.std.specs.Prelude.{All, IsTrue, IsNone};
+ghost use Rattle.rehearse_words.specs.Blanks.{is_blank};
+
 use crate::calls::{Call, availability, capacities, key, unit};
 use crate::messages::fields;
 use crate::queries::query;
@@ -49,8 +52,10 @@ pub fn asked(name: &[u8], words: &mut Words) -> Option<Line> {
 
 impl Line {
     // What a line asks for, where all its words are understood.
-    pub fn read(line: &[u8]) -> Option<Line> {
-        let mut words = Words::of(line);
+    pub fn read(line: &[u8]) -> Option<Line>
+        ensures { All (λ b. IsTrue (is_blank b)) line.now → IsNone result }
+    {
+        let mut words = Words { rest: line };
         let name = words.next()?;
         let line = asked(name, &mut words)?;
         words.end()?;

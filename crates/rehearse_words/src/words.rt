@@ -1,24 +1,30 @@
 // The words of a line, and what a word says.
 
-ghost use Rattle.std.specs.Prelude.{◌≡◌, length, IfSome, Ok};
+ghost use Rattle.std.specs.Prelude.{◌≡◌, ◌↔◌, length, All, IsTrue, IsSome, IsNone, IfSome, Ok};
 ghost use Rattle.std.specs.Iterator.{at_most};
 ghost use Rattle.hex.specs.Hex.{decode_of};
+ghost use Rattle.rehearse_words.specs.Blanks.{is_blank};
 
 use arrayvec::ArrayVec;
 
 // White space of ASCII other than the line's end.
-pub fn is_blank(byte: u8) -> bool {
+pub fn is_blank(byte: u8) -> bool
+    ensures { result ≡ is_blank byte }
+{
     matches!(byte, 9 | 11..=13 | 28..=32)
 }
 
 // The words of a line that are not read yet.
 #[derive(Clone, Copy)]
 pub struct Words<'a> {
-    rest: &'a [u8],
+    pub rest: &'a [u8],
 }
 
 impl<'a> Iterator for Words<'a> {
     type Item = &'a [u8];
+
+    // No word is left where all bytes are blanks.
+    ghost next_gives = { λ s r t. IsNone r ↔ All (λ b. IsTrue (is_blank b)) s.rest.now };
 
     ghost remaining = { λ s. at_most (length s.rest.now) };
 
@@ -35,10 +41,6 @@ impl<'a> Iterator for Words<'a> {
 }
 
 impl<'a> Words<'a> {
-    pub fn of(line: &'a [u8]) -> Words<'a> {
-        Words { rest: line }
-    }
-
     // The next word is a number.
     pub fn number(&mut self) -> Option<u32> {
         number(self.next()?)
@@ -77,7 +79,9 @@ impl<'a> Words<'a> {
     }
 
     // Nothing follows.
-    pub fn end(&mut self) -> Option<()> {
+    pub fn end(&mut self) -> Option<()>
+        ensures { IsSome result ↔ All (λ b. IsTrue (is_blank b)) self.old.rest.now }
+    {
         match self.next() {
             None => Some(()),
             Some(_) => None,
