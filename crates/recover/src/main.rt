@@ -11,333 +11,207 @@
 // independent model, what is expected.
 #![tactic(auto)]
 
-ghost use Rattle.std.specs.Prelude.{◌≤◌, length};
-
+use arrayvec::ArrayVec;
 use calendar::Date;
-use message_bits::byte_at;
-use rehearse_lines::telling::Said;
-use rehearse_report::replies::put_response;
-use rehearse_report::text::{put, put_count};
-use rehearse_words::hex::{byte_in, bytes_in};
-use rehearse_words::words::{Scan, ended, is_ended, is_word, next_word, number};
+use rehearse_lines::telling::{Said, tell};
+use rehearse_report::replies::Told;
+use rehearse_words::lines;
+use rehearse_words::words::{Words, is_blank};
 use session::Session;
+use std::io::Read;
+use std::{fmt, io};
 
-const STDIN: i32 = 0;
+// How many bytes of the input are read.
+const INPUT: u64 = 262144;
 
-const STDOUT: i32 = 1;
+// How many bytes a log may have.
+const LOG: usize = 16384;
+
+// How many answers there is room for at most.
+const ANSWERS: usize = 256;
 
 // What stands where no answer was written: no answer has all its bits.
-const NO_ANSWER: u64 = 18446744073709551615;
+const NO_ANSWER: u64 = u64::MAX;
 
-// The session that is left, how many bytes the log has, and the lines so far.
-#[derive(Clone, Copy)]
-struct Day {
-    session: Session,
-    bytes: usize,
-    index: u64,
-}
-
-// The bytes of the log that are run, and the room for answers; from a fresh session of a date, or from the one that is left.
+// The bytes of the log that are run, and the room for answers.
 #[derive(Clone, Copy)]
 struct Part {
-    good: bool,
-    fresh: bool,
-    date: Date,
     room: usize,
     from: usize,
     to: usize,
 }
 
-fn first_day() -> Day {
-    let opened = session::open(Date {
-        year: 2002,
-        month: 1,
-        day: 1,
-    });
-    let session = opened.session;
-    Day {
-        session,
-        bytes: 0,
-        index: 0,
+// What a line asks for.
+#[derive(Drop)]
+enum Line {
+    Log(ArrayVec<u8, LOG>),
+    Byte(usize, u8),
+    Replay(Date, Part),
+    ReplayOn(Part),
+    Rehearsed(lines::Line),
+}
+
+fn read_part(words: &mut Words) -> Option<Part> {
+    Some(Part {
+        room: words.number()? as usize,
+        from: words.number()? as usize,
+        to: words.number()? as usize,
+    })
+}
+
+fn read_date(words: &mut Words) -> Option<Date> {
+    Some(Date {
+        year: words.number()?,
+        month: words.number()?,
+        day: words.number()?,
+    })
+}
+
+fn asked(words: &mut Words) -> Option<Line> {
+    let name = words.next()?;
+    Some(match name {
+        b"log" => Line::Log(words.bytes()?),
+        b"byte" => Line::Byte(
+            words.number()? as usize,
+            u8::try_from(words.number()?).ok()?,
+        ),
+        b"replay" => Line::Replay(read_date(words)?, read_part(words)?),
+        b"replay-on" => Line::ReplayOn(read_part(words)?),
+        _ => Line::Rehearsed(lines::asked(name, words)?),
+    })
+}
+
+// What a line asks for, where all its words are understood.
+fn read(line: &[u8]) -> Option<Line> {
+    let mut words = Words::of(line);
+    let line = asked(&mut words)?;
+    words.end()?;
+    Some(line)
+}
+
+// A log run: "calls 12, bytes 1848:", then an answer or nothing in each index that there was room for.
+#[derive(Clone, Copy)]
+struct Run<'a> {
+    calls: usize,
+    read: usize,
+    answers: &'a [u64],
+}
+
+impl fmt::Display for Run<'_> {
+    fn fmt<W: fmt::Write>(&self, f: &mut fmt::Formatter<W>) -> fmt::Result {
+        write!(f, "calls {}, bytes {}:", self.calls, self.read)?;
+        for answer in self.answers {
+            write!(f, " {answer:016x}")?;
+        }
+        Ok(())
     }
 }
 
-fn up(n: u64) -> u64 {
-    if n == 18446744073709551615 {
-        return n;
-    }
-    n + 1
+// The session that is left, the log, and the lines so far.
+#[derive(Drop)]
+struct Day {
+    session: Session,
+    log: ArrayVec<u8, LOG>,
+    lines: u64,
 }
 
-fn put_index(index: u64) {
-    put_count(index);
-    put(b": ");
-}
-
-fn unknown(d: Day) -> Day {
-    rehearse_lines::telling::put_line(d.index, Said::Unknown);
-    d
-}
-
-// Logs run
-
-fn put_words(answers: &[u64]) {
-    for i in 0..answers.len() {
-        put(b" ");
-        io::print_hex(STDOUT, answers[i], 16);
-    }
-    put(b"\n");
-}
-
-// "calls 12, bytes 1848:", then an answer or nothing in each index that there was room for.
-fn put_run(calls: usize, read: usize, answers: &[u64]) {
-    put(b"calls ");
-    put_count(calls as u64);
-    put(b", bytes ");
-    put_count(read as u64);
-    put(b":");
-    put_words(answers);
-}
-
-fn replay(date: Date, log: &[u8], answers: &mut [u64]) -> Session {
-    let r = book::replay(date, log, answers);
-    let opened = r.opened;
-    let session = r.session;
-    put_response(opened);
-    put(b", ");
-    put_run(r.calls, r.read, answers);
-    session
-}
-
-fn replay_on(s: Session, log: &[u8], answers: &mut [u64]) -> Session {
-    let r = book::replay_on(s, log, answers);
-    let session = r.session;
-    put_run(r.calls, r.read, answers);
-    session
-}
-
-fn run(fresh: bool, date: Date, s: Session, log: &[u8], answers: &mut [u64]) -> Session {
-    if fresh {
-        return replay(date, log, answers);
-    }
-    replay_on(s, log, answers)
-}
-
-fn run_part(part: Part, log: &[u8], answers: &mut [u64], d: Day) -> Day {
-    let from = part.from;
-    let to = part.to;
-    let room = part.room;
-    if to < from {
-        return unknown(d);
-    }
-    if log.len() < to {
-        return unknown(d);
-    }
-    if answers.len() < room {
-        return unknown(d);
-    }
-    let date = part.date;
-    let s = d.session;
-    put_index(d.index);
-    let session = run(part.fresh, date, s, &log[from..to], &mut answers[..room]);
-    Day {
-        session,
-        bytes: d.bytes,
-        index: d.index,
-    }
-}
-
-// The last words of a line that runs a log.
-fn part_of(line: &[u8], p: Scan, fresh: bool, date: Date) -> Part {
-    let room = number(line, p);
-    let from = number(line, room);
-    let to = number(line, from);
-    let end = ended(line, to);
-    Part {
-        good: end.good,
-        fresh,
-        date,
-        room: room.value as usize,
-        from: from.value as usize,
-        to: to.value as usize,
-    }
-}
-
-fn dated_part_of(line: &[u8], p: Scan) -> Part {
-    let year = number(line, p);
-    let month = number(line, year);
-    let day = number(line, month);
-    let date = Date {
-        year: year.value,
-        month: month.value,
-        day: day.value,
-    };
-    part_of(line, day, true, date)
-}
-
-fn plain_part_of(line: &[u8], p: Scan) -> Part {
-    let date = Date {
-        year: 0,
-        month: 0,
-        day: 0,
-    };
-    part_of(line, p, false, date)
-}
-
-fn run_log(part: Part, log: &[u8], d: Day) -> Day {
-    if !part.good {
-        return unknown(d);
-    }
-    if d.bytes < part.to {
-        return unknown(d);
-    }
-    let mut answers = [NO_ANSWER; 256];
-    run_part(part, log, &mut answers, d)
-}
-
-// The log's bytes
-
-fn with_bytes(d: Day, bytes: usize) -> Day {
-    put_index(d.index);
-    put(b"bytes ");
-    put_count(bytes as u64);
-    put(b"\n");
-    let session = d.session;
-    Day {
-        session,
-        bytes,
-        index: d.index,
-    }
-}
-
-fn put_byte(log: &mut [u8; 16384], at: usize, b: u8) {
-    if at < 16384 {
-        log[at] = b;
-    }
-}
-
-fn put_hex(line: &[u8], from: usize, count: usize, log: &mut [u8; 16384]) {
-    for k in 0..count {
-        put_byte(log, k, byte_in(line, from, k));
-    }
-}
-
-// log 060000070000
-fn run_bytes(line: &[u8], p: Scan, log: &mut [u8; 16384], d: Day) -> Day {
-    let w = next_word(line, p.at);
-    let bytes = bytes_in(line, w);
-    if !bytes.good {
-        return unknown(d);
-    }
-    if 16384 < bytes.count {
-        return unknown(d);
-    }
-    if !is_ended(line, w.to) {
-        return unknown(d);
-    }
-    put_hex(line, w.from, bytes.count, log);
-    with_bytes(d, bytes.count)
-}
-
-// byte 3 255
-fn run_byte(line: &[u8], p: Scan, log: &mut [u8; 16384], d: Day) -> Day {
-    let at = number(line, p);
-    let value = number(line, at);
-    let end = ended(line, value);
-    if !end.good {
-        return unknown(d);
-    }
-    if 255 < value.value {
-        return unknown(d);
-    }
-    let bytes = d.bytes;
-    if bytes <= at.value as usize {
-        return unknown(d);
-    }
-    put_byte(log, at.value as usize, value.value as u8);
-    with_bytes(d, bytes)
-}
-
-// Lines
-
-// A line of a rehearsal.
-fn run_rehearsed(line: &[u8], d: Day) -> Day {
-    let t = rehearse_lines::run(line, d.session);
-    let session = t.session;
-    let said = t.said;
-    rehearse_lines::telling::put_line(d.index, said);
-    if rehearse_lines::telling::is_report(said) {
-        rehearse_report::put_report(session);
-    }
-    Day {
-        session,
-        bytes: d.bytes,
-        index: d.index,
-    }
-}
-
-fn run_line(line: &[u8], log: &mut [u8; 16384], d: Day) -> Day {
-    let w = next_word(line, 0);
-    let p = Scan {
-        at: w.to,
-        good: true,
-        value: 0,
-    };
-    if is_word(line, w, b"log") {
-        return run_bytes(line, p, log, d);
-    }
-    if is_word(line, w, b"byte") {
-        return run_byte(line, p, log, d);
-    }
-    if is_word(line, w, b"replay") {
-        return run_log(dated_part_of(line, p), log, d);
-    }
-    if is_word(line, w, b"replay-on") {
-        return run_log(plain_part_of(line, p), log, d);
-    }
-    run_rehearsed(line, d)
-}
-
-// A line's end: blank lines and comments say nothing.
-fn end_line(line: &[u8], log: &mut [u8; 16384], before: Day) -> Day {
-    let mut d = before;
-    d.index = up(d.index);
-    if is_ended(line, 0) {
-        return d;
-    }
-    if byte_at(line, 0) == b'#' {
-        return d;
-    }
-    run_line(line, log, d)
-}
-
-// The index of the next line end from `at` on, or the end.
-fn line_end(s: &[u8], at: usize) -> usize
-    requires { at ≤ length s.now }
-    ensures { (at ≤ result) × (result ≤ length s.now) }
-{
-    for i in at..s.len() {
-        if s[i] == b'\n' {
-            return i;
+impl Day {
+    fn new() -> Day {
+        Day {
+            session: rehearse_lines::first_session(),
+            log: ArrayVec::new(),
+            lines: 0,
         }
     }
-    s.len()
-}
 
-fn run_all(s: &[u8]) {
-    let mut log = [0u8; 16384];
-    let mut d = first_day();
-    let mut at: usize = 0;
-    while at < s.len() {
-        let end = line_end(s, at);
-        let next = end_line(&s[at..end], &mut log, d);
-        d = next;
-        at = end + 1;
+    fn not_understood(&self, rt: &impl Print) -> io::Result<()> {
+        tell(rt, self.lines, Said::NotUnderstood, &self.session)
+    }
+
+    fn tell_bytes(&self, rt: &impl Print) -> io::Result<()> {
+        println!(rt; "{}: bytes {}", self.lines, self.log.len())
+    }
+
+    // From a fresh session of the date, where one is given.
+    fn run_log(&mut self, rt: &impl Print, date: Option<Date>, part: Part) -> io::Result<()> {
+        let mut room = [NO_ANSWER; ANSWERS];
+        let Some(answers) = room.get_mut(..part.room) else {
+            return self.not_understood(rt);
+        };
+        let Some(log) = self.log.as_slice().get(part.from..part.to) else {
+            return self.not_understood(rt);
+        };
+        match date {
+            Some(date) => {
+                let run = book::replay(date, log, answers);
+                self.session = run.session;
+                let opened = Told(run.opened);
+                let run = Run {
+                    calls: run.calls,
+                    read: run.read,
+                    answers,
+                };
+                println!(rt; "{}: {opened}, {run}", self.lines)
+            }
+            None => {
+                let run = book::replay_on(self.session, log, answers);
+                self.session = run.session;
+                let run = Run {
+                    calls: run.calls,
+                    read: run.read,
+                    answers,
+                };
+                println!(rt; "{}: {run}", self.lines)
+            }
+        }
+    }
+
+    fn put_byte(&mut self, rt: &impl Print, at: usize, byte: u8) -> io::Result<()> {
+        let Some(x) = self.log.as_mut_slice().get_mut(at) else {
+            return self.not_understood(rt);
+        };
+        *x = byte;
+        self.tell_bytes(rt)
+    }
+
+    fn run(&mut self, rt: &impl Print, line: Option<Line>) -> io::Result<()> {
+        match line {
+            None => self.not_understood(rt),
+            Some(Line::Log(log)) => {
+                self.log = log;
+                self.tell_bytes(rt)
+            }
+            Some(Line::Byte(at, byte)) => self.put_byte(rt, at, byte),
+            Some(Line::Replay(date, part)) => self.run_log(rt, Some(date), part),
+            Some(Line::ReplayOn(part)) => self.run_log(rt, None, part),
+            Some(Line::Rehearsed(line)) => {
+                let said = rehearse_lines::run(&mut self.session, line);
+                tell(rt, self.lines, said, &self.session)
+            }
+        }
+    }
+
+    // A line's end: blank lines and comments say nothing.
+    fn end_line(&mut self, rt: &impl Print, line: &[u8]) -> io::Result<()> {
+        self.lines = self.lines.saturating_add(1);
+        if line.iter().all(|b| is_blank(*b)) || line.starts_with(b"#") {
+            return Ok(());
+        }
+        self.run(rt, read(line))
     }
 }
 
-fn main() {
-    let mut input = [0u8; 262144];
-    let n = io::read_full(STDIN, &mut input);
-    run_all(&input[..n]);
+fn recover(rt: &impl Print, input: &[u8]) -> io::Result<()> {
+    let mut day = Day::new();
+    for line in input.split(|b| *b == b'\n') {
+        day.end_line(rt, line)?;
+    }
+    Ok(())
+}
+
+fn main(rt: HostRuntime) -> io::Result<()> {
+    let mut input = Vec::new(rt.alloc());
+    // A read that fails is the end.
+    let _ = rt.reader().take(INPUT).read_to_end(&mut input);
+    recover(&rt, input.as_slice())
 }

@@ -1,53 +1,39 @@
 // A rehearsal line's answer, and how it is written.
 use answer::{REFUSED, Response};
-use rehearse_report::replies::put_response;
-use rehearse_report::text::{put, put_count};
+use rehearse_report::Report;
+use rehearse_report::replies::Told;
 use session::Session;
+use std::{fmt, io};
 
 // The answer of a call or a query, a report, or that the line is none of these.
 #[derive(Clone, Copy)]
 pub enum Said {
-    Unknown,
+    NotUnderstood,
     Answer(Response),
     Report,
 }
 
-// A line's answer, and the session after it.
-#[derive(Clone, Copy)]
-pub struct Told {
-    pub session: Session,
-    pub said: Said,
-}
-
-// "12: accepted"
-pub fn put_line(index: u64, said: Said) {
-    put_count(index);
-    put(b": ");
-    match said {
-        Said::Unknown => put(b"not understood"),
-        Said::Answer(r) => put_response(r),
-        Said::Report => put(b"report"),
-    }
-    put(b"\n");
-}
-
-pub fn is_unknown(said: Said) -> bool {
-    match said {
-        Said::Unknown => true,
-        _ => false,
+impl Said {
+    pub fn is_refused(&self) -> bool {
+        matches!(self, Said::Answer(answer) if answer.kind == REFUSED)
     }
 }
 
-pub fn is_report(said: Said) -> bool {
-    match said {
-        Said::Report => true,
-        _ => false,
+impl fmt::Display for Said {
+    fn fmt<W: fmt::Write>(&self, f: &mut fmt::Formatter<W>) -> fmt::Result {
+        match self {
+            Said::NotUnderstood => write!(f, "not understood"),
+            Said::Answer(answer) => write!(f, "{}", Told(*answer)),
+            Said::Report => write!(f, "report"),
+        }
     }
 }
 
-pub fn is_refused(said: Said) -> bool {
+// "12: accepted"; a report's tables are further lines.
+pub fn tell(rt: &impl Print, index: u64, said: Said, session: &Session) -> io::Result<()> {
+    println!(rt; "{index}: {said}")?;
     match said {
-        Said::Answer(r) => r.kind == REFUSED,
-        _ => false,
+        Said::Report => print!(rt; "{}", Report(session)),
+        _ => Ok(()),
     }
 }

@@ -1,221 +1,114 @@
-// The words of a line, taken one by one.
-use message_bits::byte_at;
+// The words of a line, and what a word says.
 
-// Where a word stands in its line; from == to at the line's end.
-#[derive(Clone, Copy)]
-pub struct Word {
-    pub from: usize,
-    pub to: usize,
-}
+ghost use Rattle.std.specs.Prelude.{◌≡◌, ◌↔◌, length, All, IsTrue, IsSome, IsNone, IfSome, Ok};
+ghost use Rattle.std.specs.Iterator.{at_most};
+ghost use Rattle.hex.specs.Hex.{decode_of};
+ghost use Rattle.rehearse_words.specs.Blanks.{is_blank};
 
-// How far a line is read: whether all so far was understood, and what the last word said.
-#[derive(Clone, Copy)]
-pub struct Scan {
-    pub at: usize,
-    pub good: bool,
-    pub value: u32,
-}
+use arrayvec::ArrayVec;
 
 // White space of ASCII other than the line's end.
-pub fn is_blank(b: u8) -> bool {
-    match b {
-        9 | 11..=13 | 28..=32 => true,
-        _ => false,
+pub fn is_blank(byte: u8) -> bool
+    ensures { result ≡ is_blank byte }
+{
+    matches!(byte, 9 | 11..=13 | 28..=32)
+}
+
+// The words of a line that are not read yet.
+#[derive(Clone, Copy)]
+pub struct Words<'a> {
+    pub rest: &'a [u8],
+}
+
+impl<'a> Iterator for Words<'a> {
+    type Item = &'a [u8];
+
+    // No word is left where all bytes are blanks.
+    ghost next_gives = { λ s r t. IsNone r ↔ All (λ b. IsTrue (is_blank b)) s.rest.now };
+
+    ghost remaining = { λ s. at_most (length s.rest.now) };
+
+    fn next(&mut self) -> Option<&'a [u8]> {
+        let from = self.rest.iter().position(|b| !is_blank(*b))?;
+        let start = &self.rest[from..];
+        let Some(end) = start.iter().position(|b| is_blank(*b)) else {
+            self.rest = &[];
+            return Some(start);
+        };
+        self.rest = &start[end + 1..];
+        Some(&start[..end])
     }
 }
 
-// The first byte of a word from `at` on, or the end.
-pub fn skip_blanks(line: &[u8], at: usize) -> usize {
-    for i in at..line.len() {
-        if !is_blank(line[i]) {
-            return i;
+impl<'a> Words<'a> {
+    // The next word is a number.
+    pub fn number(&mut self) -> Option<u32> {
+        number(self.next()?)
+    }
+
+    // The next word is some bytes in hexadecimal.
+    pub fn bytes<const N: usize>(&mut self) -> Option<ArrayVec<u8, N>> {
+        bytes(self.next()?)
+    }
+
+    // The next word is this one.
+    pub(crate) fn expect(&mut self, word: &[u8]) -> Option<()> {
+        if self.next()? == word { Some(()) } else { None }
+    }
+
+    // Whether the next word is this one, which is then taken.
+    pub(crate) fn take_if(&mut self, word: &[u8]) -> bool {
+        let mut ahead = *self;
+        let is_next = ahead.next() == Some(word);
+        if is_next {
+            *self = ahead;
+        }
+        is_next
+    }
+
+    // The next word is the first of two, which says no, or the second, which says yes.
+    pub(crate) fn either(&mut self, no: &[u8], yes: &[u8]) -> Option<bool> {
+        let word = self.next()?;
+        if word == no {
+            Some(false)
+        } else if word == yes {
+            Some(true)
+        } else {
+            None
         }
     }
-    line.len()
-}
 
-// The first blank from `at` on, or the end.
-fn word_end(line: &[u8], at: usize) -> usize {
-    for i in at..line.len() {
-        if is_blank(line[i]) {
-            return i;
+    // Nothing follows.
+    pub fn end(&mut self) -> Option<()>
+        ensures { IsSome result ↔ All (λ b. IsTrue (is_blank b)) self.old.rest.now }
+    {
+        match self.next() {
+            None => Some(()),
+            Some(_) => None,
         }
     }
-    line.len()
 }
 
-pub fn next_word(line: &[u8], at: usize) -> Word {
-    let from = skip_blanks(line, at);
-    let to = word_end(line, from);
-    Word { from, to }
+// A number has one to nine digits.
+pub(crate) fn number(word: &[u8]) -> Option<u32> {
+    if word.len() > 9 || !word.iter().all(|b| b.is_ascii_digit()) {
+        return None;
+    }
+    str::from_utf8(word).ok()?.parse().ok()
 }
 
-fn same(a: &[u8], b: &[u8]) -> bool {
-    if a.len() != b.len() {
-        return false;
-    }
-    for i in 0..a.len() {
-        if byte_at(a, i) != byte_at(b, i) {
-            return false;
-        }
-    }
-    true
+// Bytes in hexadecimal, two digits each, N at most.
+fn bytes<const N: usize>(word: &[u8]) -> Option<ArrayVec<u8, N>>
+    ensures { IfSome result (λ bytes. decode_of word.now ≡ Ok bytes.items) }
+{
+    let mut bytes = ArrayVec::from([0u8; N]);
+    bytes.truncate(word.len() / 2);
+    hex::decode_to_slice(word, bytes.as_mut_slice()).ok()?;
+    Some(bytes)
 }
 
-// Whether a word of the line is this one.
-pub fn is_word(line: &[u8], w: Word, word: &[u8]) -> bool {
-    let from = w.from;
-    let to = w.to;
-    if line.len() < to {
-        return false;
-    }
-    if to < from {
-        return false;
-    }
-    same(&line[from..to], word)
-}
-
-// The index of a byte between two indices, or the second.
-pub fn find(line: &[u8], from: usize, to: usize, byte: u8) -> usize {
-    for i in from..to {
-        if byte_at(line, i) == byte {
-            return i;
-        }
-    }
-    to
-}
-
-pub fn after(at: usize) -> usize {
-    if 1_000_000 < at {
-        return at;
-    }
-    at + 1
-}
-
-fn lost(at: usize) -> Scan {
-    Scan {
-        at,
-        good: false,
-        value: 0,
-    }
-}
-
-fn said(at: usize, value: u32) -> Scan {
-    Scan {
-        at,
-        good: true,
-        value,
-    }
-}
-
-// A number with one digit more. No number of nine digits passes the bound.
-fn longer(value: u32, b: u8) -> u32 {
-    if 99_999_999 < value {
-        return value;
-    }
-    match b {
-        b'0'..=b'9' => value * 10 + (b - b'0') as u32,
-        _ => value,
-    }
-}
-
-fn is_digit(b: u8) -> bool {
-    match b {
-        b'0'..=b'9' => true,
-        _ => false,
-    }
-}
-
-fn all_digits(line: &[u8], from: usize, to: usize) -> bool {
-    for i in from..to {
-        if !is_digit(byte_at(line, i)) {
-            return false;
-        }
-    }
-    true
-}
-
-fn value_of(line: &[u8], from: usize, to: usize) -> u32 {
-    let mut value: u32 = 0;
-    for i in from..to {
-        value = longer(value, byte_at(line, i));
-    }
-    value
-}
-
-// The number between two indices: one to nine digits.
-pub fn number_in(line: &[u8], from: usize, to: usize) -> Scan {
-    if to <= from {
-        return lost(to);
-    }
-    if 9 < to - from {
-        return lost(to);
-    }
-    if !all_digits(line, from, to) {
-        return lost(to);
-    }
-    said(to, value_of(line, from, to))
-}
-
-// The next word is a number.
-pub fn number(line: &[u8], p: Scan) -> Scan {
-    if !p.good {
-        return p;
-    }
-    let w = next_word(line, p.at);
-    number_in(line, w.from, w.to)
-}
-
-// The next word is this one.
-pub fn expect(line: &[u8], p: Scan, word: &[u8]) -> Scan {
-    if !p.good {
-        return p;
-    }
-    let w = next_word(line, p.at);
-    if is_word(line, w, word) {
-        return said(w.to, 0);
-    }
-    lost(w.to)
-}
-
-// The next word is the first, which says 0, or the second, which says 1.
-pub fn one_of(line: &[u8], p: Scan, first: &[u8], second: &[u8]) -> Scan {
-    if !p.good {
-        return p;
-    }
-    let w = next_word(line, p.at);
-    if is_word(line, w, first) {
-        return said(w.to, 0);
-    }
-    if is_word(line, w, second) {
-        return said(w.to, 1);
-    }
-    lost(w.to)
-}
-
-// Where the next word is this one it is taken, and says 1.
-pub fn optional(line: &[u8], p: Scan, word: &[u8]) -> Scan {
-    if !p.good {
-        return p;
-    }
-    let w = next_word(line, p.at);
-    if is_word(line, w, word) {
-        return said(w.to, 1);
-    }
-    said(p.at, 0)
-}
-
-pub fn is_ended(line: &[u8], at: usize) -> bool {
-    line.len() <= skip_blanks(line, at)
-}
-
-// Nothing follows.
-pub fn ended(line: &[u8], p: Scan) -> Scan {
-    if !p.good {
-        return p;
-    }
-    if is_ended(line, p.at) {
-        return p;
-    }
-    lost(p.at)
+// What stands before a mark and behind it.
+pub(crate) fn parted(word: &[u8], mark: u8) -> Option<(&[u8], &[u8])> {
+    let at = word.iter().position(|b| *b == mark)?;
+    Some((&word[..at], &word[at + 1..]))
 }

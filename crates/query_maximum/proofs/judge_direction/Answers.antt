@@ -22,27 +22,21 @@ returns-in-No c = record {
   other = omega arith;
 }
 
-pub way-way-requires : goal.way-way-requires
-way-way-requires c = omega (arith, (fits c).high)
-
-pub way-other-requires : goal.way-other-requires
-way-other-requires c = omega (arith, (fits c.before).high)
-
 pub overflow_sub-result : goal.overflow_sub-result
 overflow_sub-result c = omega (arith, (fits c.before.before).hours.low)
 
 pub overflow_sub-result-2 : goal.overflow_sub-result-2
-overflow_sub-result-2 c = omega (arith, c.way-way.ensures.0, way-inner c.args.border c.args.export (fits c.before.before).low)
+overflow_sub-result-2 c = omega (arith, c.way-way.ensures.index, way-inner c.args.border c.args.export (fits c.before.before).low)
 
 pub returns : goal.returns
 returns c =
     let f = fits c.before.before in
-    let q = ap (λ w. w - 2) c.way-way.ensures.0 ∙ way-direction c.args.border c.args.export f.low in
+    let q = ap (λ w. w - 2) c.way-way.ensures.index ∙ way-direction c.args.border c.args.export f.low in
     record {
       judges = λ b sound e. sym c.in_default.is ∙ c.judge_border-j.ensures.0 b sound e;
-      fits = λ _. record { borders = f; at = refl; of = q; way = c.way-way.ensures.0; other = c.way-other.ensures.0 };
+      fits = λ _. record { borders = f; at = refl; of = q; way = c.way-way.ensures.index; other = c.way-other.ensures.index };
       at = omega (arith, f.hours.low, f.hours.high, f.hours.within.hours);
       of = omega (arith, q, direction-small c.args.border c.args.export f.high);
-      way = c.way-way.ensures.1;
-      other = c.way-other.ensures.1;
+      way = c.way-way.ensures.within (omega (arith, f.high));
+      other = c.way-other.ensures.within (omega (arith, f.high));
     }
