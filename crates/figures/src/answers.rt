@@ -1,5 +1,5 @@
 // What is written of an answer about a date or a message.
-use answer::{ClockName, Kind, Response};
+use answer::{ClockName, REFUSED, Response};
 use message::{Fields, Reading};
 use std::fmt;
 
@@ -10,7 +10,7 @@ pub struct Counted(pub Response);
 impl fmt::Display for Counted {
     fn fmt<W: fmt::Write>(&self, f: &mut fmt::Formatter<W>) -> fmt::Result {
         let Response { row, value, .. } = self.0;
-        if self.0.kind() == Some(Kind::Refused) {
+        if self.0.kind == REFUSED {
             return write!(f, "refused {row}");
         }
         write!(f, "{value}")
