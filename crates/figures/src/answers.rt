@@ -24,7 +24,10 @@ pub struct Named(pub ClockName);
 impl fmt::Display for Named {
     fn fmt<W: fmt::Write>(&self, f: &mut fmt::Formatter<W>) -> fmt::Result {
         let ClockName {
-            row, name, second, ..
+            row,
+            name,
+            second,
+            ..
         } = self.0;
         if row != 0 {
             return write!(f, "refused {row}");

@@ -35,7 +35,9 @@ impl NextHour {
 
     // Of a border's direction; what is no border is passed over.
     pub fn capacity(&mut self, border: u32, export: bool, energy: u32) {
-        if border < 5 && let Some(hour) = &mut self.0 {
+        if border < 5
+            && let Some(hour) = &mut self.0
+        {
             hour.capacities[hour_borders::way(border, export)] = Some(energy);
         }
     }
@@ -71,7 +73,10 @@ impl Cleared {
     fn of(hour: Hour) -> Option<Cleared> {
         let figures = hour_clear::clear(&hour)?;
         let capacities = hour.capacities;
-        Some(Cleared { capacities, figures })
+        Some(Cleared {
+            capacities,
+            figures,
+        })
     }
 }
 
@@ -114,7 +119,10 @@ struct Maxima<'a>(&'a Cleared);
 
 impl fmt::Display for Maxima<'_> {
     fn fmt<W: fmt::Write>(&self, f: &mut fmt::Formatter<W>) -> fmt::Result {
-        let Cleared { capacities, figures } = self.0;
+        let Cleared {
+            capacities,
+            figures,
+        } = self.0;
         for border in 1..5 {
             for (name, way, across) in [
                 ("export", border * 2, border * 2 + 1),

@@ -41,10 +41,22 @@ fn write<W: Write>(room: usize, fields: Fields, out: &mut W) -> io::Result<()> {
 fn answer<W: Write>(question: Question, hour: &mut NextHour, out: &mut W) -> io::Result<()> {
     match question {
         Question::Hours(date) => writeln!(out, "{}", Counted(calendar::hours_at(date))),
-        Question::ClockName(date, hour) => writeln!(out, "{}", Named(calendar::clock_at(date, hour))),
-        Question::HourNamed(date, clock) => writeln!(out, "{}", Counted(calendar::hour_at(date, clock))),
+        Question::ClockName(date, hour) => writeln!(
+            out,
+            "{}",
+            Named(calendar::clock_at(date, hour))
+        ),
+        Question::HourNamed(date, clock) => writeln!(
+            out,
+            "{}",
+            Counted(calendar::hour_at(date, clock))
+        ),
         Question::Read(message) => writeln!(out, "{}", Told::of(&message, message_reader::read)),
-        Question::ReadFieldwise(message) => writeln!(out, "{}", Told::of(&message, message_cursor::fieldwise::read)),
+        Question::ReadFieldwise(message) => writeln!(
+            out,
+            "{}",
+            Told::of(&message, message_cursor::fieldwise::read)
+        ),
         Question::Write(room, fields) => write(room, fields, out),
         Question::Offer(offer) => {
             hour.offer(offer);

@@ -6,7 +6,7 @@ use Rattle.rules.specs.declared.row.Row.TheVariants.{Date, Gate, Form, Hour, Ran
 
 abbrev pub number_of : Row → ℕ
 number_of = elim [
-    Date ↦ 1
+  | Date ↦ 1
   | Gate ↦ 2
   | Form ↦ 3
   | Hour ↦ 4
@@ -24,7 +24,7 @@ number_of = elim [
 
 abbrev pub word_of : Row → List ℕ
 word_of = elim [
-    Date ↦ codes "date"
+  | Date ↦ codes "date"
   | Gate ↦ codes "gate"
   | Form ↦ codes "form"
   | Hour ↦ codes "hour"
