@@ -14,8 +14,8 @@ pub mod stages;
 use crate::stages::judge_clear;
 use answer::steps;
 use hour_offers::Holder;
-use rules::row::GATE;
 use rules::HOURS;
+use rules::row::GATE;
 use session::{Effect, HourFigures, Ruling, Session};
 use session_changes::{ClearingChange, ClearingEffect, clearing_refused, with_clearing};
 
