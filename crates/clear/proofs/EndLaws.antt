@@ -1,13 +1,13 @@
 -- The hours of a session that stands for a closed book, one after the other, and the call's ways out.
 use Prim.Native.Nat.{ℕ, zero, suc, ◌+◌, ◌≤◌, ◌<◌}
 use mathlib.Core.Path.{◌≡◌, refl, sym, ap, ap₂, ◌∙◌}
-use mathlib.Core.Bool.{Bool, true, false, cond, not, false≢true}
+use mathlib.Core.Bool.{true, false, cond, not, false≢true}
 use mathlib.Core.List.{List, [], ◌∷◌, ◌++◌, map, map-map}
 use mathlib.Core.Option.{none as nothing}
 use native.Mathlib.Omega.{arith}
 use native.Mathlib.Numerals.{add-one}
 use lib.Dec.{eqb}
-use lib.ListN.{get_or, length, take, set, replicate, length-map, length-take}
+use lib.ListN.{length, take, set, replicate, length-map}
 use borrow.Author.Tests.{not-false}
 use Rattle.rules.specs.Lists.{All, sum, sum_of, from, keep}
 use Rattle.rules.specs.Refusals.{row, first_row}
@@ -37,7 +37,7 @@ use Rattle.answer.specs.Told as T
 use Rattle.session_changes.specs.Changes.{with_verdicts, with_figures}
 use Rattle.session.specs.Parts.{Entered}
 use Rattle.session.proofs.LaidLaws.{map_last, set-pad}
-use Rattle.session.proofs.ImageLaws.{hours-as, units-as, enrolled-as}
+use Rattle.session.proofs.ImageLaws.{hours-as, units-as}
 use Rattle.clear.specs.declared.HourEnd.{HourEnd}
 use Rattle.hour_offers.specs.declared.Holder.{Holder}
 use Rattle.hour_offers.specs.declared.Offer.{Offer as Own}

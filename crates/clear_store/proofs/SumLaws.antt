@@ -1,14 +1,13 @@
 -- Energies of a unit, added one after the other, and laid at the units' indices.
-use Prim.Native.Nat.{ℕ, zero, suc, ◌+◌, ◌-◌, ◌*◌, ◌/◌, ◌%◌, ◌≤◌, ◌<◌}
+use Prim.Native.Nat.{ℕ, zero, suc, ◌+◌, ◌-◌, ◌/◌, ◌%◌, ◌≤◌, ◌<◌}
 use mathlib.Core.Path.{◌≡◌, refl, sym, ap, ◌∙◌}
 use mathlib.Core.Bool.{Bool, true, false, cond, ◌&&◌, beq}
 use mathlib.Core.List.{List, [], ◌∷◌, ◌++◌, map, map-map, append-nil}
 use native.Mathlib.Omega.{arith}
-use native.Mathlib.Numerals.{add-one}
 use lib.Dec.{eqb}
-use lib.ListN.{get_or, set, length, take, replicate, length-map, length-take}
+use lib.ListN.{get_or, set, length, take, length-map, length-take}
 use lib.Seq.{take_all}
-use Rattle.std.specs.Prelude.{Option, Some, None, unwrap_or}
+use Rattle.std.specs.Prelude.{unwrap_or}
 use Rattle.rules.specs.Lists.{All, none, more, keep, sum, sum_of, from}
 use Rattle.rules.specs.Units.{max_energy}
 use Rattle.rules.specs.Borders.{Directed}

@@ -1,8 +1,8 @@
 -- The rules' figures as the code has them, and read back.
-use Prim.Native.Nat.{ℕ, zero, suc, ◌+◌, ◌-◌, ◌/◌, ◌%◌, ◌≤◌, ◌<◌}
-use mathlib.Core.Path.{◌≡◌, refl, sym, ap, ap₂, ◌∙◌}
+use Prim.Native.Nat.{ℕ, zero, suc, ◌+◌, ◌/◌, ◌%◌, ◌≤◌, ◌<◌}
+use mathlib.Core.Path.{◌≡◌, refl, sym, ap, ◌∙◌}
 use mathlib.Core.Bool.{Bool, true, false, cond, ◌&&◌, beq, false≢true, true≢false}
-use mathlib.Core.List.{List, [], ◌∷◌, map, map-map}
+use mathlib.Core.List.{List, [], ◌∷◌, map}
 use mathlib.Core.Logic.{⊎_elim}
 use native.Mathlib.Omega.{arith}
 use native.Mathlib.Nat.{eq-or-lt_of_le}
@@ -11,17 +11,16 @@ use lib.ListN.{get_or, length}
 use lib.Seq.{ext_get_or}
 use borrow.Author.Tests.{eqb-true, eqb-false, ltb-true, ltb-false, ne_eqb}
 use Rattle.std.specs.Prelude.{is_some, unwrap_or, Option, Some, None}
-use Rattle.rules.specs.Lists.{All, keep, from}
+use Rattle.rules.specs.Lists.{keep, from}
 use Rattle.rules.specs.Match as M
-use Rattle.rules.specs.Borders.{Directed, Execution as RuleExecution, runs, flow}
+use Rattle.rules.specs.Borders.{Directed, Execution as RuleExecution, runs}
 use Rattle.rules.specs.Clearing as C
 use Rattle.rules.proofs.BoolLaws.{by_bool}
 use Rattle.rules.proofs.ListLaws.{all_keep, keep_same}
-use Rattle.rules.proofs.ElementLaws.{all_both}
 use Rattle.arrays.proofs.IndexLaws.{from_all, map-all}
 use Rattle.hour_offers.specs.declared.Offer.{Offer}
 use Rattle.hour_offers.specs.declared.Execution.{Execution}
-use Rattle.hour_offers.specs.View.{offer_in, offers_in, execution_in, executions_in}
+use Rattle.hour_offers.specs.View.{offers_in, executions_in}
 use Rattle.hour_borders.specs.Ways.{way_of, directed, energies_of, published_in}
 use Rattle.hour_borders.specs.Flows.{MarketFlows, ExecutionFlows}
 use Rattle.hour_borders.proofs.WayLaws.{way_back, runs-way}

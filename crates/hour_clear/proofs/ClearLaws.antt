@@ -1,7 +1,7 @@
 -- The parts of an hour's clearing together are the rules' `clear_hour`.
-use Prim.Native.Nat.{ℕ, ◌+◌, ◌/◌, ◌%◌, ◌≤◌, ◌<◌}
+use Prim.Native.Nat.{ℕ, ◌/◌, ◌%◌, ◌≤◌, ◌<◌}
 use mathlib.Core.Path.{◌≡◌, refl, sym, ap, ◌∙◌}
-use mathlib.Core.Bool.{Bool, true, false, cond, false≢true}
+use mathlib.Core.Bool.{true, false≢true}
 use mathlib.Core.List.{List, [], ◌∷◌, ◌++◌, map, map-map}
 use native.Mathlib.Nat.{le_trans}
 use native.Mathlib.Omega.{arith}
@@ -11,11 +11,10 @@ use Rattle.std.specs.Prelude.{Option, Some, None, is_some, unwrap_or}
 use Rattle.rules.specs.Lists.{All, Each, each0, each, none, more, keep, from}
 use Rattle.rules.specs.Units.{max_energy}
 use Rattle.rules.specs.Match as M
-use Rattle.rules.specs.Borders.{Directed, Execution as RuleExecution}
+use Rattle.rules.specs.Borders.{Execution as RuleExecution}
 use Rattle.rules.specs.Split.{maximum_of}
 use Rattle.rules.specs.Executions.{cut_all}
 use Rattle.rules.specs.Clearing as C
-use Rattle.rules.proofs.BoolLaws.{by_bool}
 use Rattle.rules.proofs.ListLaws.{all_map, all-mapped, all_keep, keep-passes, keep_same}
 use Rattle.rules.proofs.ElementLaws.{all_both}
 use Rattle.rules.proofs.HourLaws as H
@@ -32,10 +31,9 @@ use Rattle.hour_cut.specs.Cuts.{Enough, Lowered}
 use Rattle.hour_market.specs.declared.Market.{Market}
 use Rattle.hour_market.specs.Parts.{MarketCleared}
 use Rattle.hour.specs.declared.Hour.{Hour}
-use Rattle.hour.specs.declared.Figures.{Figures}
-use Rattle.hour.specs.Ready.{Ready, is_ready, figures_of}
+use Rattle.hour.specs.Ready.{Ready}
 use Rattle.hour.specs.View.{hour_in, figures_in, figures_as, offer_as, execution_as}
-use Rattle.hour.proofs.ReadyLaws.{energy-of, ready-holds}
+use Rattle.hour.proofs.ReadyLaws.{energy-of}
 use Rattle.hour.proofs.LaidLaws.{ten-at, figures-laid, figures-back}
 
 -- a ready hour is one of the rules'

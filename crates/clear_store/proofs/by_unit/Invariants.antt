@@ -1,4 +1,4 @@
-use Rattle.std.proofs.Common.{◌≡◌, ℕ, map, take, length}
+use Rattle.std.proofs.Common.{◌≡◌, ℕ, map, take}
 use Rattle.session.specs.Laid.{pad}
 use Rattle.clear_store.proofs.by_unit.Given as goal
 

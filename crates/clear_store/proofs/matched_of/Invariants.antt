@@ -1,4 +1,4 @@
-use Rattle.std.proofs.Common.{◌≡◌, ◌≤◌, ◌*◌, eqb, take, length}
+use Rattle.std.proofs.Common.{◌≡◌, ◌≤◌, ◌*◌, eqb, take}
 use Rattle.rules.specs.Lists.{keep, sum_of}
 use Rattle.clear_store.proofs.matched_of.Given as goal
 

@@ -1,8 +1,6 @@
-use Rattle.std.proofs.Common.{rules, ◌≡◌, ℕ, List, map, eqb, sym, unwrap_or}
+use Rattle.std.proofs.Common.{rules, ℕ, map, eqb, sym, unwrap_or}
 use mathlib.Core.Path.{ap, ◌∙◌}
 use Rattle.rules.specs.Lists.{keep, sum_of}
-use Rattle.rules.specs.Match as M
-use Rattle.rules.specs.Borders as B
 use Rattle.rules.proofs.ElementLaws.{all-every}
 use Rattle.arrays.proofs.IndexLaws.{map-all}
 use Rattle.hour_offers.specs.declared.Offer.{Offer}

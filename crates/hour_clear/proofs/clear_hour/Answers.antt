@@ -1,10 +1,8 @@
-use Rattle.std.proofs.Common.{arith, ap, sym, ◌≡◌, length, List, map, ℕ}
+use Rattle.std.proofs.Common.{arith, ap, ◌≡◌, length, List, map}
 use mathlib.Core.Path.{◌∙◌, subst}
-use Rattle.rules.specs.Lists.{All}
 use Rattle.hour_offers.specs.declared.Offer.{Offer}
 use Rattle.hour_offers.specs.declared.Execution.{Execution}
 use Rattle.hour_offers.specs.View.{offers_in, executions_in}
-use Rattle.hour_offers.specs.Sound.{Sound, ExecutionInRange}
 use Rattle.hour_borders.specs.Flows.{ExecutionFlows}
 use Rattle.hour_market.specs.Parts.{MarketCleared}
 use Rattle.hour.specs.View.{fresh_in, hour_in}

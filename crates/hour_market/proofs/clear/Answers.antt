@@ -1,4 +1,3 @@
-use Rattle.std.proofs.Common.{rules}
 use mathlib.Core.Path.{◌∙◌, sym}
 use Rattle.rules.proofs.ListLaws.{all_map}
 use Rattle.hour_match.proofs.KeptLaws.{along-of}
