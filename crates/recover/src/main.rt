@@ -22,7 +22,7 @@ use std::io::Read;
 use std::{fmt, io};
 
 // How many bytes of the input are read.
-const INPUT: u64 = 262144;
+const INPUT: usize = 262144;
 
 // How many bytes a log may have.
 const LOG: usize = 16384;
@@ -210,8 +210,9 @@ fn recover(rt: &impl Print, input: &[u8]) -> io::Result<()> {
 }
 
 fn main(rt: HostRuntime) -> io::Result<()> {
-    let mut input = Vec::new(rt.alloc());
-    // A read that fails is the end.
-    let _ = rt.reader().take(INPUT).read_to_end(&mut input);
-    recover(&rt, input.as_slice())
+    let mut input = Vec::with_capacity(rt.alloc(), INPUT)?;
+    // A read that fails is the end of the input, and an output that takes no more that of the run.
+    let _ = rt.reader().take(INPUT as u64).read_to_end(&mut input);
+    let _ = recover(&rt, input.as_slice());
+    Ok(())
 }
