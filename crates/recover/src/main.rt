@@ -83,7 +83,7 @@ fn asked(words: &mut Words) -> Option<Line> {
 
 // What a line asks for, where all its words are understood.
 fn read(line: &[u8]) -> Option<Line> {
-    let mut words = Words::of(line);
+    let mut words = Words { rest: line };
     let line = asked(&mut words)?;
     words.end()?;
     Some(line)
