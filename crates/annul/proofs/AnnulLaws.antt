@@ -1,68 +1,74 @@
 -- Annulling: each way out.
-use Prim.Native.Nat.{ℕ, ◌≤◌, ◌<◌}
-use mathlib.Core.Path.{◌≡◌, refl, sym, ◌∙◌}
-use mathlib.Core.Bool.{Bool, true, false, false≢true}
-use native.Mathlib.Omega.{arith}
-use borrow.Author.Tests.{lt-ltb, le-ltb}
+use Prim.Native.Nat.{ℕ, ◌-◌, ◌<◌}
+use mathlib.Core.Path.{◌≡◌, refl, sym}
+use mathlib.Core.Bool.{Bool, true, false}
+use Rattle.std.specs.Prelude.{Some, None, Ok, Err, ok_or}
+use Rattle.std.specs.declared.option.Option.{Option}
+use Rattle.std.specs.declared.result.Result.{Result}
+use Rattle.rules.specs.declared.row.Row as Code
+use Rattle.rules.specs.declared.row.Row.TheVariants.{Gate, Range, Absent}
 use Rattle.rules.specs.Refusals.{row, first_row}
 use Rattle.rules.specs.Message.{bad_key}
-use Rattle.rules.specs.Book as B
 use Rattle.rules.specs.DayBook as D
-use Rattle.session.specs.Image.{image, key_in}
-use Rattle.session_changes.specs.Changes.{Indexed, standing_effect}
-use Rattle.answer.specs.Told.{told, is_refusal}
-use Rattle.session.specs.Parts.{Judges, Entered}
+use Rattle.session.specs.Image.{key_in, no_lodgement, no_energies}
+use Rattle.session_changes.specs.Changes.{standing_with}
+use Rattle.answer.specs.Told.{told, is_refusal, accepted}
+use Rattle.session.specs.Parts.{JudgesRow, given_by, Entered}
 use Rattle.session.specs.declared.Key.{Key}
+use Rattle.session.specs.declared.Holder.{Holder}
 use Rattle.session.specs.declared.Session.{Session}
-use Rattle.session.specs.declared.Ruling.TheVariants.{No, Clear}
 use Rattle.session.proofs.ImageLaws.{closed-as}
 use Rattle.session.proofs.StepLaws.{open_row}
-use Rattle.lodge_keys.specs.Keys.{key_index, left_of}
-use Rattle.lodge_keys.proofs.KeyLaws.{stands_at}
-use Rattle.lodge_keys.proofs.TakenLaws.{left_in, taken-image}
-use Rattle.annul.specs.Annulling.{struck_at}
+use Rattle.lodge_keys.specs.Keys.{key_index}
+use Rattle.lodge_keys.specs.Holding.{Holding, NotHolding}
+use Rattle.lodge_keys.proofs.KeyLaws.{stands-none, stands-some}
+use Rattle.lodge_keys.proofs.TakenLaws.{taken-image}
 
 module _ (s : Session) (k : Key) where
   abbrev call : D.Call
   call = D.annul (key_in k)
 
+  abbrev Judged : Result ℕ Code.Row → Type 0
+  Judged j = JudgesRow s call j
+
   abbrev bad : Bool
   bad = bad_key (key_in k)
 
-  -- r says whether the key's unit is refused
-  abbrev Held : Bool → Type 0
-  Held r = (b : B.Book) → s ≡ image b → r ≡ D.bad_holder b (key_in k)
-
-  pub annul-2 : s.closed ≡ true → Judges s call (No 2 0)
-  unfolding D.rows_of D.gate_row D.call_rows D.change_row row first_row
+  pub annul-2 : s.closed ≡ true → Judged (Err Gate)
+  unfolding D.rows_of D.gate_row D.call_rows D.change_row row first_row given_by
   annul-2 h b e = rw (closed-as s b e, h)
 
-  pub annul-5 : s.closed ≡ false → bad ≡ true → Judges s call (No 5 0)
-  unfolding D.rows_of D.gate_row D.call_rows D.change_row row first_row
-  annul-5 h t b e = rw (t, closed-as s b e, h)
+  module _ (h : s.closed ≡ false) where
+    pub annul-5 : bad ≡ true → Judged (Err Range)
+    unfolding D.rows_of D.gate_row D.call_rows D.change_row row first_row given_by
+    annul-5 t b e = rw (t, closed-as s b e, h)
 
-  pub annul-6 : (r : Bool) → s.closed ≡ false → bad ≡ false → Held r → r ≡ true → Judges s call (No 6 0)
-  unfolding D.rows_of D.gate_row D.call_rows D.change_row row first_row
-  annul-6 r h t o u b e = rw (t, sym (o b e) ∙ u, closed-as s b e, h)
+    module _ (t : bad ≡ false) where
+      pub annul-6 : (r : Code.Row) → NotHolding s k r → Judged (Err r)
+      unfolding D.rows_of D.gate_row D.call_rows D.change_row row first_row given_by
+      annul-6 r x b e = rw (t, x.bad b e, x.row, closed-as s b e, h)
 
-  -- p is the index of the key's lodgement
-  module _ (p : ℕ) (at : p ≡ key_index s k) where
-    pub annul-13 : (r : Bool) → s.closed ≡ false → bad ≡ false → Held r → r ≡ false → s.standing ≤ p → Judges s call (No 13 0)
-    unfolding D.rows_of D.gate_row D.call_rows D.change_row row first_row
-    annul-13 r h t o u w b e = rw (t, sym (o b e) ∙ u, stands_at s b e k p at, le-ltb p s.standing w, closed-as s b e, h)
+      module _ {a : Holder} (x : Holding s k a) where
+        annul-13 : key_index s k ≡ None → Judged (Err Absent)
+        unfolding D.rows_of D.gate_row D.call_rows D.change_row row first_row given_by
+        annul-13 n b e = rw (t, x.good b e, stands-none s b e k n, closed-as s b e, h)
 
-    pub annul-0 : (r : Bool) → s.closed ≡ false → bad ≡ false → Held r → r ≡ false → p < s.standing → Judges s call Clear
-    unfolding D.rows_of D.gate_row D.call_rows D.change_row row first_row
-    annul-0 r h t o u w b e = rw (t, sym (o b e) ∙ u, stands_at s b e k p at, lt-ltb p s.standing w, closed-as s b e, h)
+        annul-0 : (p : ℕ) → key_index s k ≡ Some p → Judged (Ok p)
+        unfolding D.rows_of D.gate_row D.call_rows D.change_row row first_row given_by
+        annul-0 p n b e = rw (t, x.good b e, (stands-some s b e k p n).0, closed-as s b e, h)
 
-    -- "annulling drops the key's lodgement"
-    pub annulled : left_of s.standing p < 128 → Entered s call (standing_effect s (struck_at s p))
+        pub annul-last : (o : Option ℕ) → key_index s k ≡ o → Judged (ok_or o Absent)
+        annul-last None n = annul-13 n
+        annul-last (Some p) n = annul-0 p n
+
+  -- "annulling drops the key's lodgement"
+  module _ (p : ℕ) (found : key_index s k ≡ Some p) where
+    pub annulled : s.standing - 1 < 128 → Entered s call (record {
+      session = standing_with s (record { from = p; to = s.standing - 1; at = s.standing - 1; lodgement = no_lodgement; energies = no_energies; standing = s.standing - 1; last = s.last });
+      answer = accepted;
+    })
     unfolding told is_refusal D.reply D.rows_of D.gate_row D.call_rows D.applied
     annulled free = record {
-      book = λ b sound o e. record { answer = refl; session = taken-image s k p (left_of s.standing p) at refl free b sound (open_row b _ o) e };
+      book = λ b sound o e. record { answer = refl; session = taken-image s k (Some p) (s.standing - 1) (sym found) refl free b sound (open_row b _ o) e };
       fine = refl;
     }
-
--- its indices are indices of the array
-pub struck-indexed : (s : Session) (p : ℕ) → s.standing ≤ 128 → p < s.standing → Indexed (struck_at s p).change
-struck-indexed s p w h = let l = left_in s.standing p h in record { forward = omega arith; to = omega arith; at = omega arith; still = λ e. absurd (false≢true (sym e)) }

@@ -6,6 +6,8 @@ use Rattle.rules.specs.Hours as H
 use Rattle.rules.specs.Closing as C
 use Rattle.rules.specs.Queries as Q
 use Rattle.rules.specs.DayBook as D
+use Rattle.rules.specs.Rows.{number_of}
+use Rattle.answer.specs.declared.Refusal.{Refusal}
 use Rattle.answer.specs.declared.Response.{Response}
 use Rattle.answer.specs.declared.ClockName.{ClockName}
 
@@ -24,6 +26,9 @@ accepted = plain 0
 
 abbrev pub refused : ℕ → ℕ → Response
 refused row hour = by_row 1 row hour
+
+abbrev pub refusal : Refusal → Response
+refusal r = refused (number_of r.row) r.hour
 
 abbrev pub numbered : ℕ → Response
 numbered n = record { kind = 2; row = 0; hour = 0; reserved = 0; value = pos n; count = 0 }

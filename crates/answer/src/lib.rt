@@ -3,11 +3,62 @@
 
 ghost use Rattle.std.specs.Prelude.{◌≡◌, pos};
 ghost use Rattle.answer.specs.Told as T;
+ghost use Rattle.answer.specs.Kinds.{kind_number, kind_of};
+ghost use Rattle.answer.specs.Refused.{of_row};
+ghost use Rattle.rules.specs.Rows.{number_of};
+
+use rules::row::Row;
+
+// A call, a query or a judgement that is refused: the table's row, and its hour, 0 where the table gives none.
+#[derive(Clone, Copy, Debug, PartialEq, Eq)]
+pub struct Refusal {
+    pub row: Row,
+    pub hour: u32,
+}
+
+// "otherwise the hour is 0"
+impl From<Row> for Refusal {
+    ghost from_gives = { λ row r. r ≡ of_row row };
+
+    fn from(row: Row) -> Refusal {
+        Refusal { row, hour: 0 }
+    }
+}
+
+// What an answer's kind says; its number is what C reads.
+#[derive(Clone, Copy, Debug, PartialEq, Eq)]
+pub enum Kind {
+    Accepted,
+    Refused,
+    Numbered,
+    Steps,
+    Hidden,
+    Limit,
+    Figure,
+    Absent,
+}
+
+impl Kind {
+    pub fn number(self) -> u32
+        ensures { result ≡ kind_number self }
+    {
+        match self {
+            Kind::Accepted => 0,
+            Kind::Refused => 1,
+            Kind::Numbered => 2,
+            Kind::Steps => 3,
+            Kind::Hidden => 4,
+            Kind::Limit => 5,
+            Kind::Figure => 6,
+            Kind::Absent => 7,
+        }
+    }
+}
 
 // An answer. Its kind says which of the other fields hold something; those that do not are 0, and so is what is reserved, which leaves
 // no padding for C.
 #[repr(C)]
-#[derive(Clone, Copy)]
+#[derive(Clone, Copy, Debug, Default, PartialEq, Eq)]
 pub struct Response {
     pub kind: u32,
     // The refusal table's number of a refusal or of a limit.
@@ -23,7 +74,7 @@ pub struct Response {
 
 // An hour's clock name and mark with row 0, or the refusal table's number with name 0 and no mark.
 #[repr(C)]
-#[derive(Clone, Copy)]
+#[derive(Clone, Copy, Debug, Default, PartialEq, Eq)]
 pub struct ClockName {
     pub row: u32,
     pub name: u32,
@@ -32,153 +83,127 @@ pub struct ClockName {
     pub reserved2: u16,
 }
 
-// Kinds
-pub const ACCEPTED: u32 = 0;
-
-pub const REFUSED: u32 = 1;
-
-pub const NUMBERED: u32 = 2;
-
-pub const STEPS: u32 = 3;
-
-pub const HIDDEN: u32 = 4;
-
-pub const LIMIT: u32 = 5;
-
-pub const FIGURE: u32 = 6;
-
-pub const ABSENT: u32 = 7;
-
 // A kind that says no more.
-fn plain(kind: u32) -> Response
-    ensures { result ≡ T.plain kind }
+fn plain(kind: Kind) -> Response
+    ensures { result ≡ T.plain (kind_number kind) }
 {
     Response {
-        kind: kind,
-        row: 0,
-        hour: 0,
-        reserved: 0,
-        value: 0,
-        count: 0,
+        kind: kind.number(),
+        ..Response::default()
     }
 }
 
-// A kind with a row of the refusal table and an hour.
-fn by_row(kind: u32, row: u32, hour: u32) -> Response
-    ensures { result ≡ T.by_row kind row hour }
-{
-    Response {
-        kind: kind,
-        row,
-        hour: hour,
-        reserved: 0,
-        value: 0,
-        count: 0,
+impl Response {
+    // What its kind says; none where C's number is no kind's.
+    pub fn kind(&self) -> Option<Kind>
+        ensures { result ≡ kind_of self.now.kind }
+    {
+        match self.kind {
+            0 => Some(Kind::Accepted),
+            1 => Some(Kind::Refused),
+            2 => Some(Kind::Numbered),
+            3 => Some(Kind::Steps),
+            4 => Some(Kind::Hidden),
+            5 => Some(Kind::Limit),
+            6 => Some(Kind::Figure),
+            7 => Some(Kind::Absent),
+            _ => None,
+        }
     }
-}
 
-// An accepted call that answers no more, or an accepted lodgement.
-pub fn accepted() -> Response
-    ensures { result ≡ T.accepted }
-{
-    plain(ACCEPTED)
-}
-
-// A refusal: the table's number and an hour, 0 where the table gives none.
-pub fn refused(row: u32, hour: u32) -> Response
-    ensures { result ≡ T.refused row hour }
-{
-    by_row(REFUSED, row, hour)
-}
-
-// A lodging number.
-pub fn numbered(number: u32) -> Response
-    ensures { result ≡ T.numbered number }
-{
-    let value = number as i64;
-    Response {
-        kind: NUMBERED,
-        row: 0,
-        hour: 0,
-        reserved: 0,
-        value: value,
-        count: 0,
+    // An accepted call that answers no more, or an accepted lodgement.
+    pub fn accepted() -> Response
+        ensures { result ≡ T.accepted }
+    {
+        plain(Kind::Accepted)
     }
-}
 
-// The steps of a clearing.
-pub fn steps(count: u64) -> Response
-    ensures { result ≡ T.steps count }
-{
-    Response {
-        kind: STEPS,
-        row: 0,
-        hour: 0,
-        reserved: 0,
-        value: 0,
-        count: count,
+    // A lodging number.
+    pub fn numbered(number: u32) -> Response
+        ensures { result ≡ T.numbered number }
+    {
+        Response {
+            value: i64::from(number),
+            ..plain(Kind::Numbered)
+        }
     }
-}
 
-// A hidden lodgement.
-pub fn hidden() -> Response
-    ensures { result ≡ T.hidden }
-{
-    plain(HIDDEN)
-}
+    // The steps of a clearing.
+    pub fn steps(count: u64) -> Response
+        ensures { result ≡ T.steps count }
+    {
+        Response {
+            count,
+            ..plain(Kind::Steps)
+        }
+    }
 
-// A lodgement that a limit refused: the limit's number and hour.
-pub fn limit(row: u32, hour: u32) -> Response
-    ensures { result ≡ T.limit row hour }
-{
-    by_row(LIMIT, row, hour)
-}
+    // A hidden lodgement.
+    pub fn hidden() -> Response
+        ensures { result ≡ T.hidden }
+    {
+        plain(Kind::Hidden)
+    }
 
-// A figure, which may be below zero.
-pub fn figure(value: i64) -> Response
-    ensures { result ≡ T.figure value }
-{
-    Response {
-        kind: FIGURE,
-        row: 0,
-        hour: 0,
-        reserved: 0,
-        value: value,
-        count: 0,
+    // A lodgement that a limit refused: the limit's number and hour, as the session keeps them.
+    pub fn limit(row: u32, hour: u32) -> Response
+        ensures { result ≡ T.limit row hour }
+    {
+        Response {
+            row,
+            hour,
+            ..plain(Kind::Limit)
+        }
+    }
+
+    // A figure, which may be below zero.
+    pub fn figure(value: i64) -> Response
+        ensures { result ≡ T.figure value }
+    {
+        Response {
+            value,
+            ..plain(Kind::Figure)
+        }
+    }
+
+    // A maximum without capacity.
+    pub fn absent() -> Response
+        ensures { result ≡ T.absent }
+    {
+        plain(Kind::Absent)
     }
 }
 
 // A figure that is a number of energy or price.
-pub fn number(n: u32) -> Response
-    ensures { result ≡ T.figure (pos n) }
-{
-    let value = n as i64;
-    Response {
-        kind: FIGURE,
-        row: 0,
-        hour: 0,
-        reserved: 0,
-        value: value,
-        count: 0,
+impl From<u32> for Response {
+    ghost from_gives = { λ n r. r ≡ T.figure (pos n) };
+
+    fn from(n: u32) -> Response {
+        Response::figure(i64::from(n))
     }
 }
 
-// A maximum without capacity.
-pub fn absent() -> Response
-    ensures { result ≡ T.absent }
-{
-    plain(ABSENT)
+// A refusal: the table's number and its hour.
+impl From<Refusal> for Response {
+    ghost from_gives = { λ refusal r. r ≡ T.refusal refusal };
+
+    fn from(refusal: Refusal) -> Response {
+        Response {
+            row: refusal.row.number(),
+            hour: refusal.hour,
+            ..plain(Kind::Refused)
+        }
+    }
 }
 
 // No clock name: the refusal table's number.
-pub fn unnamed(row: u32) -> ClockName
-    ensures { result ≡ T.unnamed row }
-{
-    ClockName {
-        row,
-        name: 0,
-        second: false,
-        reserved: 0,
-        reserved2: 0,
+impl From<Row> for ClockName {
+    ghost from_gives = { λ row r. r ≡ T.unnamed (number_of row) };
+
+    fn from(row: Row) -> ClockName {
+        ClockName {
+            row: row.number(),
+            ..ClockName::default()
+        }
     }
 }

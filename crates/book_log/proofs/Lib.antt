@@ -1,2 +1,1 @@
 pub mod FillLaws
-pub mod SignedLaws

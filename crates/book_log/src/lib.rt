@@ -2,18 +2,19 @@
 // document 01's; docs/LOG.md says it byte by byte).
 #![tactic(auto)]
 
-ghost use Rattle.std.specs.Prelude.{◌≡◌, ◌≤◌, min};
+ghost use Rattle.std.specs.Prelude.{◌≡◌, ◌≤◌};
 ghost use Rattle.rules.specs.Borders.{positive};
 ghost use Rattle.message_bits.specs.Bits.{word_at};
 ghost use Rattle.session.specs.Image.{unit_in, key_in, published_in, capacities_in};
 ghost use Rattle.book_log.specs.Calls.{mark_at, numbers_at, unit_of, key_of, direction_at, directions_of, is_call, answer_word};
+ghost use Rattle.book_log.specs.Kinds.{Decodes, has_size};
 
-use answer::{NUMBERED, REFUSED, Response, STEPS};
+use answer::Response;
 use message_bits::{byte_at, word_at};
 use rules::{DIRECTIONS, HOURS};
 use session::{Key, Published, Unit};
 
-// The kinds of records. 1 to 100 are kept for them: other lines of a rehearsal have kinds from 101 on (crates/rehearse_words).
+// The numbers of records' kinds. 1 to 100 are kept for them: other lines of a rehearsal have kinds from 101 on (crates/rehearse_words).
 pub const REGISTER: u8 = 1;
 
 pub const CAPACITY: u8 = 2;
@@ -28,71 +29,90 @@ pub const CLOSE: u8 = 6;
 
 pub const CLEAR: u8 = 7;
 
-// What the numbers of answers of one kind are counted from.
-const KIND: u64 = 1_152_921_504_606_846_976;
+// What a record calls for.
+#[derive(Clone, Copy, Debug, PartialEq, Eq)]
+pub enum Kind {
+    Register,
+    Capacity,
+    Available,
+    Lodge,
+    Annul,
+    Close,
+    Clear,
+}
+
+// A number that is no kind's.
+#[derive(Clone, Copy, Debug, PartialEq, Eq)]
+pub struct UnknownKind(pub u8);
+
+impl TryFrom<u8> for Kind {
+    type Error = UnknownKind;
+
+    ghost try_from_gives = { Decodes };
+
+    fn try_from(number: u8) -> Result<Kind, UnknownKind> {
+        match number {
+            REGISTER => Ok(Kind::Register),
+            CAPACITY => Ok(Kind::Capacity),
+            AVAILABLE => Ok(Kind::Available),
+            LODGE => Ok(Kind::Lodge),
+            ANNUL => Ok(Kind::Annul),
+            CLOSE => Ok(Kind::Close),
+            CLEAR => Ok(Kind::Clear),
+            _ => Err(UnknownKind(number)),
+        }
+    }
+}
+
+impl Kind {
+    // Whether a record of this kind has so many bytes; a message may have any.
+    pub fn has_size(self, size: usize) -> bool
+        ensures { result ≡ has_size self size }
+    {
+        match self {
+            Kind::Register => size == 18,
+            Kind::Capacity => size == 840,
+            Kind::Available => size == 108,
+            Kind::Lodge => true,
+            Kind::Annul => size == 10,
+            Kind::Close | Kind::Clear => size == 0,
+        }
+    }
+}
 
 // Whether a record's count of bytes is that of its kind.
+#[tactic(auto, unfolding(crate::specs::Calls::is_call))]
 pub fn is_call(kind: u8, size: usize) -> bool
     ensures { result ≡ is_call kind size }
 {
-    if kind == REGISTER {
-        return size == 18;
+    match Kind::try_from(kind) {
+        Ok(kind) => kind.has_size(size),
+        Err(_) => false,
     }
-    if kind == CAPACITY {
-        return size == 840;
-    }
-    if kind == AVAILABLE {
-        return size == 108;
-    }
-    if kind == LODGE {
-        return true;
-    }
-    if kind == ANNUL {
-        return size == 10;
-    }
-    if kind == CLOSE {
-        return size == 0;
-    }
-    if kind == CLEAR {
-        return size == 0;
-    }
-    false
+}
+
+// What the numbers of answers of one kind are counted from.
+const KIND: u64 = 1_152_921_504_606_846_976;
+
+// How far a number is above zero.
+#[tactic(auto, unfolding(rules::specs::Borders::positive))]
+fn above_zero(n: i64) -> u64
+    ensures { result ≡ positive n }
+{
+    u64::try_from(n).unwrap_or(0)
 }
 
 // A call's answer as one number.
+#[tactic(auto, unfolding(crate::specs::Calls::answer_word))]
 pub fn answer_word(a: Response) -> u64
     ensures { result ≡ answer_word a }
 {
-    if a.kind == REFUSED {
-        return KIND + (a.row as u64 * 256 + a.hour as u64);
+    match a.kind() {
+        Some(answer::Kind::Refused) => KIND + (u64::from(a.row) * 256 + u64::from(a.hour)),
+        Some(answer::Kind::Numbered) => 2 * KIND + above_zero(a.value).min(KIND - 1),
+        Some(answer::Kind::Steps) => 3 * KIND + a.count.min(KIND - 1),
+        _ => 0,
     }
-    if a.kind == NUMBERED {
-        let n = above(a.value);
-        return 2 * KIND + at_most(n, KIND - 1);
-    }
-    if a.kind == STEPS {
-        return 3 * KIND + at_most(a.count, KIND - 1);
-    }
-    0
-}
-
-// How far a number is above zero.
-fn above(n: i64) -> u64
-    ensures { result ≡ positive n }
-{
-    if n < 0 {
-        return 0;
-    }
-    n as u64
-}
-
-fn at_most(n: u64, top: u64) -> u64
-    ensures { result ≡ min n top }
-{
-    if n < top {
-        return n;
-    }
-    top
 }
 
 // The number in the four bytes from index i on.
@@ -103,6 +123,7 @@ pub fn number_at(p: &[u8], i: usize) -> u32
 }
 
 // A mark is a byte: 0 for no.
+#[tactic(auto, unfolding(crate::specs::Calls::mark_at))]
 fn mark_at(p: &[u8], i: usize) -> bool
     ensures { result ≡ mark_at p.now i }
 {
@@ -115,87 +136,72 @@ pub fn numbers_at(p: &[u8], i: usize) -> [u32; HOURS]
     ensures { result ≡ numbers_at p.now i }
 {
     let mut energies = [0u32; HOURS];
-    for k in 0..HOURS {
-        let x = number_at(p, i + k * 4);
-        energies[k] = x;
+    for (k, energy) in energies.iter_mut().enumerate() {
+        *energy = number_at(p, i + k * 4);
     }
     energies
 }
 
 // The unit that a registration is for.
+#[tactic(auto, unfolding(crate::specs::Calls::unit_of))]
 pub fn unit_of(p: &[u8]) -> Unit
     ensures { unit_in result ≡ unit_of p.now }
 {
-    let number = number_at(p, 0);
-    let agent = number_at(p, 4);
-    let border = number_at(p, 8);
-    let purchase = mark_at(p, 12);
-    let maximum = number_at(p, 13);
-    let legacy = mark_at(p, 17);
     Unit {
-        number,
-        agent,
-        border,
-        maximum,
-        purchase,
-        legacy,
+        number: number_at(p, 0),
+        agent: number_at(p, 4),
+        border: number_at(p, 8),
+        purchase: mark_at(p, 12),
+        maximum: number_at(p, 13),
+        legacy: mark_at(p, 17),
         reserved: 0,
     }
 }
 
 // The key that an annulment is for.
+#[tactic(auto, unfolding(crate::specs::Calls::key_of))]
 pub fn key_of(p: &[u8]) -> Key
     ensures { key_in result ≡ key_of p.now }
 {
-    let execution = mark_at(p, 0);
-    let default = mark_at(p, 1);
-    let unit = number_at(p, 2);
-    let contract = number_at(p, 6);
     Key {
-        execution,
-        default,
+        execution: mark_at(p, 0),
+        default: mark_at(p, 1),
         reserved: 0,
-        unit,
-        contract,
+        unit: number_at(p, 2),
+        contract: number_at(p, 6),
     }
 }
 
 // A direction of a capacity notice, from index i on.
+#[tactic(auto, unfolding(crate::specs::Calls::direction_at, session::specs::Image::published_in))]
 fn direction_at(p: &[u8], i: usize) -> Published
     requires { i ≤ 900 }
     ensures { published_in result ≡ direction_at p.now i }
 {
-    let published = mark_at(p, i);
-    let count = number_at(p, i + 1) as usize;
-    let energies = numbers_at(p, i + 5);
     Published {
-        count,
-        published,
+        count: number_at(p, i + 1) as usize,
+        published: mark_at(p, i),
         reserved: 0,
         reserved2: 0,
-        energies,
+        energies: numbers_at(p, i + 5),
     }
 }
 
-fn no_direction() -> Published {
-    Published {
-        count: 0,
-        published: false,
-        reserved: 0,
-        reserved2: 0,
-        energies: [0u32; HOURS],
-    }
-}
+const NO_DIRECTION: Published = Published {
+    count: 0,
+    published: false,
+    reserved: 0,
+    reserved2: 0,
+    energies: [0; HOURS],
+};
 
 // A capacity notice's directions.
 pub fn directions_of(p: &[u8]) -> [Published; DIRECTIONS]
     ensures { capacities_in result ≡ directions_of p.now }
 {
-    let none = no_direction();
-    let mut directions = [none; DIRECTIONS];
-    for k in 0..DIRECTIONS {
-        let x = direction_at(p, k * 105);
-        directions[k] = x;
+    let mut directions = [NO_DIRECTION; DIRECTIONS];
+    for (k, direction) in directions.iter_mut().enumerate() {
+        *direction = direction_at(p, k * 105);
     }
     directions
 }

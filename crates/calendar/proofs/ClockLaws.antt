@@ -75,3 +75,5 @@ module _ (H : ℕ) (c : Clock) where
 
       pub first_two : (H ≡ 23 → ⊥) → c.name ≡ 2 → hour_of H c ≡ 3
       first_two a n = plain-hour 3 unmarked (omega arith)
+
+pub ruleset clock_laws = (second-two, second_none, no-two, too-late, three-on, before-two, first_two)

@@ -13,10 +13,13 @@ use Rattle.session.specs.Laid.{pad}
 use Rattle.session.specs.Image.{image, Sound, verdict_as, no_verdict, verdicts_in, hours_in}
 use Rattle.answer.specs.Told.{told, is_refusal}
 use Rattle.session_changes.specs.Changes.{with_verdicts}
-use Rattle.session.specs.Parts.{Within, Judges, Entered}
+use Rattle.session.specs.Parts.{Within, JudgesRow, given_by, Entered}
 use Rattle.session.specs.declared.Session.{Session}
 use Rattle.session.specs.declared.Verdict.{Verdict}
-use Rattle.session.specs.declared.Ruling.TheVariants.{No, Clear}
+use Rattle.std.specs.Prelude.{Ok, Err}
+use Rattle.std.specs.declared.result.Result.{Result}
+use Rattle.rules.specs.declared.row.Row as Code
+use Rattle.rules.specs.declared.row.Row.TheVariants.{Gate}
 use Rattle.session.proofs.ImageLaws.{closed-as, standing-as}
 use Rattle.session.proofs.SoundLaws.{open-stage}
 use Rattle.session.proofs.StepLaws.{open_row}
@@ -28,12 +31,15 @@ use Rattle.close_order.proofs.RoomLaws.{closing_at, reached-at, kept-start}
 
 -- 2: "closing [..] twice"
 module _ (s : Session) where
-  pub close-2 : s.closed ≡ true → Judges s D.close (No 2 0)
-  unfolding D.rows_of D.gate_row D.call_rows D.change_row row first_row
+  abbrev pub Judged : Result (Unit {0}) Code.Row → Type 0
+  Judged j = JudgesRow s D.close j
+
+  pub close-2 : s.closed ≡ true → Judged (Err Gate)
+  unfolding D.rows_of D.gate_row D.call_rows D.change_row row first_row given_by
   close-2 h b e = rw (closed-as s b e, h)
 
-  pub close-0 : s.closed ≡ false → Judges s D.close Clear
-  unfolding D.rows_of D.gate_row D.call_rows D.change_row row first_row
+  pub close-0 : s.closed ≡ false → Judged (Ok tt)
+  unfolding D.rows_of D.gate_row D.call_rows D.change_row row first_row given_by
   close-0 h b e = rw (closed-as s b e, h)
 
 -- the verdicts are those of the book before closing

@@ -4,18 +4,19 @@
 ghost use Rattle.rules.specs.DayBook.{close};
 ghost use Rattle.session.specs.Steps.{Met};
 ghost use Rattle.session.specs.Parts.{Within, Entered};
-ghost use Rattle.session_changes.specs.Changes.{closing_effect};
+ghost use Rattle.session_changes.specs.Changes.{closed_with};
+ghost use Rattle.session_changes.specs.Effects.{effect_of};
 ghost use Rattle.close.specs.Closed.{closed_effect};
 
-use answer::accepted;
+use answer::{Refusal, Response};
 use close_ceilings::{ceilings_of, lines_of};
 use close_holders::holders_of;
 use close_order::{DEFAULT, NORMAL, OFFERS, pass};
 use judge_loads::loads_of;
 use rules::LODGEMENTS;
-use rules::row::GATE;
+use rules::row::Row;
 use session::{Effect, Session, Verdict, no_verdict};
-use session_changes::{ClosingChange, ClosingEffect, closing_refused, with_closing};
+use session_changes::{ClosingChange, Step, effect};
 
 // The verdicts of the standing lodgements: "normal executions, default executions, offers". It is all that closing changes
 // beside the mark.
@@ -47,28 +48,26 @@ fn verdicts(s: Session) -> [Verdict; LODGEMENTS]
 }
 
 // What closing changes: 2.
-pub fn close_change(s: Session) -> ClosingEffect
-    ensures { Met s close (closing_effect s result) }
+pub fn close_change(s: Session) -> Result<Step<ClosingChange>, Refusal>
+    ensures { Met s close (effect_of closed_with s result) }
 {
     if !s.sound() {
-        return closing_refused(s, GATE, 0);
+        return Err(Refusal::from(Row::Gate));
     }
     if s.closed {
-        return closing_refused(s, GATE, 0);
+        return Err(Refusal::from(Row::Gate));
     }
-    let all = verdicts(s);
-    let change = ClosingChange {
-        verdicts: all,
-        changed: true,
-    };
-    let answer = accepted();
-    ClosingEffect { change, answer }
+    Ok(Step {
+        change: ClosingChange {
+            verdicts: verdicts(s),
+        },
+        answer: Response::accepted(),
+    })
 }
 
 // Closes the gate: 2.
 pub fn close(s: Session) -> Effect
     ensures { Met s close result }
 {
-    let t = close_change(s);
-    with_closing(s, t)
+    effect(s, close_change(s))
 }

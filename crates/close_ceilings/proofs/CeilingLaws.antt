@@ -6,7 +6,7 @@ use mathlib.Core.List.{List, [], ◌∷◌, map}
 use mathlib.Core.Option.{Option, some, none}
 use native.Mathlib.Omega.{arith}
 use lib.Dec.{ltb}
-use lib.ListN.{length, get_or}
+use lib.ListN.{length, get_or, replicate, get_or-replicate}
 use borrow.Author.Tests.{ltb-true, ltb-false}
 use Rattle.rules.specs.Lists.{hourly}
 use Rattle.rules.specs.Units.{available_at, border_sum, maximum_limit, available_limit, own_limits, border_limit, border_limits, limits, least_of, ceiling}
@@ -17,20 +17,24 @@ use Rattle.session.specs.Image.{no_unit}
 use Rattle.session.specs.declared.Unit.{Unit}
 use Rattle.session.specs.declared.Notice.{Notice}
 use Rattle.judge_limits.specs.Limits.{notice_in, registered_in, lines_in, border_at}
-use Rattle.judge_limits.specs.declared.BorderLimit.{BorderLimit}
+use Rattle.std.specs.Prelude.{Some, None}
+use Rattle.std.specs.Option.{unwrap_or}
+use Rattle.std.specs.declared.option.Option as O
 use Rattle.judge_limits.proofs.BorderLaws.{off-domestic, off-borders}
-use Rattle.close_ceilings.specs.Ceilings.{most, line_by, line_in, line_of, line_at, line_row, ceiling_by, ceiling_in, ceiling_at}
+use Rattle.close_ceilings.specs.Ceilings.{most, line_in, line_of, line_at, line_row, ceiling_by, ceiling_in, ceiling_at}
 
 -- Limit 12
 
-line-of : (t : Bool) (n : ℕ) → line_of (cond t (some n) none) ≡ line_by t n
-unfolding line_of line_by
-line-of true n = refl
-line-of false n = refl
+pub line_as : (cs : List Notice) (b : ℕ) (l : O.Option (List ℕ)) (h : ℕ) → border_at l (suc h) ≡ border_sum (map notice_in cs) b (suc h) → line_in l h ≡ line_at cs b h
+unfolding line_in line_at line_of border_at
+line_as cs b None h e = ap line_of e
+line_as cs b (Some sums) h e = ap (λ n. min n most) (sym (hourly-suc sums h)) ∙ ap line_of e
 
-pub line_as : (cs : List Notice) (b : ℕ) (l : BorderLimit) (h : ℕ) → border_at l (suc h) ≡ border_sum (map notice_in cs) b (suc h) → line_in l h ≡ line_at cs b h
-unfolding line_in line_at border_at
-line_as cs b l h e = sym (line-of l.applies (get_or l.energies h 0)) ∙ ap (λ n. line_of (cond l.applies (some n) none)) (sym (hourly-suc l.energies h)) ∙ ap line_of e
+-- a limit that does not apply is as much as any
+pub line-laid : (l : O.Option (List ℕ)) (h : ℕ) → h < 25 → min (get_or (unwrap_or l (replicate 25 most)) h 0) most ≡ line_in l h
+unfolding line_in
+line-laid None h i = ap (λ n. min n most) (get_or-replicate {A = ℕ} 25 h most 0 i)
+line-laid (Some sums) h i = refl
 
 -- a number that no border has
 row-none : (cs : List Notice) (b h : ℕ) → length cs ≡ 8 → 4 < b → line_at cs 0 h ≡ line_at cs b h

@@ -11,24 +11,24 @@ use Rattle.rules.specs.Units.{limits, ceiling}
 use Rattle.rules.specs.Lodging.{judged_by, limit_rows}
 use Rattle.rules.proofs.CeilingLaws.{over-limits}
 use Rattle.rules.proofs.LimitLaws.{row-over, none_over}
-use Rattle.session.specs.Parts.{judgement}
+use Rattle.session.specs.Parts.{given_by}
 use Rattle.session.specs.declared.Unit.{Unit}
 use Rattle.session.specs.declared.Notice.{Notice}
-use Rattle.session.specs.declared.Ruling.{Ruling}
-use Rattle.session.specs.declared.Ruling.TheVariants.{No, Clear}
 use Rattle.judge_limits.specs.Limits.{registered_in, lines_in, judged_in}
 
 -- a judgement that refuses
-pub data Refuses : Ruling → Type 0 where
-  refuses : (row hour : ℕ) → Refuses (No row hour)
+pub data Refuses : Option (ℕ × ℕ) → Type 0 where
+  refuses : (r : ℕ × ℕ) → Refuses (some r)
 
-judgement-none : (o : Option Row) → ((r : Row) → o ≡ some r → ⊥) → judgement o ≡ Clear
+judgement-none : (o : Option Row) → ((r : Row) → o ≡ some r → ⊥) → given_by o ≡ none
+unfolding given_by
 judgement-none none f = refl
 judgement-none (some r) f = absurd (f r refl)
 
-judgement-some : (o : Option Row) → (o ≡ none → ⊥) → Refuses (judgement o)
+judgement-some : (o : Option Row) → (o ≡ none → ⊥) → Refuses (given_by o)
+unfolding given_by
 judgement-some none f = absurd (f refl)
-judgement-some (some r) f = refuses _ _
+judgement-some (some r) f = refuses _
 
 -- The judgement of a lodgement at closing, by all limits
 
@@ -39,7 +39,7 @@ module _ (u : Unit) (n : Notice) (cs : List Notice) (H : ℕ) (own : List ℕ) (
   abbrev rows : List Row
   rows = limit_rows H own load (limits (lines_in cs) (registered_in u n))
 
-  pub judged-under : ((h : ℕ) → 1 ≤ h → h ≤ H → load h ≤ top h) → judged_in u n cs false H own load ≡ Clear
+  pub judged-under : ((h : ℕ) → 1 ≤ h → h ≤ H → load h ≤ top h) → judged_in u n cs false H own load ≡ none
   unfolding judged_in judged_by
   judged-under f =
       judgement-none (first_row rows) (λ r e. let v = row-over H own load top (limits (lines_in cs) (registered_in u n)) (over-limits (lines_in cs) (registered_in u n)) r e in

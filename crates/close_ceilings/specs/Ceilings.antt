@@ -7,18 +7,17 @@ use Rattle.session.specs.Image.{no_unit}
 use Rattle.session.specs.declared.Unit.{Unit}
 use Rattle.session.specs.declared.Notice.{Notice}
 use Rattle.judge_limits.specs.Limits.{notice_in, registered_in, lines_in}
-use Rattle.judge_limits.specs.declared.BorderLimit.{BorderLimit}
+use Rattle.std.specs.declared.option.Option as O
+use Rattle.std.specs.declared.option.Option.TheVariants.{Some, None}
 
 -- as much as a maximum can be
 abbrev pub most : ℕ
 most = 4294967295
 
 -- limit 12 where a maximum is a limit too: one that does not apply is as much as any
-unfoldable pub line_by : Bool → ℕ → ℕ
-line_by applies sum = cond applies (min sum most) most
-
-unfoldable pub line_in : BorderLimit → ℕ → ℕ
-line_in b h = line_by b.applies (get_or b.energies h 0)
+unfoldable pub line_in : O.Option (List ℕ) → ℕ → ℕ
+line_in None h = most
+line_in (Some sums) h = min (get_or sums h 0) most
 
 unfoldable pub line_of : Option ℕ → ℕ
 line_of none = most

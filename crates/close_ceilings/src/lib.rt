@@ -3,36 +3,24 @@
 
 ghost use Rattle.std.specs.Prelude.{◌≡◌, List, ℕ, ◌+◌, ◌*◌, ◌<◌, ◌≤◌, get_or, length};
 ghost use Rattle.session.specs.declared.Notice.{Notice};
-ghost use Rattle.close_ceilings.specs.Ceilings.{most, line_by, line_in, line_at, LinesOf, line_row, ceiling_by, ceiling_in, ceiling_at, RowAt};
+ghost use Rattle.close_ceilings.specs.Ceilings.{most, line_in, line_at, LinesOf, line_row, ceiling_by, ceiling_in, ceiling_at, RowAt};
 
 use arrays::lower;
-use judge_limits::{BorderLimit, border_limit};
+use judge_limits::border_limit;
 use rules::{BORDERS, DIRECTIONS, HOURS, UNITS};
 use session::{Notice, Unit};
 
 // As much as a maximum can be.
-const MOST: u32 = 4_294_967_295;
+const MOST: u64 = 4_294_967_295;
 
-// Limit 12 in an hour, as much as a maximum can be where it does not apply.
-fn line_at(applies: bool, sum: u64) -> u32
-    ensures { result ≡ line_by applies sum }
-{
-    if !applies {
-        return MOST;
-    }
-    if sum < 4_294_967_295 {
-        return sum as u32;
-    }
-    MOST
-}
-
-// Limit 12 by hour, in its border's row.
-fn lay_line(lines: &mut [u32; BORDERS * HOURS + HOURS], border: usize, limit: BorderLimit)
+// Limit 12 by hour, in its border's row: as much as a maximum can be where it does not apply.
+fn lay_line(lines: &mut [u32; BORDERS * HOURS + HOURS], border: usize, limit: Option<[u64; HOURS]>)
     requires { (border < 5) × (length lines.old ≡ 125) }
     ensures { (length lines.new ≡ 125) × RowAt border (line_in limit) 25 lines.old lines.new }
 {
+    let sums = limit.unwrap_or([MOST; HOURS]);
     for h in 0..HOURS {
-        lines[border * HOURS + h] = line_at(limit.applies, limit.energies[h]);
+        lines[border * HOURS + h] = sums[h].min(MOST) as u32;
     }
 }
 

@@ -21,14 +21,13 @@ use Rattle.rules.proofs.ListLaws.{all-at, keep-keep}
 use Rattle.rules.proofs.ClosingLaws.{verdict-with}
 use Rattle.session.specs.Bare.{bare_notice, bare_energies}
 use Rattle.session.specs.Image.{image, Sound, unit_of, unit_as, notice_as, verdict_as, no_unit, no_lodgement}
-use Rattle.session.specs.Parts.{Within, judgement, number_is, index_of}
+use Rattle.session.specs.Parts.{Within, given_by, number_is, index_of}
 use Rattle.session.specs.declared.Session.{Session}
 use Rattle.session.specs.declared.Unit.{Unit}
 use Rattle.session.specs.declared.Notice.{Notice}
 use Rattle.session.specs.declared.Lodgement.{Lodgement}
 use Rattle.session.specs.declared.Energies.{Energies}
 use Rattle.session.specs.declared.Verdict.{Verdict}
-use Rattle.session.specs.declared.Ruling.{Ruling}
 use Rattle.session.proofs.ImageLaws.{standing-as, hours-as, enrolled-as, units-as, capacities-as, energies-as, registered-as, unit-as, notice-as}
 use Rattle.session.proofs.IndexLaws.{indexed, get_or-map}
 use Rattle.judge_loads.specs.Loads.{marked, energy_in, load_in, load_by}
@@ -44,8 +43,8 @@ use Rattle.close_judge.proofs.ClassLaws.{closing-before, taken-class, verdict-at
 use Rattle.close_judge.proofs.StandingLaws.{stands, lodgement-at, energies-at, loaded_at}
 
 -- a judgement by the limits, as a verdict
-told-verdict : (o : Option Row) → verdict_by (judgement o) ≡ verdict_as (C.verdict_of_row o)
-unfolding verdict_by verdict_as C.verdict_of_row
+told-verdict : (o : Option Row) → verdict_by (given_by o) ≡ verdict_as (C.verdict_of_row o)
+unfolding verdict_by verdict_as C.verdict_of_row given_by
 told-verdict none = refl
 told-verdict (some r) = refl
 
@@ -131,7 +130,7 @@ module _ (s : Session) (vs : List Verdict) (i : ℕ) (h : i < s.standing) (dl : 
       omega (arith, indexed (number_is unit_here) (take s.enrolled s.units) m, length-take s.enrolled s.units)
 
   module _ (p : ℕ) (at : p ≡ index_of (number_is unit_here) (take s.enrolled s.units)) where
-    pub judge-given : (de : Energies) (du : Unit) (dn : Notice) (ms : List Bool) (j : Ruling) (v : Verdict) → p < s.enrolled
+    pub judge-given : (de : Energies) (du : Unit) (dn : Notice) (ms : List Bool) (j : Option (ℕ × ℕ)) (v : Verdict) → p < s.enrolled
         → ms ≡ map (counts_at unit_here vs s.lodgements) (from 0 128)
         → j ≡ judged_in (get_or s.units p du) (get_or s.notices p dn) s.capacities false s.hours (get_or s.energies i de).energies (load_in (get_or s.energies i de).energies ms (take s.standing s.energies))
         → v ≡ verdict_by j → JudgesAt s vs i v
@@ -143,7 +142,7 @@ module _ (s : Session) (vs : List Verdict) (i : ℕ) (h : i < s.standing) (dl : 
         (unit-as s b e (standing_at b i).key.unit p here k du) (notice-as s b e (standing_at b i).key.unit p here k dn) (ap (λ (x : Energies). x.energies) (energies-at s b e i h de)))
 
     -- and with the energies lent, by the indices of those that are counted
-    judge-lent : (du : Unit) (dn : Notice) (own : List ℕ) (ms : List Bool) (loads ps : List ℕ) (j : Ruling) (v : Verdict) → p < s.enrolled
+    judge-lent : (du : Unit) (dn : Notice) (own : List ℕ) (ms : List Bool) (loads ps : List ℕ) (j : Option (ℕ × ℕ)) (v : Verdict) → p < s.enrolled
         → Within s → ((x : ℕ) → x < 25 → get_or own x 0 ≡ get_or loads (i * 25 + x) 0) → Loaded s loads
         → ms ≡ map (counts_at unit_here vs s.lodgements) (from 0 128) → ps ≡ marked ms (from 0 s.standing)
         → j ≡ judged_in (get_or s.units p du) (get_or s.notices p dn) s.capacities false s.hours own (load_by own loads ps)
@@ -173,7 +172,7 @@ module _ (s : Session) (vs : List Verdict) (i : ℕ) (h : i < s.standing) (dl : 
         rw (em.at x (omega (arith, w.standing)), held.at x l, at, indices-tell (take s.enrolled s.units) unit_here (get_or s.lodgements x no_lodgement).key.unit (omega (arith, at)))
 
     -- with the indices of the units and the marks of those accepted lent
-    pub judge-held : (u : Unit) (n : Notice) (own : List ℕ) (ms : List Bool) (hs loads ps : List ℕ) (j : Ruling) (v : Verdict) → UnitAt s p u n
+    pub judge-held : (u : Unit) (n : Notice) (own : List ℕ) (ms : List Bool) (hs loads ps : List ℕ) (j : Option (ℕ × ℕ)) (v : Verdict) → UnitAt s p u n
         → Within s → ((x : ℕ) → x < 25 → get_or own x 0 ≡ get_or loads (i * 25 + x) 0) → Loaded s loads → Held s hs → Marks vs ms
         → ps ≡ marked (map (held_at p ms hs) (from 0 128)) (from 0 s.standing)
         → j ≡ judged_in u n s.capacities false s.hours own (load_by own loads ps)

@@ -14,8 +14,7 @@ use Rattle.session.specs.declared.Notice.{Notice}
 use Rattle.session.specs.declared.Lodgement.{Lodgement}
 use Rattle.session.specs.declared.Verdict.{Verdict}
 use Rattle.session.specs.declared.Session.{Session}
-use Rattle.session.specs.declared.Ruling.{Ruling}
-use Rattle.session.specs.declared.Ruling.TheVariants.{No, Clear}
+use Rattle.std.proofs.Math.Option.{Option, some, none}
 
 -- By classes, the last index first
 
@@ -106,6 +105,10 @@ unfoldable pub held_at : ℕ → List Bool → List ℕ → ℕ → Bool
 held_at p marks holders j = get_or marks j false && eqb (get_or holders j 0) p
 
 -- a judgement by the limits as a verdict
-unfoldable pub verdict_by : Ruling → Verdict
-verdict_by Clear = record { accepted = true; reserved = 0; reserved2 = 0; limit = 0; hour = 0 }
-verdict_by (No row hour) = record { accepted = false; reserved = 0; reserved2 = 0; limit = row; hour = hour }
+unfoldable pub verdict_by : Option (ℕ × ℕ) → Verdict
+verdict_by none = record { accepted = true; reserved = 0; reserved2 = 0; limit = 0; hour = 0 }
+verdict_by (some r) = record { accepted = false; reserved = 0; reserved2 = 0; limit = r.0; hour = r.1 }
+
+-- of one that no limit refuses
+abbrev pub accepting : Verdict
+accepting = verdict_by none

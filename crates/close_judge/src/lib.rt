@@ -6,17 +6,17 @@ ghost use Rattle.rules.specs.Lists.{from};
 ghost use Rattle.judge_loads.specs.Loads.{IndicesOf, RowsAt, load_by};
 ghost use Rattle.judge_limits.specs.Limits.{judged_in};
 ghost use Rattle.close_ceilings.specs.Ceilings.{LinesOf};
-ghost use Rattle.session.specs.Parts.{Within};
+ghost use Rattle.session.specs.Parts.{Within, said};
 ghost use Rattle.session.specs.declared.Notice.{Notice};
 ghost use Rattle.session.specs.declared.Verdict.{Verdict};
-ghost use Rattle.session.specs.declared.Ruling.TheVariants.{Clear};
-ghost use Rattle.close_judge.specs.Classes.{Prepared, UnitAt, Marks, held_at, verdict_by, JudgesAt};
+ghost use Rattle.close_judge.specs.Classes.{Prepared, UnitAt, Marks, held_at, verdict_by, accepting, JudgesAt};
 
+use answer::Refusal;
 use close_ceilings::line_of;
 use judge_limits::{available_energies, lowest_row, maximum_energies};
 use judge_loads::lowest_hour;
 use rules::{BORDERS, HOURS, LODGEMENTS};
-use session::{Notice, Ruling, Session, Unit, Verdict};
+use session::{Notice, Session, Unit, Verdict};
 
 // "those accepted before it on its unit": how many of the first n are marked and of the unit at index p, their indices in front of `at`.
 fn accepted_on(
@@ -56,10 +56,10 @@ fn judge_limits(
     at: &[usize],
     count: usize,
     hours: usize,
-) -> Ruling
+) -> Result<(), Refusal>
     requires { (count ≤ 128) × (hours ≤ 25) × RowsAt at.now count loads.now }
     ensures { (cs : List Notice) → LinesOf cs lines.now
-        → result ≡ judged_in unit notice cs false hours own (load_by own loads.now (take count at.now)) }
+        → said result ≡ judged_in unit notice cs false hours own (load_by own loads.now (take count at.now)) }
 {
     let most = maximum_energies(unit.maximum);
     let ten = lowest_hour(own, loads, at, count, hours, most);
@@ -77,18 +77,19 @@ fn judge_limits(
 }
 
 // Accepted, or "refused whole" by the first limit passed in its lowest hour.
-fn verdict_by(j: Ruling) -> Verdict
-    ensures { result ≡ verdict_by j }
+#[tactic(auto, unfolding(crate::specs::Classes::verdict_by))]
+fn verdict_by(judged: Result<(), Refusal>) -> Verdict
+    ensures { result ≡ verdict_by (said judged) }
 {
-    match j {
-        Ruling::No(row, hour) => Verdict {
+    match judged {
+        Err(refusal) => Verdict {
             accepted: false,
             reserved: 0,
             reserved2: 0,
-            limit: row,
-            hour: hour,
+            limit: refusal.row.number(),
+            hour: refusal.hour,
         },
-        Ruling::Clear => Verdict {
+        Ok(()) => Verdict {
             accepted: true,
             reserved: 0,
             reserved2: 0,
@@ -112,9 +113,9 @@ fn energies_at(loads: &[u32; LODGEMENTS * HOURS], at: usize) -> [u32; HOURS]
 
 // The verdict of one that no limit refuses.
 pub fn accepted() -> Verdict
-    ensures { result ≡ verdict_by Clear }
+    ensures { result ≡ accepting }
 {
-    verdict_by(Ruling::Clear)
+    verdict_by(Ok(()))
 }
 
 // The verdict of the lodgement at an index: "its energy, plus that of those accepted before it on its unit", against the limits of

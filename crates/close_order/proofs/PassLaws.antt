@@ -8,7 +8,7 @@ use lib.ListN.{length, get_or, set, length-map}
 use Rattle.rules.specs.Book.{Book}
 use Rattle.session.specs.Image.{image, Sound, unit_of, no_lodgement}
 use Rattle.session.specs.Parts.{Within}
-use Rattle.session.specs.declared.Ruling.TheVariants.{Clear}
+use mathlib.Core.Option.{none}
 use Rattle.session.specs.declared.Session.{Session}
 use Rattle.session.specs.declared.Verdict.{Verdict}
 use Rattle.session.proofs.ImageLaws.{standing-as, enrolled-as, units-as}
@@ -26,7 +26,7 @@ pub holder_in : (s : Session) (holders : List ℕ) → Within s → Held s holde
 holder_in s holders w held j = omega (arith, held.most j, w.enrolled)
 
 -- one that no limit refuses is marked
-pub accepted-marked : {v : Verdict} → v ≡ verdict_by Clear → true ≡ v.accepted
+pub accepted-marked : {v : Verdict} → v ≡ verdict_by none → true ≡ v.accepted
 unfolding verdict_by
 accepted-marked e = sym (ap (λ (x : Verdict). x.accepted) e)
 
@@ -61,7 +61,7 @@ module _ (s : Session) (class : ℕ) (start : List Verdict) (all : List ℕ) whe
       indexed : Admitted (holder_at s.units s.enrolled s.lodgements at) loads at s.hours room after a
       indexed = rw (← holder) m
 
-      pub left-admitted : a ≡ true → v ≡ verdict_by Clear → Left rest (set given at v) after
+      pub left-admitted : a ≡ true → v ≡ verdict_by none → Left rest (set given at v) after
       unfolding holder_at verdict_by
       left-admitted y ev b sound e r =
           let x : is_taken b class at ≡ true = sym (k b e) ∙ q in

@@ -20,8 +20,7 @@ use Rattle.session.specs.Parts.{Within, unit_index}
 use Rattle.session.specs.declared.Lodgement.{Lodgement}
 use Rattle.session.specs.declared.Energies.{Energies}
 use Rattle.session.specs.declared.Verdict.{Verdict}
-use Rattle.session.specs.declared.Ruling.{Ruling}
-use Rattle.session.specs.declared.Ruling.TheVariants.{Clear}
+use mathlib.Core.Option.{Option, none}
 use Rattle.session.specs.declared.Session.{Session}
 use Rattle.judge_loads.specs.Loads.{marked, energy_in, load_in}
 use Rattle.judge_loads.proofs.MarkLaws.{sum-mark, marked-nothing}
@@ -168,10 +167,10 @@ marks-none ls unit =
     (λ j m. let in_List : j < 128 = omega (arith, marks-length ls unit (replicate 128 no_verdict)) in
     marks-at ls unit (replicate 128 no_verdict) j in_List ∙ rw (get_or-replicate 128 j no_verdict no_verdict in_List, get_or-replicate 128 j false false in_List))
 
-pub kept-start : (s : Session) (none : Verdict) (room : List ℕ) → Within s → none ≡ no_verdict
-    → ((p h : ℕ) → p < s.enrolled → h < 25 → get_or room (p * 25 + h) 0 ≡ ceiling_at s.units s.notices s.capacities p h) → Kept s (replicate 128 none) room
+pub kept-start : (s : Session) (blank : Verdict) (room : List ℕ) → Within s → blank ≡ no_verdict
+    → ((p h : ℕ) → p < s.enrolled → h < 25 → get_or room (p * 25 + h) 0 ≡ ceiling_at s.units s.notices s.capacities p h) → Kept s (replicate 128 blank) room
 unfolding accepted_on sum_of sum
-kept-start s none room w e f = λ unit x p m.
+kept-start s blank room w e f = λ unit x p m.
     rw (e, marks-none s.lodgements unit, marked-nothing 128 (take s.standing s.energies)) (omega (arith, f (unit_index s unit) x p (omega (arith, w.hours))))
 
 -- an index that is taken has no verdict yet
@@ -180,9 +179,9 @@ not_yet b class i vs r t = ap (λ (v : Verdict). v.accepted) (by-not-yet (class_
 
 -- What the room says of a lodgement
 
-refused-verdict : {j : Ruling} → Refuses j → (verdict_by j).accepted ≡ false
+refused-verdict : {j : Option (ℕ × ℕ)} → Refuses j → (verdict_by j).accepted ≡ false
 unfolding verdict_by
-refused-verdict (refuses row hour) = refl
+refused-verdict (refuses r) = refl
 
 module _ (s : Session) (vs : List Verdict) (room loads : List ℕ) (i : ℕ) (h : i < s.standing) (w : Within s) (lent : Loaded s loads) (k : Kept s vs room) where
   abbrev holder : ℕ
@@ -194,7 +193,7 @@ module _ (s : Session) (vs : List Verdict) (room loads : List ℕ) (i : ℕ) (h 
   abbrev load : ℕ → ℕ
   load = load_in own (marks s.lodgements holder vs) (take s.standing s.energies)
 
-  abbrev judged : Ruling
+  abbrev judged : Option (ℕ × ℕ)
   judged = judged_in (get_or s.units (unit_index s holder) no_unit) (get_or s.notices (unit_index s holder) bare_notice) s.capacities false s.hours own load
 
   load_is : (x : ℕ) → load (suc x) ≡ get_or own x 0 + accepted_on s vs holder x
@@ -202,7 +201,7 @@ module _ (s : Session) (vs : List Verdict) (room loads : List ℕ) (i : ℕ) (h 
   load_is x = ap (λ n. n + sum_of (energy_in (suc x)) (marked (marks s.lodgements holder vs) (take s.standing s.energies))) (hourly-suc own x)
 
   module _ (q : unit_index s holder < s.enrolled) where
-    judged-fits : ((x : ℕ) → x < s.hours → get_or loads (i * 25 + x) 0 ≤ get_or room (unit_index s holder * 25 + x) 0) → judged ≡ Clear
+    judged-fits : ((x : ℕ) → x < s.hours → get_or loads (i * 25 + x) 0 ≤ get_or room (unit_index s holder * 25 + x) 0) → judged ≡ none
     unfolding ceiling_at
     judged-fits f =
         judged-under (get_or s.units (unit_index s holder) no_unit) (get_or s.notices (unit_index s holder) bare_notice) s.capacities s.hours own load
@@ -219,10 +218,10 @@ module _ (s : Session) (vs : List Verdict) (room loads : List ℕ) (i : ℕ) (h 
         (λ z. absurd (omega (arith, hourly-suc own x))) (omega (arith, load_is x, k holder x q m))
 
   -- what the room holds is accepted
-  pub admitted : (v : Verdict) → v ≡ verdict_by Clear → Fits room (unit_index s holder) loads i s.hours true → JudgesAt s vs i v
+  pub admitted : (v : Verdict) → v ≡ verdict_by none → Fits room (unit_index s holder) loads i s.hours true → JudgesAt s vs i v
   admitted v e f b class sound x r t =
       let q = unit-indexed s vs i h no_lodgement b sound x in
-      judge-given s vs i h no_lodgement (unit_index s holder) refl bare_energies no_unit bare_notice (marks s.lodgements holder vs) Clear v q refl (sym (judged-fits q (held room (unit_index s holder) loads i f refl))) e b class sound x r t
+      judge-given s vs i h no_lodgement (unit_index s holder) refl bare_energies no_unit bare_notice (marks s.lodgements holder vs) none v q refl (sym (judged-fits q (held room (unit_index s holder) loads i f refl))) e b class sound x r t
 
   -- and another is not
   pub refused : (v : Verdict) (b : Book) (class : ℕ) → JudgesAt s vs i v → Fits room (unit_index s holder) loads i s.hours false → Sound b → s ≡ image b → Reached b class (i + 1) vs → is_taken b class i ≡ true → v.accepted ≡ false

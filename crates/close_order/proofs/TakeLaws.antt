@@ -5,7 +5,9 @@ use mathlib.Core.Bool.{Bool, true, false, not, ◌&&◌}
 use mathlib.Core.List.{List, [], ◌∷◌}
 use lib.ListN.{get_or, take}
 use borrow.Author.Tests.{eq-eqb, ne_eqb, not-true}
+use Rattle.std.specs.List.{list_any}
 use Rattle.rules.specs.Lists.{any}
+use Rattle.rules.proofs.ListLaws.{any-list}
 use Rattle.rules.specs.Message as M
 use Rattle.rules.specs.Lodging as L
 use Rattle.rules.specs.Book.{Book}
@@ -57,7 +59,7 @@ module _ (s : Session) (class : ℕ) (l : Lodgement) (i : ℕ) (h : i < s.standi
       let k : (standing_at b i).key.default ≡ false = ap (λ (x : Lodgement). x.key.default) (sym (lodgement-at s b e i h no_lodgement) ∙ sym here) ∙ not-true l.key.default d in
       rw (eq-eqb (class_of (standing_at b i)) class (sym (class-here q b e) ∙ n), shown-normal b.standing (standing_at b i).key k)
 
-  pub takes-shown : {t : ℕ} {r : Bool} → t ≡ class_in l.key → t ≡ class → r ≡ any (hiding l.key) (take s.standing s.lodgements) → TakesAt s class i (not r)
+  pub takes-shown : {t : ℕ} {r : Bool} → t ≡ class_in l.key → t ≡ class → r ≡ list_any (hiding l.key) (take s.standing s.lodgements) → TakesAt s class i (not r)
   unfolding is_taken
   takes-shown q n k b e =
-      rw (eq-eqb (class_of (standing_at b i)) class (sym (class-here q b e) ∙ n), k ∙ ap (λ (x : Lodgement). any (hiding x.key) (take s.standing s.lodgements)) here ∙ hidden_at s b e i h no_lodgement)
+      rw (eq-eqb (class_of (standing_at b i)) class (sym (class-here q b e) ∙ n), k ∙ sym (any-list (hiding l.key) (take s.standing s.lodgements)) ∙ ap (λ (x : Lodgement). any (hiding x.key) (take s.standing s.lodgements)) here ∙ hidden_at s b e i h no_lodgement)

@@ -48,8 +48,7 @@ fn takes(s: Session, class: u32, l: Lodgement) -> bool
     if !key.default {
         return true;
     }
-    let lodgements = s.lodgements;
-    !is_hidden(lodgements, s.standing, key)
+    !is_hidden(&s.lodgements[..s.standing], key)
 }
 
 // One class, from its last index to its first: "latest number first", each judged with what was accepted before it. One that the room

@@ -1,6 +1,7 @@
 // What is written of an answer about a date or a message.
 use answer::{ClockName, REFUSED, Response};
 use message::{Fields, Reading};
+use rules::row::Row;
 use std::fmt;
 
 // A number, or a refusal: "24", "refused 1".
@@ -90,24 +91,22 @@ impl fmt::Display for Said {
 // "count 16: 10 00 0e ..", "refused 14: a5 ..": what the buffer then holds.
 #[derive(Clone, Copy)]
 pub struct Written<'a> {
-    written: message::Written,
+    count: Result<usize, Row>,
     buffer: &'a [u8],
 }
 
 impl<'a> Written<'a> {
-    pub fn into(buffer: &'a mut [u8], fields: Fields) -> Written<'a> {
-        let written = message_writer::write(fields, buffer);
-        Written { written, buffer }
+    pub fn into(buffer: &'a mut [u8], fields: &Fields) -> Written<'a> {
+        let count = message_writer::write_fields(fields, buffer);
+        Written { count, buffer }
     }
 }
 
 impl fmt::Display for Written<'_> {
     fn fmt<W: fmt::Write>(&self, f: &mut fmt::Formatter<W>) -> fmt::Result {
-        let message::Written { row, count, .. } = self.written;
-        if row == 0 {
-            write!(f, "count {count}:")?;
-        } else {
-            write!(f, "refused {row}:")?;
+        match self.count {
+            Ok(count) => write!(f, "count {count}:")?,
+            Err(row) => write!(f, "refused {}:", row.number())?,
         }
         for byte in self.buffer {
             write!(f, " {byte:02x}")?;

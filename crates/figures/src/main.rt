@@ -33,7 +33,7 @@ mod questions;
 fn write<W: Write>(room: usize, fields: Fields, out: &mut W) -> io::Result<()> {
     let mut buffer = [0xA5; 128];
     match buffer.get_mut(..room) {
-        Some(buffer) => writeln!(out, "{}", Written::into(buffer, fields)),
+        Some(buffer) => writeln!(out, "{}", Written::into(buffer, &fields)),
         None => Ok(()),
     }
 }

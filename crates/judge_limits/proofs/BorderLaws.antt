@@ -1,18 +1,20 @@
 -- Limit 12: where it applies, by the notices that a session keeps.
-use Prim.Native.Nat.{ℕ, ◌+◌, ◌-◌, ◌*◌, ◌<◌}
+use Prim.Native.Nat.{ℕ, ◌+◌, ◌-◌, ◌*◌, ◌≤◌, ◌<◌}
 use mathlib.Core.Path.{◌≡◌, refl, ap, sym}
 use mathlib.Core.Bool.{true, false, not}
 use mathlib.Core.List.{List, map}
 use mathlib.Core.Option.{some, none}
+use Rattle.std.specs.Prelude.{Some, None}
 use native.Mathlib.Omega.{arith}
 use lib.ListN.{length, get_or, get_or-eq_default, get_or-map}
-use borrow.Author.Tests.{eq-eqb, ne_eqb, not-true, not-false}
-use Rattle.rules.specs.Lists.{add_each, hourly}
+use lib.Dec.{ltb}
+use borrow.Author.Tests.{eq-eqb, ne_eqb, ltb-true, ltb-false}
+use Rattle.rules.proofs.BoolLaws.{by_bool}
+use Rattle.rules.specs.Lists.{hourly}
 use Rattle.rules.specs.Units.{Published, direction, capacity_of, both_at, border_sum}
 use Rattle.session.specs.Bare.{bare_notice}
 use Rattle.session.specs.declared.Notice.{Notice}
-use Rattle.judge_limits.specs.Limits.{notice_in, border_at, no_border_limit}
-use Rattle.judge_limits.proofs.WrittenLaws.{add_at}
+use Rattle.judge_limits.specs.Limits.{notice_in, border_at}
 
 both-none : (h : ℕ) (p : Published) → both_at h p none ≡ none
 unfolding both_at
@@ -30,7 +32,7 @@ module _ (ns : List Notice) (b h : ℕ) where
   index-import = get_or-map notice_in ns ((b - 1) * 2 + 1) bare_notice
 
   -- "0 domestic"
-  pub off-domestic : b ≡ 0 → border_at no_border_limit h ≡ border_sum (map notice_in ns) b h
+  pub off-domestic : b ≡ 0 → border_at None h ≡ border_sum (map notice_in ns) b h
   unfolding border_at border_sum
   off-domestic e = rw (eq-eqb b 0 e)
 
@@ -41,27 +43,33 @@ module _ (ns : List Notice) (b h : ℕ) where
   import = get_or ns ((b - 1) * 2 + 1) bare_notice
 
   module _ (z : b ≡ 0 → ⊥) where
-    absent-export : export.given ≡ false → border_at no_border_limit h ≡ border_sum (map notice_in ns) b h
+    absent-export : export.given ≡ false → border_at None h ≡ border_sum (map notice_in ns) b h
     unfolding border_at border_sum notice_in both_at
     absent-export e = rw (ne_eqb b 0 z, index-export, e)
 
-    pub off-export : not export.given ≡ true → border_at no_border_limit h ≡ border_sum (map notice_in ns) b h
-    off-export e = absent-export (not-true export.given e)
+    pub off-export : export.given ≡ false → border_at None h ≡ border_sum (map notice_in ns) b h
+    off-export e = absent-export e
 
-    pub off-import : not import.given ≡ true → border_at no_border_limit h ≡ border_sum (map notice_in ns) b h
+    pub off-import : import.given ≡ false → border_at None h ≡ border_sum (map notice_in ns) b h
     unfolding border_at border_sum notice_in
-    off-import e = rw (ne_eqb b 0 z, index-import, not-true import.given e) (sym (both-none h (capacity_of (map notice_in ns) b true)))
+    off-import e = rw (ne_eqb b 0 z, index-import, e) (sym (both-none h (capacity_of (map notice_in ns) b true)))
 
     -- a number that no border has
-    pub off-borders : length ns ≡ 8 → 4 < b → border_at no_border_limit h ≡ border_sum (map notice_in ns) b h
+    pub off-borders : length ns ≡ 8 → 4 < b → border_at None h ≡ border_sum (map notice_in ns) b h
     off-borders l k = absent-export (ap (λ (x : Notice). x.given) (get_or-eq_default ns bare_notice {n = (b - 1) * 2} (omega arith)))
 
     -- "the sum of the two capacities"
-    pub on-border : (sums : List ℕ) → sums ≡ add_each export.energies import.energies → not export.given ≡ false → not import.given ≡ false
-        → border_at (record { applies = true; energies = sums }) h ≡ border_sum (map notice_in ns) b h
+    pub on-border : (sums : List ℕ) → length sums ≡ 25 → length export.energies ≡ 25 → length import.energies ≡ 25
+        → ((k : ℕ) → k < 25 → get_or sums k 0 ≡ get_or export.energies k 0 + get_or import.energies k 0) → export.given ≡ true → import.given ≡ true
+        → border_at (Some sums) h ≡ border_sum (map notice_in ns) b h
     unfolding border_at border_sum notice_in both_at hourly
-    on-border sums e x y =
-        rw (e, ne_eqb b 0 z, index-export, index-import, not-false export.given x, not-false import.given y, add_at export.energies import.energies (h - 1))
+    on-border sums l m n e x y = rw (ne_eqb b 0 z, index-export, index-import, x, y) (ap some (each (h - 1)))
+      where
+        each : (k : ℕ) → get_or sums k 0 ≡ get_or export.energies k 0 + get_or import.energies k 0
+        each k = by_bool (ltb k 25) (λ t. e k (ltb-true k 25 t)) (λ t. beyond (ltb-false k 25 t))
+          where
+            beyond : 25 ≤ k → get_or sums k 0 ≡ get_or export.energies k 0 + get_or import.energies k 0
+            beyond g = rw (get_or-eq_default sums 0 {n = k} (omega arith), get_or-eq_default export.energies 0 {n = k} (omega arith), get_or-eq_default import.energies 0 {n = k} (omega arith))
 
 -- the ways out of the test for limit 12
 pub ruleset border_laws = (off-domestic, off-borders, off-export, off-import, on-border)

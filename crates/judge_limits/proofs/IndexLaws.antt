@@ -11,7 +11,7 @@ use Rattle.rules.specs.Refusals.{first_row}
 use Rattle.rules.specs.Lodging.{judged_by}
 use Rattle.arrays.specs.declared.Indices.{Indices}
 use Rattle.session.specs.Bare.{bare_energies}
-use Rattle.session.specs.Parts.{judgement}
+use Rattle.session.specs.Parts.{given_by}
 use Rattle.session.specs.declared.Energies.{Energies}
 use Rattle.session.specs.declared.Unit.{Unit}
 use Rattle.session.specs.declared.Notice.{Notice}
@@ -48,7 +48,7 @@ pub judged-same : (u : Unit) (notice : Notice) (cs : List Notice) (only : Bool) 
 unfolding judged_in
 judged-same u notice cs only H own like f g e k =
     let ls = judged_by (lines_in cs) (registered_in u notice) only in
-    ap (λ rows. judgement (first_row rows)) (rows-own H own like f e ls ∙ rows-load H like f g k ls)
+    ap (λ rows. given_by (first_row rows)) (rows-own H own like f e ls ∙ rows-load H like f g k ls)
 
 -- the judgement by indices is that by marks
 module _ (u : Unit) (notice : Notice) (cs : List Notice) (only : Bool) (H : ℕ) (own loads ps : List ℕ) (bs : List Bool) (n : ℕ) (es : List Energies) where
@@ -56,7 +56,7 @@ module _ (u : Unit) (notice : Notice) (cs : List Notice) (only : Bool) (H : ℕ)
       → judged_in u notice cs only H own (load_by own loads ps) ≡ judged_in u notice cs only H own (load_in own bs (take n es))
   unfolding judged_in
   judged-indices most b f e =
-      ap (λ rows. judgement (first_row rows))
+      ap (λ rows. given_by (first_row rows))
       (rows-load H own (load_by own loads ps) (load_in own bs (take n es))
       (λ h i k. ap (λ (qs : List ℕ). load_by own loads qs h) (e ∙ ap (λ m. marked bs (from 0 m)) (sym-length b)) ∙ load-indices loads h own bs (take n es) i (omega arith) f)
       (judged_by (lines_in cs) (registered_in u notice) only))

@@ -13,7 +13,7 @@ use Rattle.rules.specs.Lodging.{passed_at, judged_by, limit_rows}
 use Rattle.rules.proofs.ListLaws.{get_or-pad}
 use Rattle.session.specs.Laid.{pad}
 use Rattle.session.specs.Image.{unit_as, notice_as}
-use Rattle.session.specs.Parts.{judgement}
+use Rattle.session.specs.Parts.{given_by}
 use Rattle.session.specs.declared.Unit.{Unit}
 use Rattle.session.specs.declared.Notice.{Notice}
 use Rattle.judge_limits.specs.Limits.{notice_in, registered_in, lines_in, judged_in}
@@ -93,11 +93,11 @@ module _ (r : Registered) (ls : Lines) where
         rows_same (each (refl, λ h. refl) (each (refl, λ h. ap some (available-as h)) (each (refl, λ h. border-as r.unit.border h) each0)))
 
     pub judged-as : (u : Unit) (n : Notice) (ns : List Notice) (only : Bool) → u ≡ unit_as r.unit → n ≡ notice_as r.available → ns ≡ map notice_as cs
-        → judged_in u n ns only H own load ≡ judgement (first_row (limit_rows H own load (judged_by ls r only)))
+        → judged_in u n ns only H own load ≡ given_by (first_row (limit_rows H own load (judged_by ls r only)))
     unfolding judged_in
-    judged-as u n ns only e f g = rw (e, f, g) (ap (λ rows. judgement (first_row rows)) (rows_as only))
+    judged-as u n ns only e f g = rw (e, f, g) (ap (λ rows. given_by (first_row rows)) (rows_as only))
 
     -- and by a load that is the same in every hour
     pub judged-by : (u : Unit) (n : Notice) (ns : List Notice) (only : Bool) (f : ℕ → ℕ) → u ≡ unit_as r.unit → n ≡ notice_as r.available → ns ≡ map notice_as cs
-        → ((h : ℕ) → 1 ≤ h → h ≤ H → load h ≡ f h) → judged_in u n ns only H own load ≡ judgement (first_row (limit_rows H own f (judged_by ls r only)))
-    judged-by u n ns only f e k g same = judged-as u n ns only e k g ∙ ap (λ rows. judgement (first_row rows)) (rows-load H own load f same (judged_by ls r only))
+        → ((h : ℕ) → 1 ≤ h → h ≤ H → load h ≡ f h) → judged_in u n ns only H own load ≡ given_by (first_row (limit_rows H own f (judged_by ls r only)))
+    judged-by u n ns only f e k g same = judged-as u n ns only e k g ∙ ap (λ rows. given_by (first_row rows)) (rows-load H own load f same (judged_by ls r only))

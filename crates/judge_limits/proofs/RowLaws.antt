@@ -15,10 +15,11 @@ use Rattle.rules.specs.Lodging.{passed_at, judged_by, limit_rows}
 use Rattle.rules.proofs.LowestLaws.{lowest-none}
 use Rattle.session.specs.declared.Unit.{Unit}
 use Rattle.session.specs.declared.Notice.{Notice}
-use Rattle.session.specs.declared.Ruling.TheVariants.{No, Clear}
+use Rattle.session.specs.Parts.{given_by}
 use Rattle.judge_loads.specs.Loads.{laid}
 use Rattle.judge_limits.specs.Limits.{notice_in, registered_in, lines_in, lowest_row, judged_in, border_at}
-use Rattle.judge_limits.specs.declared.BorderLimit.{BorderLimit}
+use Rattle.std.specs.declared.option.Option as O
+use Rattle.std.specs.Prelude.{Some, None}
 use Rattle.judge_loads.proofs.LoadLaws.{and-false}
 
 -- tests that agree on each number have the same lowest
@@ -35,20 +36,20 @@ lowest-same p q n f = first-same p q 1 n (λ k a b. f k a (omega arith))
 -- The row that is given, by the three hours
 
 module _ (x y z : ℕ) where
-  pub row-10 : (x ≡ 0 → ⊥) → No 10 x ≡ lowest_row x y z
-  unfolding lowest_row first_row
+  pub row-10 : (x ≡ 0 → ⊥) → some (10, x) ≡ lowest_row x y z
+  unfolding lowest_row first_row given_by
   row-10 h = rw (ne_eqb x 0 h)
 
-  pub row-11 : x ≡ 0 → (y ≡ 0 → ⊥) → No 11 y ≡ lowest_row x y z
-  unfolding lowest_row first_row
+  pub row-11 : x ≡ 0 → (y ≡ 0 → ⊥) → some (11, y) ≡ lowest_row x y z
+  unfolding lowest_row first_row given_by
   row-11 e h = rw (eq-eqb x 0 e, ne_eqb y 0 h)
 
-  pub row-12 : x ≡ 0 → y ≡ 0 → (z ≡ 0 → ⊥) → No 12 z ≡ lowest_row x y z
-  unfolding lowest_row first_row
+  pub row-12 : x ≡ 0 → y ≡ 0 → (z ≡ 0 → ⊥) → some (12, z) ≡ lowest_row x y z
+  unfolding lowest_row first_row given_by
   row-12 e f h = rw (eq-eqb x 0 e, eq-eqb y 0 f, ne_eqb z 0 h)
 
-  pub row-none : x ≡ 0 → y ≡ 0 → z ≡ 0 → Clear ≡ lowest_row x y z
-  unfolding lowest_row first_row
+  pub row-none : x ≡ 0 → y ≡ 0 → z ≡ 0 → none ≡ lowest_row x y z
+  unfolding lowest_row first_row given_by
   row-none e f g = rw (eq-eqb x 0 e, eq-eqb y 0 f, eq-eqb z 0 g)
 
 -- The judgement, by the lowest hours
@@ -125,23 +126,23 @@ module _ (H : ℕ) (own : List ℕ) (load : ℕ → ℕ) where
       pub judge-twelve : {z : ℕ} → z ≡ lowest (passed_at own load (border_limit (lines_in cs) (registered_in u n))) H → lowest_row x y z ≡ judged_in u n cs false H own load
       judge-twelve {z} g = rw (judged-normal, ten-as, eleven-as, ← e, ← f, ← g)
 
-    module _ (b : BorderLimit) (is : (h : ℕ) → border_at b h ≡ border_sum (map notice_in cs) u.border h) where
-      pub twelve-off : not b.applies ≡ true → lowest (passed_at own load l12) H ≡ 0
+    module _ (b : O.Option (List ℕ)) (is : (h : ℕ) → border_at b h ≡ border_sum (map notice_in cs) u.border h) where
+      pub twelve-off : b ≡ None → lowest (passed_at own load l12) H ≡ 0
       unfolding border_at border_limit
-      twelve-off t = limit-absent l12 (λ h. sym (is h) ∙ rw (not-true b.applies t))
+      twelve-off t = limit-absent l12 (λ h. sym (is h) ∙ rw t refl)
 
-      pub twelve-on : not b.applies ≡ false → lowest (passed_at own load l12) H ≡ lowest (passed_at own load (laid b.energies)) H
+      pub twelve-on : (sums : List ℕ) → b ≡ Some sums → lowest (passed_at own load l12) H ≡ lowest (passed_at own load (laid sums)) H
       unfolding border_at border_limit
-      twelve-on t = limit-same l12 (laid b.energies) (λ h x y. sym (is h) ∙ rw (not-false b.applies t))
+      twelve-on sums t = limit-same l12 (laid sums) (λ h x y. sym (is h) ∙ rw t refl)
 
       module _ (default : Bool) {x y : ℕ} (t : default ≡ false) (e : x ≡ ten) (f : y ≡ eleven) where
         -- 12 does not apply
-        pub judge-off : not b.applies ≡ true → lowest_row x y 0 ≡ judged_in u n cs default H own load
+        pub judge-off : b ≡ None → lowest_row x y 0 ≡ judged_in u n cs default H own load
         judge-off k = rw (t, judged-normal, ten-as, eleven-as, twelve-off k, e, f)
 
         -- all three
-        pub judge-on : {z : ℕ} → not b.applies ≡ false → z ≡ lowest (passed_at own load (laid b.energies)) H → lowest_row x y z ≡ judged_in u n cs default H own load
-        judge-on {z} k g = rw (t, judged-normal, ten-as, eleven-as, twelve-on k, e, f, g)
+        pub judge-on : {z : ℕ} (sums : List ℕ) → b ≡ Some sums → z ≡ lowest (passed_at own load (laid sums)) H → lowest_row x y z ≡ judged_in u n cs default H own load
+        judge-on {z} sums k g = rw (t, judged-normal, ten-as, eleven-as, twelve-on sums k, e, f, g)
 
 -- the ways out of the test for the lowest row
 pub ruleset lowest_row_laws = (row-10, row-11, row-12, row-none)

@@ -1,16 +1,16 @@
 -- What a unit, its notice and the capacities of a session say, and the judgement by their limits.
-use Rattle.std.specs.Prelude.{ℕ, Bool, false, cond, not, List, [], ◌∷◌, map, eqb, replicate}
+use Rattle.std.specs.Prelude.{ℕ, Bool, false, cond, not, List, [], ◌∷◌, map, eqb}
 use Rattle.std.proofs.Math.Option.{Option, some, none}
 use Rattle.rules.specs.Lists.{hourly}
 use Rattle.rules.specs.Refusals.{Row, first_row}
 use Rattle.rules.specs.Units.{Registered, Lines}
 use Rattle.rules.specs.Lodging.{judged_by, limit_rows}
 use Rattle.session.specs.Image.{unit_in}
-use Rattle.session.specs.Parts.{judgement}
+use Rattle.session.specs.Parts.{given_by}
 use Rattle.session.specs.declared.Unit.{Unit}
 use Rattle.session.specs.declared.Notice.{Notice}
-use Rattle.session.specs.declared.Ruling.{Ruling}
-use Rattle.judge_limits.specs.declared.BorderLimit.{BorderLimit}
+use Rattle.std.specs.declared.option.Option as O
+use Rattle.std.specs.Option.{option_map_or}
 
 -- a notice that the session keeps: absent, or its energies
 unfoldable pub notice_in : Notice → Option (List ℕ)
@@ -24,20 +24,17 @@ abbrev pub lines_in : List Notice → Lines
 lines_in cs = record { capacities = map notice_in cs }
 
 -- The judgement: the first of the limits that is passed, with the lowest hour in which it is.
-unfoldable pub judged_in : Unit → Notice → List Notice → Bool → ℕ → List ℕ → (ℕ → ℕ) → Ruling
-judged_in u n cs only H own load = judgement (first_row (limit_rows H own load (judged_by (lines_in cs) (registered_in u n) only)))
+unfoldable pub judged_in : Unit → Notice → List Notice → Bool → ℕ → List ℕ → (ℕ → ℕ) → Option (ℕ × ℕ)
+judged_in u n cs only H own load = given_by (first_row (limit_rows H own load (judged_by (lines_in cs) (registered_in u n) only)))
 
 -- the row of a limit by its hour, 0 where it is passed in none
 abbrev pub row_at : ℕ → ℕ → Row
 row_at n h = record { number = n; hour = h; applies = not (eqb h 0) }
 
 -- the row that is given, by the lowest hours in which 10, 11 and 12 are passed
-unfoldable pub lowest_row : ℕ → ℕ → ℕ → Ruling
-lowest_row ten eleven twelve = judgement (first_row (row_at 10 ten ∷ row_at 11 eleven ∷ row_at 12 twelve ∷ []))
+unfoldable pub lowest_row : ℕ → ℕ → ℕ → Option (ℕ × ℕ)
+lowest_row ten eleven twelve = given_by (first_row (row_at 10 ten ∷ row_at 11 eleven ∷ row_at 12 twelve ∷ []))
 
 -- limit 12 in an hour, none where it does not apply
-unfoldable pub border_at : BorderLimit → ℕ → Option ℕ
-border_at b h = cond b.applies (some (hourly b.energies h)) none
-
-abbrev pub no_border_limit : BorderLimit
-no_border_limit = record { applies = false; energies = replicate 25 0 }
+unfoldable pub border_at : O.Option (List ℕ) → ℕ → Option ℕ
+border_at b h = option_map_or (λ (es : List ℕ). some (hourly es h)) b none

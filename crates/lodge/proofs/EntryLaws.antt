@@ -1,56 +1,67 @@
 -- The session with a message's lodgement entered.
 use Prim.Native.Nat.{ℕ, suc, ◌+◌, ◌≤◌, ◌<◌}
 use mathlib.Core.Path.{◌≡◌, refl, sym}
-use mathlib.Core.Bool.{true, false≢true}
+use lib.ListN.{length}
+use Rattle.std.specs.Prelude.{Some, None}
+use Rattle.std.specs.Option.{unwrap_or}
+use Rattle.std.specs.declared.option.Option.{Option}
 use native.Mathlib.Omega.{arith}
 use Rattle.rules.specs.DayBook as D
 use Rattle.message.specs.View.{fields_in}
 use Rattle.message.specs.declared.Fields.{Fields}
-use Rattle.session_changes.specs.Changes.{Indexed, standing_effect}
+use Rattle.session_changes.specs.Changes.{Indexed, standing_with}
 use Rattle.answer.specs.Told.{told, is_refusal, numbered}
-use Rattle.session.specs.declared.Key.{Key}
 use Rattle.session.specs.declared.Session.{Session}
-use Rattle.session_changes.specs.declared.StandingEffect.{StandingEffect}
+use Rattle.session_changes.specs.Effects.{done}
+use Rattle.session_changes.specs.declared.Step.{Step}
+use Rattle.session_changes.specs.declared.StandingChange.{StandingChange}
 use Rattle.session.proofs.ImageLaws.{last_as}
-use Rattle.lodge_keys.specs.Keys.{key_for, key_index, left_of}
-use Rattle.lodge_keys.proofs.TakenLaws.{left_behind, entered-image}
+use Rattle.lodge_keys.specs.Keys.{key_for, key_index, of_key, left_of, from_at}
+use Rattle.lodge_keys.proofs.TakenLaws.{from-before, entered-image}
 use Rattle.lodge_judge.specs.Judging.{Room}
 use Rattle.lodge.specs.Entries.{EnteredFields}
 
--- a message's lodgement under a number behind the m that are left, the one at index p taken out
-abbrev pub entering : Key → Fields → ℕ → ℕ → ℕ → StandingEffect
-entering k f p m number = record {
+-- a message's lodgement under a number behind the m that are left, those behind index p moved forward
+abbrev pub entering : Fields → ℕ → ℕ → ℕ → Step StandingChange
+entering f p m number = record {
   change = record {
     from = p;
     to = m;
     at = m;
-    lodgement = record { key = k; number = number };
+    lodgement = record { key = key_for f; number = number };
     energies = record { energies = f.energies; prices = f.prices };
     standing = m + 1;
     last = number;
-    changed = true;
   };
   answer = numbered number;
 }
 
-module _ (s : Session) (f : Fields) (k : Key) (p m : ℕ) (same : k ≡ key_for f) (at : p ≡ key_index s (key_for f)) (left : m ≡ left_of s.standing p) (r : Room s (key_for f)) where
+module _ (s : Session) (f : Fields) (o : Option ℕ) (at : o ≡ key_index s (key_for f)) (r : Room s (key_for f)) where
+  abbrev left : ℕ
+  left = left_of s.standing o
+
   -- the index behind those left is free
-  pub room-left : m < 128
-  room-left = rw (left, at) r.index
+  pub room-left : left < 128
+  room-left = rw at r.index
 
-  pub entering-indexed : p ≤ s.standing → (number : ℕ) → Indexed (entering k f p m number).change
-  entering-indexed h number =
-      let b = left_behind s.standing p h in
-      record { forward = omega arith; to = room-left; at = room-left; still = λ e. absurd (false≢true (sym e)) }
+  pub entering-indexed : s.standing ≤ length s.lodgements → (number : ℕ) → Indexed (entering f (from_at s.standing o) left number).change
+  entering-indexed fit number =
+      let b : from_at s.standing o ≤ left = rw at (from-before (of_key (key_for f)) s.lodgements s.standing fit) in
+      record { forward = b; to = room-left; at = room-left }
 
-  pub entered : EnteredFields s f (standing_effect s (entering k f p m (s.last + 1)))
+  pub entered : EnteredFields s f (done standing_with s (entering f (from_at s.standing o) left (s.last + 1)))
   unfolding told is_refusal D.entry
   entered = record {
     book = λ b sound h e.
         let n : s.last + 1 ≡ suc b.last = omega (arith, last_as s b e) in
         record {
           answer = rw n;
-          session = rw (same, n) (entered-image s (key_for f) p m at left room-left b sound h e (D.entry (fields_in f) (suc b.last)) (suc b.last));
+          session = rw n (entered-image s (key_for f) o left at refl room-left b sound h e (D.entry (fields_in f) (suc b.last)) (suc b.last));
         };
     fine = refl;
   }
+
+-- where the search found nothing, the library's default
+pub from-default : (o : Option ℕ) (n : ℕ) → unwrap_or o n ≡ from_at n o
+from-default None n = refl
+from-default (Some p) n = refl

@@ -1,11 +1,16 @@
 -- Judging a message's fields: each way out.
 use Prim.Native.Nat.{ℕ, ◌≤◌, ◌<◌}
 use mathlib.Core.Path.{◌≡◌, refl, sym, ap, ◌∙◌}
-use mathlib.Core.Bool.{Bool, true, false, not, ◌&&◌, ◌||◌}
+use mathlib.Core.Bool.{Bool, true, false, not, ◌&&◌, ◌||◌, false≢true}
 use mathlib.Core.List.{List}
-use lib.Dec.{leb, ltb}
+use lib.Dec.{leb}
 use native.Mathlib.Omega.{arith}
-use borrow.Author.Tests.{leb-false, ltb-true, ltb-false, le-leb, lt-leb}
+use borrow.Author.Tests.{leb-false}
+use Rattle.std.specs.Prelude.{Some, None, is_none, Ok, Err}
+use Rattle.std.specs.declared.option.Option.{Option}
+use Rattle.std.specs.declared.result.Result.{Result}
+use Rattle.rules.specs.declared.row.Row as Code
+use Rattle.rules.specs.declared.row.Row.TheVariants.{Hour, Range, Full}
 use Rattle.rules.specs.Refusals.{row, first_row}
 use Rattle.rules.specs.Message.{bad_map, bad_fields}
 use Rattle.rules.specs.Lodging as L
@@ -15,109 +20,68 @@ use Rattle.rules.proofs.BoolLaws.{by_bool, neither}
 use Rattle.message.specs.View.{fields_in}
 use Rattle.message.specs.declared.Fields.{Fields}
 use Rattle.session.specs.Image.{image, key_in}
-use Rattle.session.specs.Parts.{Within, Holds}
+use Rattle.session.specs.Parts.{Within}
 use Rattle.session.specs.declared.Session.{Session}
-use Rattle.session.specs.declared.Unit.{Unit}
 use Rattle.session.specs.declared.Holder.{Holder}
 use Rattle.session.specs.declared.Key.{Key}
 use Rattle.session.proofs.ImageLaws.{hours-as, last_as, standing-as}
-use Rattle.lodge_keys.specs.Keys.{key_for, key_index}
-use Rattle.lodge_keys.proofs.KeyLaws.{stands_at}
-use Rattle.lodge_keys.proofs.TakenLaws.{left_in, left-most}
-use Rattle.lodge_judge.specs.Judging.{Room, full_at, field_rows, JudgesFields}
+use Rattle.lodge_keys.specs.Keys.{key_for, key_index, left_of}
+use Rattle.lodge_keys.proofs.KeyLaws.{stands-none, stands-some}
+use Rattle.lodge_keys.specs.Holding.{Holding, NotHolding}
+use Rattle.lodge_judge.specs.Judging.{Room, full_at, field_rows, GivesRow}
 
 -- Row 9
 
-or-true : (t : Bool) → true ≡ (t || true)
-or-true true = refl
-or-true false = refl
+module _ (s : Session) (k : Key) where
+  abbrev full : Option ℕ → Bool
+  full o = full_at s.standing s.last o
 
-or-false : (t : Bool) → t ≡ (t || false)
-or-false true = refl
-or-false false = refl
+  stands-as : (b : Book) → s ≡ image b → (o : Option ℕ) → key_index s k ≡ o → not (L.stands b.standing (key_in k)) ≡ is_none o
+  stands-as b e None q = ap not (stands-none s b e k q)
+  stands-as b e (Some p) q = ap not (stands-some s b e k p q).0
 
-module _ (n last p : ℕ) where
-  pub full-number : 65535 ≤ last → true ≡ full_at n last p
-  unfolding full_at
-  full-number h = rw (le-leb 65535 last h) (or-true (leb 128 n && leb n p))
-
-  pub full-free : last < 65535 → n < 128 → false ≡ full_at n last p
-  unfolding full_at
-  full-free h m = rw (lt-leb 65535 last h, lt-leb 128 n m)
-
-  pub full-index : last < 65535 → 128 ≤ n → leb n p ≡ full_at n last p
-  unfolding full_at
-  full-index h m = rw (lt-leb 65535 last h, le-leb 128 n m) (or-false (leb n p))
-
-  -- none of the key stands where its index is behind all
-  not-below : not (ltb p n) ≡ leb n p
-  not-below = by_bool (ltb p n) (λ t. rw (t, lt-leb n p (ltb-true p n t))) (λ t. rw (t, le-leb n p (ltb-false p n t)))
-
-module _ (s : Session) (k : Key) (p : ℕ) (at : p ≡ key_index s k) where
-  -- an index is free
-  room-free : Within s → s.standing < 128 → s.last < 65535 → Room s k
-  room-free w f l = record { within = w; index = omega (arith, left-most s.standing (key_index s k)); number = l }
-
-  -- or the key's lodgement leaves one
-  room-key : Within s → p < s.standing → s.last < 65535 → Room s k
-  room-key w f l =
-      let h : key_index s k < s.standing = rw at at f in
-      record { within = w; index = omega (arith, left_in s.standing (key_index s k) h, w.standing); number = l }
-
-  abbrev pub is_full : Bool
-  is_full = full_at s.standing s.last p
-
-  pub full-as : (b : Book) → s ≡ image b → D.full b (key_in k) ≡ is_full
+  pub full-as : (b : Book) → s ≡ image b → D.full b (key_in k) ≡ full (key_index s k)
   unfolding D.full full_at
-  full-as b e = rw (stands_at s b e k p at, standing-as s b e, last_as s b e, not-below s.standing s.last p)
+  full-as b e = rw (stands-as b e (key_index s k) refl, standing-as s b e, last_as s b e)
 
   -- an index and a number are free
-  pub room : Within s → is_full ≡ false → Room s k
+  pub room : Within s → full (key_index s k) ≡ false → Room s k
   unfolding full_at
   room w h =
-      let parts = neither (leb 128 s.standing && leb s.standing p) (leb 65535 s.last) h in
-      let number = leb-false 65535 s.last parts.1 in
-      by_bool (leb 128 s.standing) (λ t. room-key w (leb-false s.standing p (rw t at parts.0)) number)
-      (λ t. room-free w (leb-false 128 s.standing t) number)
+      let parts = neither (leb 128 s.standing && is_none (key_index s k)) (leb 65535 s.last) h in
+      record { within = w; index = left (key_index s k) parts.0; number = leb-false 65535 s.last parts.1 }
+    where
+      left : (o : Option ℕ) → (leb 128 s.standing && is_none o) ≡ false → left_of s.standing o < 128
+      left None q = by_bool (leb 128 s.standing) (λ t. absurd (false≢true (sym (rw t at q)))) (λ t. leb-false 128 s.standing t)
+      left (Some p) q = omega (arith, w.standing)
 
 -- Rows 4, 5, 6, 9, and none of them
 
-module _ (s : Session) (top : ℕ) (m : Fields) (holder : Holder) where
+module _ (s : Session) (top : ℕ) (m : Fields) where
   abbrev bad4 : Bool
   bad4 = bad_map m.map || L.names_beyond s.hours m.map
 
-  pub fields-4 : bad4 ≡ true → JudgesFields s top m holder 4
+  abbrev Gives : Result Holder Code.Row → Type 0
+  Gives r = GivesRow s top m r
+
+  pub fields-4 : bad4 ≡ true → Gives (Err Hour)
   unfolding field_rows row first_row
-  fields-4 h = record { rows = λ b e rest. rw (hours-as s b e, h); held = λ z. absurd (omega arith); room = λ z. absurd (omega arith) }
+  fields-4 h b e rest = rw (hours-as s b e, h)
 
-  pub fields-5 : bad4 ≡ false → bad_fields top (fields_in m) ≡ true → JudgesFields s top m holder 5
-  unfolding field_rows row first_row
-  fields-5 h k = record { rows = λ b e rest. rw (hours-as s b e, h, k); held = λ z. absurd (omega arith); room = λ z. absurd (omega arith) }
-
-  module _ (k : Key) (q : k ≡ key_for m) (h : bad4 ≡ false) (f : bad_fields top (fields_in m) ≡ false) (t : Bool) (u : (b : Book) → s ≡ image b → t ≡ D.bad_holder b (key_in k)) where
-    held : (b : Book) → s ≡ image b → D.bad_holder b (key_in (key_for m)) ≡ t
-    held b e = ap (λ x. D.bad_holder b (key_in x)) (sym q) ∙ sym (u b e)
-
-    pub fields-6 : t ≡ true → JudgesFields s top m holder 6
+  module _ (h : bad4 ≡ false) where
+    pub fields-5 : bad_fields top (fields_in m) ≡ true → Gives (Err Range)
     unfolding field_rows row first_row
-    fields-6 x = record { rows = λ b e rest. rw (hours-as s b e, h, f, held b e, x); held = λ z. absurd (omega arith); room = λ z. absurd (omega arith) }
+    fields-5 k b e rest = rw (hours-as s b e, h, k)
 
-    module _ (p : ℕ) (at : p ≡ key_index s k) where
-      at_key : p ≡ key_index s (key_for m)
-      at_key = at ∙ ap (key_index s) q
-
-      pub fields-9 : t ≡ false → full_at s.standing s.last p ≡ true → JudgesFields s top m holder 9
+    module _ (f : bad_fields top (fields_in m) ≡ false) where
+      pub fields-6 : (r : Code.Row) → NotHolding s (key_for m) r → Gives (Err r)
       unfolding field_rows row first_row
-      fields-9 x y = record { rows = λ b e rest. rw (hours-as s b e, h, f, held b e, x, full-as s (key_for m) p at_key b e, y); held = λ z. absurd (omega arith); room = λ z. absurd (omega arith) }
+      fields-6 r x b e rest = rw (hours-as s b e, h, f, x.bad b e, x.row)
 
-      pub fields-left : t ≡ false → full_at s.standing s.last p ≡ false → Within s → holder.at < s.enrolled → JudgesFields s top m holder 0
+      pub fields-9 : (a : Holder) → Holding s (key_for m) a → full s (key_for m) (key_index s (key_for m)) ≡ true → Gives (Err Full)
       unfolding field_rows row first_row
-      fields-left x y w i = record {
-        rows = λ b e rest. rw (hours-as s b e, h, f, held b e, x, full-as s (key_for m) p at_key b e, y);
-        held = λ z. i;
-        room = λ z. room s (key_for m) p at_key w y;
-      }
+      fields-9 a x y b e rest = rw (hours-as s b e, h, f, x.good b e, full-as s (key_for m) b e, y)
 
--- the unit of a message is that of its key
-pub held-for : (units : List Unit) (n : ℕ) (h : Holder) (m : Fields) (k : Key) → k ≡ key_for m → Holds units n m.unit h → Holds units n k.unit h
-held-for units n h m k q held = rw (ap (λ (x : Key). x.unit) q) held
+      pub fields-left : (a : Holder) → Holding s (key_for m) a → full s (key_for m) (key_index s (key_for m)) ≡ false → Gives (Ok a)
+      unfolding field_rows row first_row
+      fields-left a x y b e rest = rw (hours-as s b e, h, f, x.good b e, full-as s (key_for m) b e, y)

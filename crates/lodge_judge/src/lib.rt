@@ -1,19 +1,20 @@
 // What a message of the right form is refused for before its energy is judged: 4, 5, 6, 9.
 #![tactic(auto)]
 
-ghost use Rattle.std.specs.Prelude.{◌≡◌, ◌||◌, ◌≤◌};
+ghost use Rattle.std.specs.Prelude.{◌≡◌, ◌||◌, ◌≤◌, IfOk, OnOk};
 ghost use Rattle.rules.specs.Message.{bad_map};
 ghost use Rattle.rules.specs.Lodging.{names_beyond};
-ghost use Rattle.session.specs.Parts.{Within, Holds};
+ghost use Rattle.session.specs.Parts.{Within};
 ghost use Rattle.lodge_keys.specs.Keys.{key_for, key_index};
-ghost use Rattle.lodge_judge.specs.Judging.{full_at, JudgesFields};
+ghost use Rattle.lodge_keys.specs.Holding.{Holding};
+ghost use Rattle.lodge_judge.specs.Judging.{full_at, GivesRow, Room};
 
-use lodge_keys::bad_holder;
+use lodge_keys::{holder_for, key_of};
 use message::Fields;
 use message::judge::bad_fields;
 use message_ranges::bad_map;
-use rules::row::{FULL, HOUR, NO_UNIT, RANGE};
-use session::{Holder, Key, Session};
+use rules::row::Row;
+use session::{Holder, Session};
 
 // The map names an hour beyond H: hour 25 is its lowest bit.
 fn names_beyond(hours: u32, map: u32) -> bool
@@ -28,49 +29,38 @@ fn bad_hours(hours: u32, map: u32) -> bool
     requires { hours ≤ 25 }
     ensures { result ≡ (bad_map map || names_beyond hours map) }
 {
-    if bad_map(map) {
-        return true;
-    }
-    names_beyond(hours, map)
+    bad_map(map) || names_beyond(hours, map)
 }
 
-// Row 9: "128 lodgements and none of this key; 65,535 accepted". The key's lodgement has the index `at`, n being none.
-fn is_full(n: usize, last: u32, at: usize) -> bool
+// Row 9: "128 lodgements and none of this key; 65,535 accepted". The key's lodgement has the index `at`, if it has one.
+#[tactic(auto, unfolding(crate::specs::Judging::full_at))]
+fn is_full(n: usize, last: u32, at: Option<usize>) -> bool
     ensures { result ≡ full_at n last at }
 {
-    if Session::MAX_NUMBER <= last {
-        return true;
-    }
-    if n < Session::MAX_LODGEMENTS {
-        return false;
-    }
-    n <= at
+    Session::MAX_LODGEMENTS <= n && at.is_none() || Session::MAX_NUMBER <= last
 }
 
-// The row that refuses a message's fields, in the table's order, 0 for none: by its key, its unit, and the index of the lodgement that it
-// replaces.
+// The unit of a message, or the row that refuses its fields, in the table's order. What it replaces has the index `replaces`.
 pub fn judge_fields(
     s: Session,
-    m: Fields,
+    m: &Fields,
     top: u32,
-    key: Key,
-    holder: Holder,
-    replaces: usize,
-) -> u32
-    requires { Within s × (key ≡ key_for m) × Holds s.units s.enrolled m.unit holder × (replaces ≡ key_index s key) }
-    ensures { JudgesFields s top m holder result }
+    replaces: Option<usize>,
+) -> Result<Holder, Row>
+    requires { Within s × (replaces ≡ key_index s (key_for m.now)) }
+    ensures rows { GivesRow s top m.now result }
+    ensures held { IfOk result (λ h. Holding s (key_for m.now) h) }
+    ensures room { OnOk result (Room s (key_for m.now)) }
 {
     if bad_hours(s.hours, m.map) {
-        return HOUR;
+        return Err(Row::Hour);
     }
-    if bad_fields(&m, top) {
-        return RANGE;
+    if bad_fields(m, top) {
+        return Err(Row::Range);
     }
-    if bad_holder(s, key, holder) {
-        return NO_UNIT;
-    }
+    let holder = holder_for(s, key_of(m))?;
     if is_full(s.standing, s.last, replaces) {
-        return FULL;
+        return Err(Row::Full);
     }
-    0
+    Ok(holder)
 }

@@ -12,7 +12,8 @@ use Rattle.rules.specs.Lists.{keep, any, sum, sum_of, from}
 use Rattle.rules.specs.Lodging as L
 use Rattle.rules.specs.Book.{Book}
 use Rattle.rules.proofs.BoolLaws.{by_bool}
-use Rattle.rules.proofs.ListLaws.{keep-keep, keep_same, of-any-false}
+use Rattle.std.specs.List.{list_any}
+use Rattle.rules.proofs.ListLaws.{keep-keep, keep_same, of-any-false, any-list}
 use Rattle.rules.proofs.ElementLaws.{all-every}
 use Rattle.session.specs.Laid.{pad}
 use Rattle.session.specs.Image.{image, key_in, key_as, lodgement_as, energies_as}
@@ -54,35 +55,18 @@ unfolding marked keep
 marked-keep p g f [] = refl
 marked-keep p g f (x ∷ xs) = by_bool (p (g x)) (λ e. rw (e, marked-keep p g f xs)) (λ e. rw (e, marked-keep p g f xs))
 
--- Whether one is counted: each way out
-
 -- nothing hides a normal one
-unhidden : (m : Lodgement) (k : Key) → not k.default ≡ true → hiding k m ≡ false
+unhidden : (m : Lodgement) (k : Key) → k.default ≡ false → hiding k m ≡ false
 unfolding L.hides
-unhidden m k d = and_none (L.same_but_default (key_in m.key) (key_in k)) (not m.key.default) k.default (not-true k.default d)
+unhidden m k d = and_none (L.same_but_default (key_in m.key) (key_in k)) (not m.key.default) k.default d
   where
     and_none : (a b c : Bool) → c ≡ false → (a && b && c) ≡ false
     and_none true true c e = e
     and_none true false c e = refl
     and_none false b c e = refl
 
-module _ (ls : List Lodgement) (k : Key) (l : Lodgement) where
-  pub other-unit : (l.key.unit ≡ k.unit → ⊥) → false ≡ counts ls k l
-  unfolding counts
-  other-unit h = rw (ne_eqb l.key.unit k.unit h)
-
-  pub same_kind : l.key.unit ≡ k.unit → beq l.key.execution k.execution ≡ true → false ≡ counts ls k l
-  unfolding counts
-  same_kind h e = rw (eq-eqb l.key.unit k.unit h, e)
-
-  -- a normal one is not hidden
-  pub normal : l.key.unit ≡ k.unit → beq l.key.execution k.execution ≡ false → not l.key.default ≡ true → true ≡ counts ls k l
-  unfolding counts
-  normal h e d = rw (eq-eqb l.key.unit k.unit h, e, of-any-false (hiding l.key) (all-every (λ m. unhidden m l.key d) ls))
-
-  pub other-kind : (t : Bool) → l.key.unit ≡ k.unit → beq l.key.execution k.execution ≡ false → t ≡ any (hiding l.key) ls → not t ≡ counts ls k l
-  unfolding counts
-  other-kind t h e q = rw (eq-eqb l.key.unit k.unit h, e) (ap not q)
+pub normal_unhidden : (ls : List Lodgement) (k : Key) → k.default ≡ false → list_any (hiding k) ls ≡ false
+normal_unhidden ls k d = sym (any-list (hiding k) ls) ∙ of-any-false (hiding k) (all-every (λ m. unhidden m k d) ls)
 
 -- The loop that notes their indices
 
@@ -95,6 +79,17 @@ module _ (k : Key) (l : List Lodgement) (n : ℕ) where
   pub none-noted : k.default ≡ true → [] ≡ marked (beside_marks (take n l) k) (from 0 n)
   unfolding beside_marks marked
   none-noted h = rw (h, marked-pad 128 [] (from 0 n))
+
+  -- of all of them
+  pub none-of-all : k.default ≡ true → [] ≡ marked (beside_marks l k) (from 0 (length l))
+  unfolding beside_marks marked
+  none-of-all h = rw (h, marked-pad 128 [] (from 0 (length l)))
+
+  pub mark-of : (d : Lodgement) (i : ℕ) → k.default ≡ false → i < length l → get_or (beside_marks l k) i false ≡ counts l k (get_or l i d)
+  unfolding beside_marks
+  mark-of d i h m =
+      let c : Lodgement → Bool = counts l k in
+      ap (λ t. get_or (pad 128 false (cond t [] (map c l))) i false) h ∙ tested_at c d l i m
 
   -- the mark at an index
   pub mark-at : (d : Lodgement) (i : ℕ) → k.default ≡ false → n ≤ length l → i < n → get_or (beside_marks (take n l) k) i false ≡ counts (take n l) k (get_or l i d)
@@ -117,9 +112,9 @@ module _ (k : Key) (ls : List L.Lodgement) where
   swap false b true = refl
   swap false b false = refl
 
-  hidden-as : (l : L.Lodgement) → any (hiding (key_as l.key)) (map lodgement_as ls) ≡ L.is_hidden ls l
+  hidden-as : (l : L.Lodgement) → list_any (hiding (key_as l.key)) (map lodgement_as ls) ≡ L.is_hidden ls l
   unfolding L.is_hidden
-  hidden-as l = any-map lodgement_as (hiding (key_as l.key)) ls
+  hidden-as l = sym (any-list (hiding (key_as l.key)) (map lodgement_as ls)) ∙ any-map lodgement_as (hiding (key_as l.key)) ls
 
   counts-as : (l : L.Lodgement) → laid l ≡ (not (L.is_hidden ls l) && (eqb l.key.unit k.unit && not (beq l.key.execution k.execution)))
   unfolding counts

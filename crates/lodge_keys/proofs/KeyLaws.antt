@@ -1,27 +1,69 @@
 -- Searches of the session's lodgements and units are the book's.
 use Prim.Native.Nat.{ℕ, ◌-◌, ◌≤◌, ◌<◌}
-use mathlib.Core.Path.{◌≡◌, sym, ap, ◌∙◌}
-use mathlib.Core.Bool.{true, false}
-use mathlib.Core.List.{map}
+use mathlib.Core.Path.{◌≡◌, refl, sym, ap, ◌∙◌}
+use mathlib.Core.Bool.{Bool, true, false, cond}
+use mathlib.Core.List.{List, map}
 use native.Mathlib.Omega.{arith}
-use lib.Dec.{eqb, ltb}
-use lib.ListN.{take, get_or, length, replicate, length-append, length-map}
-use borrow.Author.Tests.{lt-ltb, le-ltb}
+use lib.Dec.{ltb}
+use lib.ListN.{take, length, get_or, replicate, length-append, length-map}
+use lib.Seq.{length-take-le}
+use borrow.Author.Tests.{lt-ltb, ltb-true, eq-eqb, ne_eqb}
+use Rattle.std.specs.Prelude.{Some, None}
+use Rattle.std.specs.List.{position}
+use Rattle.std.specs.declared.option.Option.{Option}
+use Rattle.std.proofs.lemmas.Option.{none-some, cond_some}
 use Rattle.rules.specs.Lists.{any}
 use Rattle.rules.specs.Units as U
 use Rattle.rules.specs.Lodging as L
-use Rattle.rules.specs.Message as M
 use Rattle.rules.specs.Book as B
 use Rattle.rules.specs.DayBook as D
+use Rattle.rules.proofs.BoolLaws.{by_bool}
 use Rattle.session.specs.Laid.{pad}
 use Rattle.session.specs.Image.{image, key_in, lodgement_as, no_lodgement, no_unit}
-use Rattle.session.specs.Parts.{number_is, index_of}
+use Rattle.session.specs.Parts.{index_of, held, number_is}
 use Rattle.session.specs.declared.Key.{Key}
+use Rattle.session.specs.declared.Unit.{Unit}
+use Rattle.session.specs.declared.Holder.{Holder}
 use Rattle.session.specs.declared.Session.{Session}
 use Rattle.session.proofs.LaidLaws.{any-map}
-use Rattle.session.proofs.IndexLaws.{index-any}
-use Rattle.session.proofs.ImageLaws.{lodgements-as, registered-at, unit-as}
+use Rattle.session.proofs.IndexLaws.{indexed, unindexed, position-as}
+use Rattle.session.proofs.ImageLaws.{lodgements-as, holder-none, holder-registered, holder-unit}
+use Rattle.judge_loads.proofs.LoadLaws.{and-false}
 use Rattle.lodge_keys.specs.Keys.{of_key, key_index, hiding}
+
+-- What the library's search finds
+
+module _ {A : Type 0} (q : A → Bool) (xs : List A) where
+  any-none : position q xs ≡ None → any q xs ≡ false
+  any-none h =
+      by_bool (any q xs)
+      (λ e. absurd (none-some (index_of q xs) (sym h ∙ (position-as q xs ∙ ap (λ t. cond t (Some (index_of q xs)) None) (lt-ltb (index_of q xs) (length xs) (indexed q xs e))))))
+      (λ e. e)
+
+  any-some : (p : ℕ) → position q xs ≡ Some p → (any q xs ≡ true) × (p < length xs)
+  any-some p h =
+      let got = cond_some (ltb (index_of q xs) (length xs)) (index_of q xs) p (sym (position-as q xs) ∙ h) in
+      let i = ltb-true (index_of q xs) (length xs) got.0 in
+      (by_bool (any q xs) (λ e. e) (λ e. absurd (omega (arith, i, unindexed q xs e))), omega (arith, i, got.1))
+
+module _ (us : List Unit) (n : ℕ) (x : Holder) (h : held us n ≡ Some x) where
+  abbrev first_at : ℕ
+  first_at = index_of (number_is n) us
+
+  abbrev first_holder : Holder
+  first_holder = record { at = first_at; unit = get_or us first_at no_unit }
+
+  held-as : held us n ≡ cond (ltb first_at (length us)) (Some first_holder) None
+  held-as = rw (position-as (number_is n) us) (by_bool (ltb first_at (length us)) (λ t. rw t refl) (λ t. rw t refl))
+
+  got : (ltb first_at (length us) ≡ true) × (first_holder ≡ x)
+  got = cond_some (ltb first_at (length us)) first_holder x (sym held-as ∙ h)
+
+  pub found-at : x.at ≡ first_at
+  found-at = sym (ap (λ (y : Holder). y.at) got.1)
+
+  pub found-inside : x.at < length us
+  found-inside = rw found-at (ltb-true first_at (length us) got.0)
 
 module _ (s : Session) (b : B.Book) (e : s ≡ image b) where
   -- a lodgement of the key stands
@@ -29,31 +71,46 @@ module _ (s : Session) (b : B.Book) (e : s ≡ image b) where
   unfolding L.stands
   stands-as k = rw (lodgements-as s b e) (sym (any-map lodgement_as (of_key k) b.standing))
 
-  lodgements-fit : s.standing ≤ length s.lodgements
+  pub lodgements-fit : s.standing ≤ length s.lodgements
   unfolding image pad
   lodgements-fit =
       rw e (omega (arith, length-append (map lodgement_as b.standing) (replicate (128 - length (map lodgement_as b.standing)) no_lodgement), length-map b.standing lodgement_as))
 
   -- by its index
-  pub stands_at : (k : Key) (p : ℕ) → p ≡ key_index s k → L.stands b.standing (key_in k) ≡ ltb p s.standing
-  stands_at k p at =
-      stands-as k ∙ (sym (index-any (of_key k) s.lodgements s.standing lodgements-fit) ∙ ap (λ j. ltb j s.standing) (sym at))
+  pub stands-none : (k : Key) → key_index s k ≡ None → L.stands b.standing (key_in k) ≡ false
+  stands-none k q = stands-as k ∙ any-none (of_key k) (take s.standing s.lodgements) q
+
+  pub stands-some : (k : Key) (p : ℕ) → key_index s k ≡ Some p → (L.stands b.standing (key_in k) ≡ true) × (p < s.standing)
+  stands-some k p q =
+      let r = any-some (of_key k) (take s.standing s.lodgements) p q in
+      (stands-as k ∙ r.0, omega (arith, r.1, length-take-le s.standing s.lodgements lodgements-fit))
 
   -- a lodgement of the key is hidden
   pub hidden-as : (k : Key) (l : L.Lodgement) → l.key ≡ key_in k → L.is_hidden b.standing l ≡ any (hiding k) (take s.standing s.lodgements)
   unfolding L.is_hidden
   hidden-as k l q = rw (lodgements-as s b e, q) (sym (any-map lodgement_as (hiding k) b.standing))
 
-  -- Row 6, by the index of the key's unit
-  module _ (k : M.Key) (p : ℕ) (at : p ≡ index_of (number_is k.unit) (take s.enrolled s.units)) where
-    pub no-holder : s.enrolled ≤ p → true ≡ D.bad_holder b k
+  -- Row 6, by the unit that is found
+  module _ (k : Key) where
+    abbrev search : Option Holder
+    search = held (take s.enrolled s.units) k.unit
+
+    pub none-bad : search ≡ None → D.bad_holder b (key_in k) ≡ true
     unfolding D.bad_holder D.unregistered
-    no-holder h = rw (registered-at s b e k.unit p at, le-ltb p s.enrolled h)
+    none-bad h = rw (holder-none s b e k.unit h)
 
-    pub holds-offer : p < s.enrolled → k.execution ≡ false → false ≡ D.bad_holder b k
-    unfolding D.bad_holder D.unregistered L.domestic_execution
-    holds-offer h x = rw (registered-at s b e k.unit p at, lt-ltb p s.enrolled h, x)
+    module _ (x : Holder) (h : search ≡ Some x) where
+      border-as : x.unit.border ≡ (U.unit_of b.units k.unit).unit.border
+      border-as = ap (λ (u : Unit). u.border) (holder-unit s b e k.unit x h)
 
-    pub holds-execution : p < s.enrolled → k.execution ≡ true → eqb (get_or s.units p no_unit).border 0 ≡ D.bad_holder b k
-    unfolding D.bad_holder D.unregistered L.domestic_execution U.domestic
-    holds-execution h x = rw (registered-at s b e k.unit p at, lt-ltb p s.enrolled h, x, unit-as s b e k.unit p at h no_unit)
+      pub domestic-bad : k.execution ≡ true → x.unit.border ≡ 0 → D.bad_holder b (key_in k) ≡ true
+      unfolding D.bad_holder D.unregistered L.domestic_execution U.domestic
+      domestic-bad t q = rw (holder-registered s b e k.unit x h, t, eq-eqb _ _ (sym border-as ∙ q))
+
+      pub offer-good : k.execution ≡ false → D.bad_holder b (key_in k) ≡ false
+      unfolding D.bad_holder D.unregistered L.domestic_execution
+      offer-good t = rw (holder-registered s b e k.unit x h, t)
+
+      pub foreign-good : (x.unit.border ≡ 0 → ⊥) → D.bad_holder b (key_in k) ≡ false
+      unfolding D.bad_holder D.unregistered L.domestic_execution U.domestic
+      foreign-good q = rw (holder-registered s b e k.unit x h, ne_eqb _ _ (λ z. q (border-as ∙ z))) (and-false k.execution false refl)

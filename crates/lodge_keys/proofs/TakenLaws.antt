@@ -1,12 +1,12 @@
 -- A key's lodgement taken out by moving those behind it forward, and one put behind those that are left.
 use Prim.Native.Nat.{ℕ, zero, suc, ◌+◌, ◌-◌, ◌≤◌, ◌<◌}
 use mathlib.Core.Path.{◌≡◌, refl, sym, ap, ◌∙◌}
-use mathlib.Core.Bool.{Bool, true, false, not, ◌&&◌, beq, false≢true}
+use mathlib.Core.Bool.{Bool, true, false, cond, not, ◌&&◌, beq, false≢true}
 use mathlib.Core.List.{List, [], ◌∷◌, ◌++◌, map}
 use native.Mathlib.Omega.{arith}
 use lib.Dec.{eqb, ltb}
-use lib.ListN.{length, set, replicate, length-map}
-use lib.Seq.{set-set}
+use lib.ListN.{take, length, set, replicate, length-map}
+use lib.Seq.{set-set, length-take-le}
 use borrow.Author.Tests.{eqb-true, lt-ltb, le-ltb, ltb-true, ltb-false}
 use Rattle.rules.specs.Lists.{All, none, more, Pairwise, empty, ahead, keep, any}
 use Rattle.rules.specs.Message as M
@@ -23,27 +23,34 @@ use Rattle.session_changes.specs.Changes.{moved, standing_with}
 use Rattle.session.specs.declared.Key.{Key}
 use Rattle.session.specs.declared.Session.{Session}
 use Rattle.session.proofs.LaidLaws.{map_last, length_last, set-pad}
-use Rattle.session.proofs.IndexLaws.{Once, indexed, unindexed, index-map}
+use Rattle.session.proofs.IndexLaws.{Once, indexed, unindexed, index-map, position-as}
 use Rattle.session_changes.proofs.ChangeLaws.{moved_none}
 use Rattle.session.proofs.ImageLaws.{standing-as, lodgements-as}
 use Rattle.session.proofs.SoundLaws.{open-stage}
-use Rattle.lodge_keys.specs.Keys.{of_key, key_index, left_of}
+use Rattle.std.specs.Prelude.{Some, None}
+use Rattle.std.specs.List.{position}
+use Rattle.std.specs.declared.option.Option.{Option}
+use Rattle.lodge_keys.specs.Keys.{of_key, key_index, left_of, from_at}
+use Rattle.lodge_keys.proofs.KeyLaws.{lodgements-fit}
 
--- How many are left
+-- How many are left, by an index or the count
 
-pub left_in : (n p : ℕ) → p < n → left_of n p ≡ n - 1
-unfolding left_of
+unfoldable pub left_at : ℕ → ℕ → ℕ
+left_at n p = cond (ltb p n) (n - 1) n
+
+left_in : (n p : ℕ) → p < n → left_at n p ≡ n - 1
+unfolding left_at
 left_in n p h = rw (lt-ltb p n h)
 
-pub left-all : (n p : ℕ) → n ≤ p → left_of n p ≡ n
-unfolding left_of
+left-all : (n p : ℕ) → n ≤ p → left_at n p ≡ n
+unfolding left_at
 left-all n p h = rw (le-ltb p n h)
 
-pub left-most : (n p : ℕ) → left_of n p ≤ n
+left-most : (n p : ℕ) → left_at n p ≤ n
 left-most n p =
     by_bool (ltb p n) (λ e. omega (arith, left_in n p (ltb-true p n e))) (λ e. omega (arith, left-all n p (ltb-false p n e)))
 
-pub left_behind : (n p : ℕ) → p ≤ n → p ≤ left_of n p
+left_behind : (n p : ℕ) → p ≤ n → p ≤ left_at n p
 left_behind n p h =
     by_bool (ltb p n) (λ e. let k = ltb-true p n e in omega (arith, left_in n p k)) (λ e. omega (arith, left-all n p (ltb-false p n e)))
 
@@ -98,7 +105,7 @@ module _ {A B : Type 0} (p : A → Bool) (f : A → B) where
       (λ e. let m = rw e at h in rw e (ap (λ (t : List B). f x ∷ t) (one_out o n (omega arith) (omega arith) rest y)))
 
   -- with q the index of the one that passes, m others are left
-  module _ {xs : List A} (o : Once p xs) (q m : ℕ) (at : q ≡ index_of p xs) (left : m ≡ left_of (length xs) q) where
+  module _ {xs : List A} (o : Once p xs) (q m : ℕ) (at : q ≡ index_of p xs) (left : m ≡ left_at (length xs) q) where
     pub left-count : length (others xs) ≡ m
     left-count =
         by_bool (any p xs)
@@ -157,9 +164,47 @@ once-keyed k h =
     pairwise-weaken
     (λ x y d e. by_bool (L.same_key y.key k) (λ g. absurd (false≢true (sym d ∙ (ap (L.same_key x.key) (same-is y.key k g) ∙ e)))) (λ g. g)) h
 
+-- What the library's search finds
+
+module _ {A : Type 0} (q : A → Bool) (l : List A) (n : ℕ) (fit : n ≤ length l) where
+  abbrev first : ℕ
+  first = index_of q (take n l)
+
+  found-as : position q (take n l) ≡ cond (ltb first n) (Some first) None
+  found-as = position-as q (take n l) ∙ ap (λ j. cond (ltb first j) (Some first) None) (length-take-le n l fit)
+
+  most : first ≤ n
+  most = by_bool (any q (take n l)) (λ e. omega (arith, indexed q (take n l) e, length-take-le n l fit)) (λ e. omega (arith, unindexed q (take n l) e, length-take-le n l fit))
+
+  from-as : from_at n (position q (take n l)) ≡ first
+  from-as =
+      ap (from_at n) found-as
+      ∙ by_bool (ltb first n) (λ t. ap (λ c. from_at n (cond c (Some first) None)) t)
+      (λ t. ap (λ c. from_at n (cond c (Some first) None)) t ∙ omega (arith, ltb-false first n t, most))
+
+  left-as : left_of n (position q (take n l)) ≡ left_at n first
+  unfolding left_at
+  left-as = ap (left_of n) found-as ∙ by_bool (ltb first n) (λ t. rw t refl) (λ t. rw t refl)
+
+-- How many are left, and where those behind begin
+
+module _ {A : Type 0} (q : A → Bool) (l : List A) (n : ℕ) where
+  pub left-found : (p : ℕ) → position q (take n l) ≡ Some p → left_of n (position q (take n l)) ≡ n - 1
+  left-found p e = ap (left_of n) e
+
+  pub left_most : left_of n (position q (take n l)) ≤ n
+  left_most = go (position q (take n l))
+    where
+      go : (o : Option ℕ) → left_of n o ≤ n
+      go None = omega arith
+      go (Some p) = omega arith
+
+  pub from-before : n ≤ length l → from_at n (position q (take n l)) ≤ left_of n (position q (take n l))
+  from-before fit = rw (from-as q l n fit, left-as q l n fit) (left_behind n (index_of q (take n l)) (most q l n fit))
+
 -- The session: p is the key's index, m lodgements are left without it
 
-module _ (s : Session) (k : Key) (p m : ℕ) (at : p ≡ key_index s k) (left : m ≡ left_of s.standing p) (free : m < 128)
+module _ (s : Session) (k : Key) (p m : ℕ) (at : p ≡ index_of (of_key k) (take s.standing s.lodgements)) (left : m ≡ left_at s.standing p) (free : m < 128)
     (b : B.Book) (sound : Sound b) (early : b.closed ≡ false) (e : s ≡ image b) where
   abbrev kept : List L.Lodgement
   kept = L.without (key_in k) b.standing
@@ -173,13 +218,13 @@ module _ (s : Session) (k : Key) (p m : ℕ) (at : p ≡ key_index s k) (left : 
   index-book : p ≡ index_of has_key b.standing
   index-book = at ∙ rw (lodgements-as s b e) (index-map lodgement_as (of_key k) b.standing)
 
-  left-book : m ≡ left_of (length b.standing) p
-  left-book = left ∙ ap (λ n. left_of n p) (sym (standing-as s b e))
+  left-book : m ≡ left_at (length b.standing) p
+  left-book = left ∙ ap (λ n. left_at n p) (sym (standing-as s b e))
 
   -- an empty index behind those left
-  pub taken-image : standing_with s (record { from = p; to = m; at = m; lodgement = no_lodgement; energies = no_energies; standing = m; last = s.last; changed = true }) ≡ image (D.with_standing b kept b.last)
+  taken-at : standing_with s (record { from = p; to = m; at = m; lodgement = no_lodgement; energies = no_energies; standing = m; last = s.last }) ≡ image (D.with_standing b kept b.last)
   unfolding image verdicts_in hours_in D.with_standing L.without B.hours
-  taken-image =
+  taken-at =
       rw (
         e,
         laid_out has_key lodgement_as once p m index-book left-book 128 no_lodgement free,
@@ -190,10 +235,10 @@ module _ (s : Session) (k : Key) (p m : ℕ) (at : p ≡ key_index s k) (left : 
       )
 
   -- a lodgement behind those left
-  pub entered-image : (l : L.Lodgement) (last : ℕ)
-      → standing_with s (record { from = p; to = m; at = m; lodgement = lodgement_as l; energies = energies_as l; standing = m + 1; last = last; changed = true }) ≡ image (D.with_standing b (kept ++ (l ∷ [])) last)
+  entered-at : (l : L.Lodgement) (last : ℕ)
+      → standing_with s (record { from = p; to = m; at = m; lodgement = lodgement_as l; energies = energies_as l; standing = m + 1; last = last }) ≡ image (D.with_standing b (kept ++ (l ∷ [])) last)
   unfolding image verdicts_in hours_in D.with_standing L.without B.hours
-  entered-image l last =
+  entered-at l last =
       rw (
         e,
         laid-over has_key lodgement_as once p m index-book left-book 128 no_lodgement free l,
@@ -203,3 +248,25 @@ module _ (s : Session) (k : Key) (p m : ℕ) (at : p ≡ key_index s k) (left : 
         early,
         open-stage b sound early,
       )
+
+module _ (s : Session) (k : Key) (o : Option ℕ) (m : ℕ) (found : o ≡ key_index s k) (rest : m ≡ left_of s.standing o) (free : m < 128)
+    (b : B.Book) (sound : Sound b) (early : b.closed ≡ false) (e : s ≡ image b) where
+  abbrev from : ℕ
+  from = from_at s.standing o
+
+  at : from ≡ index_of (of_key k) (take s.standing s.lodgements)
+  at = ap (from_at s.standing) found ∙ from-as (of_key k) s.lodgements s.standing (lodgements-fit s b e)
+
+  left : m ≡ left_at s.standing from
+  left = rest ∙ (ap (left_of s.standing) found ∙ (left-as (of_key k) s.lodgements s.standing (lodgements-fit s b e) ∙ ap (left_at s.standing) (sym at)))
+
+  -- an empty index behind those left
+  pub taken-image : standing_with s (record { from = from; to = m; at = m; lodgement = no_lodgement; energies = no_energies; standing = m; last = s.last })
+      ≡ image (D.with_standing b (L.without (key_in k) b.standing) b.last)
+  taken-image = taken-at s k from m at left free b sound early e
+
+  -- a lodgement behind those left
+  pub entered-image : (l : L.Lodgement) (last : ℕ)
+      → standing_with s (record { from = from; to = m; at = m; lodgement = lodgement_as l; energies = energies_as l; standing = m + 1; last = last })
+      ≡ image (D.with_standing b (L.without (key_in k) b.standing ++ (l ∷ [])) last)
+  entered-image l last = entered-at s k from m at left free b sound early e l last

@@ -1,7 +1,8 @@
 -- The lodgements that one is judged with.
 use Rattle.std.specs.Prelude.{ℕ, ◌≤◌, ◌<◌, ◌≡◌, Bool, false, cond, not, ◌&&◌, List, [], map, eqb, length, get_or, take}
 use Rattle.std.specs.Bool.{beq}
-use Rattle.rules.specs.Lists.{any, from}
+use Rattle.std.specs.List.{list_any}
+use Rattle.rules.specs.Lists.{from}
 use Rattle.session.specs.Laid.{pad}
 use Rattle.session.specs.declared.Key.{Key}
 use Rattle.session.specs.declared.Lodgement.{Lodgement}
@@ -13,7 +14,7 @@ use Rattle.lodge_keys.specs.declared.beside.Counted.{Counted}
 
 -- a lodgement of the key's unit, of the other kind, that none of the list hides
 unfoldable pub counts : List Lodgement → Key → Lodgement → Bool
-counts ls k l = eqb l.key.unit k.unit && (not (beq l.key.execution k.execution) && not (any (hiding l.key) ls))
+counts ls k l = eqb l.key.unit k.unit && (not (beq l.key.execution k.execution) && not (list_any (hiding l.key) ls))
 
 -- a mark at the index of each that is counted; beside a default lodgement none is
 unfoldable pub beside_marks : List Lodgement → Key → List Bool

@@ -1,9 +1,10 @@
 -- A message's key, and what is looked for among the session's lodgements and units by a key.
-use Rattle.std.specs.Prelude.{ℕ, ◌-◌, Bool, cond, ltb, take}
+use Rattle.std.specs.Prelude.{ℕ, ◌-◌, Bool, take, position}
+use Rattle.std.specs.declared.option.Option.{Option}
+use Rattle.std.specs.declared.option.Option.TheVariants.{Some, None}
 use Rattle.rules.specs.Lodging.{same_key, hides}
 use Rattle.message.specs.declared.Fields.{Fields}
 use Rattle.session.specs.Image.{key_in}
-use Rattle.session.specs.Parts.{index_of}
 use Rattle.session.specs.declared.Key.{Key}
 use Rattle.session.specs.declared.Lodgement.{Lodgement}
 use Rattle.session.specs.declared.Session.{Session}
@@ -20,10 +21,20 @@ of_key k l = same_key (key_in l.key) (key_in k)
 abbrev pub hiding : Key → Lodgement → Bool
 hiding k l = hides (key_in l.key) (key_in k)
 
--- the index of the key's lodgement among those that stand, or their count
-abbrev pub key_index : Session → Key → ℕ
-key_index s k = index_of (of_key k) (take s.standing s.lodgements)
+-- the index of the key's lodgement among those that stand
+abbrev pub key_index : Session → Key → Option ℕ
+key_index s k = position (of_key k) (take s.standing s.lodgements)
 
--- how many of n are left without the one at index p, if p is one of their indices
-unfoldable pub left_of : ℕ → ℕ → ℕ
-left_of n p = cond (ltb p n) (n - 1) n
+-- how many of n are left without the one that was found, if one was
+abbrev pub left_of : ℕ → Option ℕ → ℕ
+left_of n = elim [
+  | None ↦ n
+  | Some p ↦ n - 1
+]
+
+-- where those behind it begin to move forward: nowhere, if none was found
+abbrev pub from_at : ℕ → Option ℕ → ℕ
+from_at n = elim [
+  | None ↦ n
+  | Some p ↦ p
+]

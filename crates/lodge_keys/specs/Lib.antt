@@ -1,3 +1,4 @@
 pub mod Beside
 pub mod Sums
 pub mod Keys
+pub mod Holding

@@ -1,5 +1,5 @@
 // The lodgements that one is judged with: the unit's unhidden lodgements of the other kind, and their energies by hour, added up.
-ghost use Rattle.std.specs.Prelude.{◌≡◌, ◌+◌, ◌<◌, ◌≤◌, take, length};
+ghost use Rattle.std.specs.Prelude.{◌≡◌, ◌+◌, ◌<◌, ◌≤◌, length};
 ghost use Rattle.lodge_keys.specs.Beside.{counts, beside_marks, CountedOf};
 ghost use Rattle.lodge_keys.specs.Sums.{Below, Added};
 
@@ -17,41 +17,30 @@ pub struct Counted {
 
 // Whether a lodgement is counted in judging one of this key: an offer with executions, an execution with the offer,
 // "other executions not counted". A hidden one "enters no sum", and a normal one is never hidden.
-fn is_beside(lodgements: [Lodgement; LODGEMENTS], n: usize, key: Key, l: Lodgement) -> bool
-    requires { n ≤ 128 }
-    ensures { result ≡ counts (take n lodgements) key l }
+#[tactic(auto, unfolding(crate::specs::Beside::counts), using(crate::proofs::BesideLaws::normal_unhidden))]
+fn is_beside(lodgements: &[Lodgement], key: Key, l: Lodgement) -> bool
+    ensures { result ≡ counts lodgements.now key l }
 {
-    let k = l.key;
-    if k.unit != key.unit {
-        return false;
-    }
-    if k.execution == key.execution {
-        return false;
-    }
-    if !k.default {
-        return true;
-    }
-    !is_hidden(lodgements, n, k)
+    l.key.unit == key.unit
+        && l.key.execution != key.execution
+        && (!l.key.default || !is_hidden(lodgements, l.key))
 }
 
-// Those of the first n that are counted. "A default lodgement is judged by its own energy."
-pub fn beside_of(lodgements: [Lodgement; LODGEMENTS], n: usize, key: Key) -> Counted
-    requires { n ≤ 128 }
-    ensures { CountedOf (beside_marks (take n lodgements) key) n result }
+// Those that are counted. "A default lodgement is judged by its own energy."
+pub fn beside_of(lodgements: &[Lodgement], key: Key) -> Counted
+    requires { length lodgements.now ≤ 128 }
+    ensures { CountedOf (beside_marks lodgements.now key) (length lodgements.now) result }
 {
     let mut at = [0u8; LODGEMENTS];
     let mut count = 0usize;
     if key.default {
         return Counted { count, at };
     }
-    for i in 0..n {
-        let l = lodgements[i];
-        let is_counted = is_beside(lodgements, n, key, l);
-        if !is_counted {
-            continue;
+    for (i, l) in lodgements.iter().enumerate() {
+        if is_beside(lodgements, key, *l) {
+            at[count] = i as u8;
+            count += 1;
         }
-        at[count] = i as u8;
-        count += 1;
     }
     Counted { count, at }
 }
@@ -62,6 +51,6 @@ pub fn add(sums: &mut [u64; HOURS], i: usize, row: [u32; HOURS])
     ensures { (length sums.new ≡ 25) × Below (i + 1) sums.new × Added sums.old row sums.new }
 {
     for h in 0..HOURS {
-        sums[h] = sums[h] + arrays::wide(row[h]);
+        sums[h] += u64::from(row[h]);
     }
 }

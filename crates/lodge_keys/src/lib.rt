@@ -1,25 +1,25 @@
 // Keys: a message's key, which lodgements are of a key, which hide those of it, and what a key is refused for.
 #![tactic(auto)]
 
-ghost use Rattle.std.specs.Prelude.{◌≡◌, false, ◌≤◌, ◌<◌, take};
-ghost use Rattle.rules.specs.Lists.{any};
+ghost use Rattle.std.specs.Prelude.{◌≡◌, position};
+ghost use Rattle.std.specs.List.{list_any};
 ghost use Rattle.rules.specs.Message.{bad_key};
 ghost use Rattle.rules.specs.Lodging.{same_but_default, same_key, hides};
-ghost use Rattle.rules.specs.Book.{Book};
-ghost use Rattle.rules.specs.DayBook.{bad_holder};
-ghost use Rattle.session.specs.Image.{image, key_in};
-ghost use Rattle.session.specs.Parts.{index_of, Holds};
+ghost use Rattle.session.specs.Image.{key_in};
+ghost use Rattle.session.specs.Parts.{Within};
 ghost use Rattle.lodge_keys.specs.Keys.{key_for, of_key, left_of, hiding};
+ghost use Rattle.lodge_keys.specs.Holding.{HolderFor};
 
 pub mod beside;
 
 use message::Fields;
-use rules::LODGEMENTS;
+use rules::row::Row;
+use session::units::holder_of;
 use session::{Holder, Key, Lodgement, Session};
 
 // The key of a message.
-pub fn key_of(m: Fields) -> Key
-    ensures { result ≡ key_for m }
+pub fn key_of(m: &Fields) -> Key
+    ensures { result ≡ key_for m.now }
 {
     Key {
         execution: m.execution,
@@ -31,79 +31,51 @@ pub fn key_of(m: Fields) -> Key
 }
 
 // Two keys that agree but for the default mark.
+#[tactic(auto, unfolding(rules::specs::Lodging::same_but_default))]
 fn same_but_default(a: Key, b: Key) -> bool
     ensures { result ≡ same_but_default (key_in a) (key_in b) }
 {
-    if a.execution != b.execution {
-        return false;
-    }
-    if a.unit != b.unit {
-        return false;
-    }
-    a.contract == b.contract
+    a.execution == b.execution && a.unit == b.unit && a.contract == b.contract
 }
 
 // "A key is kind, default mark, unit and contract."
+#[tactic(auto, unfolding(rules::specs::Lodging::same_key))]
 pub fn same_key(a: Key, b: Key) -> bool
     ensures { result ≡ same_key (key_in a) (key_in b) }
 {
-    if same_but_default(a, b) {
-        return a.default == b.default;
-    }
-    false
+    same_but_default(a, b) && a.default == b.default
 }
 
 // "A normal lodgement, while it stands, hides the default one that agrees with it in the rest of the key"
+#[tactic(auto, unfolding(rules::specs::Lodging::hides))]
 pub fn hides(a: Key, b: Key) -> bool
     ensures { result ≡ hides (key_in a) (key_in b) }
 {
-    if same_but_default(a, b) {
-        if a.default {
-            return false;
-        }
-        return b.default;
-    }
-    false
+    same_but_default(a, b) && !a.default && b.default
 }
 
-// The index of the lodgement of this key among the first n, or n.
-pub fn key_index(lodgements: [Lodgement; LODGEMENTS], n: usize, key: Key) -> usize
-    requires { n ≤ 128 }
-    ensures { (result ≡ index_of (of_key key) (take n lodgements)) × (result ≤ n) }
+// The index of the lodgement of this key.
+pub fn key_index(lodgements: &[Lodgement], key: Key) -> Option<usize>
+    ensures { result ≡ position (of_key key) lodgements.now }
 {
-    for i in 0..n {
-        let l = lodgements[i];
-        let k = l.key;
-        if same_key(k, key) {
-            return i;
-        }
-    }
-    n
+    lodgements.iter().position(|l| same_key(l.key, key))
 }
 
-// How many of n lodgements are left without the one at index p, if p is one of their indices.
-pub fn left_of(n: usize, p: usize) -> usize
+// How many of n lodgements are left without the one at index p, if there is one.
+pub fn left_of(n: usize, p: Option<usize>) -> usize
     ensures { result ≡ left_of n p }
 {
-    if p < n {
-        return n - 1;
+    match p {
+        Some(_) => n.saturating_sub(1),
+        None => n,
     }
-    n
 }
 
-// Whether one of the first n lodgements hides those of this key.
-pub fn is_hidden(lodgements: [Lodgement; LODGEMENTS], n: usize, key: Key) -> bool
-    requires { n ≤ 128 }
-    ensures { result ≡ any (hiding key) (take n lodgements) }
+// Whether one of the lodgements hides those of this key.
+pub fn is_hidden(lodgements: &[Lodgement], key: Key) -> bool
+    ensures { result ≡ list_any (hiding key) lodgements.now }
 {
-    for i in 0..n {
-        let l = lodgements[i];
-        let k = l.key;
-        if hides(k, key) {
-            return true;
-        }
-    }
-    false
+    lodgements.iter().any(|l| hides(l.key, key))
 }
 
 // Row 5, of a key: unit and contract.
@@ -113,16 +85,16 @@ pub fn bad_key(key: Key) -> bool
     message_ranges::bad_key(key.execution, key.unit, key.contract)
 }
 
-// Row 6, of a key, by its unit: "unregistered, or domestic for an execution".
-pub fn bad_holder(s: Session, key: Key, holder: Holder) -> bool
-    requires { Holds s.units s.enrolled key.unit holder }
-    ensures { ((b : Book) → s ≡ image b → result ≡ bad_holder b (key_in key)) × (result ≡ false → holder.at < s.enrolled) }
+// The unit of a key, or row 6: "unregistered, or domestic for an execution".
+pub fn holder_for(s: Session, key: Key) -> Result<Holder, Row>
+    requires { Within s }
+    ensures { HolderFor s key result }
 {
-    if s.enrolled <= holder.at {
-        return true;
+    let Some(holder) = holder_of(&s.units[..s.enrolled], key.unit) else {
+        return Err(Row::Unit);
+    };
+    if key.execution && holder.unit.border == 0 {
+        return Err(Row::Unit);
     }
-    if key.execution {
-        return holder.unit.border == 0;
-    }
-    false
+    Ok(holder)
 }

@@ -7,11 +7,11 @@ use Rattle.rules.specs.Lodging as L
 use Rattle.rules.specs.Book.{lines_of}
 use Rattle.message.specs.View.{fields_in}
 use Rattle.session.specs.Bare.{bare_notice}
-use Rattle.session.specs.Image.{no_unit}
-use Rattle.session.specs.Parts.{judgement}
+use Rattle.session.specs.Parts.{said, given_by}
 use Rattle.session.specs.declared.Session.{Session}
-use Rattle.session.specs.declared.Ruling.{Ruling}
-use Rattle.session.proofs.ImageLaws.{hours-as, capacities-as, unit-as, notice-as}
+use Rattle.answer.specs.declared.Refusal.{Refusal}
+use Rattle.std.specs.declared.result.Result.{Result}
+use Rattle.session.proofs.ImageLaws.{hours-as, capacities-as, notice-as}
 use Rattle.judge_loads.specs.Loads.{load_in}
 use Rattle.judge_limits.proofs.NoticeLaws.{judged-by}
 use Rattle.lodge_keys.specs.Beside.{marks_for}
@@ -22,13 +22,13 @@ use Rattle.lodge_pending.specs.declared.Pending.{Pending}
 use Rattle.lodge_limits.specs.Judging.{judged_for}
 
 -- by the unit and the notice at its index, with those that are counted
-pub judged-for : (s : Session) (p : Pending) {j : Ruling} → Awaits s p → j ≡ judged_for s p → JudgesLimits s (fields_in p.fields) j
+pub judged-for : (s : Session) (p : Pending) (j : Result (Unit {0}) Refusal) → Awaits s p → said j ≡ judged_for s p → JudgesLimits s (fields_in p.fields) j
 unfolding last_rows
-judged-for s p a t b e =
+judged-for s p j a t b e =
     let m = p.fields in
     let registered = U.unit_of b.units m.unit in
     let i = p.holder.at in
     t
     ∙ (judged-by registered (lines_of b) s.hours m.energies (load_in m.energies (marks_for s m) (take s.standing s.energies)) _ _ _ m.default (L.judged_at b.standing (fields_in m))
-    (a.holder.unit a.held ∙ unit-as s b e m.unit i a.holder.index a.held no_unit) (notice-as s b e m.unit i a.holder.index a.held bare_notice) (capacities-as s b e) (λ h low high. load-as s b e m h)
-    ∙ ap (λ H. judgement (first_row (L.limit_rows H m.energies (L.judged_at b.standing (fields_in m)) (L.judged_by (lines_of b) registered m.default)))) (sym (hours-as s b e)))
+    (a.holder.unit b e) (notice-as s b e m.unit i a.holder.index a.holder.inside bare_notice) (capacities-as s b e) (λ h low high. load-as s b e m h)
+    ∙ ap (λ H. given_by (first_row (L.limit_rows H m.energies (L.judged_at b.standing (fields_in m)) (L.judged_by (lines_of b) registered m.default)))) (sym (hours-as s b e)))

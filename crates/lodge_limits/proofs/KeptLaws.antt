@@ -1,7 +1,7 @@
 -- Limits that are kept in every hour, and a judgement that is clear exactly where all are: each way out.
 use Prim.Native.Nat.{ℕ, suc, ◌+◌, ◌≤◌, ◌<◌}
 use mathlib.Core.Path.{◌≡◌, refl, ap, sym, ◌∙◌}
-use mathlib.Core.Bool.{Bool, true, false, cond, not, ◌&&◌}
+use mathlib.Core.Bool.{Bool, true, false, cond, not, ◌&&◌, false≢true}
 use mathlib.Core.List.{List, map}
 use native.Mathlib.Omega.{arith}
 use lib.Dec.{eqb}
@@ -15,12 +15,13 @@ use Rattle.rules.proofs.BoolLaws.{by_bool}
 use Rattle.rules.proofs.ListLaws.{hourly-suc}
 use Rattle.session.specs.declared.Unit.{Unit}
 use Rattle.session.specs.declared.Notice.{Notice}
-use Rattle.session.specs.declared.Ruling.{Ruling}
-use Rattle.session.specs.declared.Ruling.TheVariants.{No, Clear}
+use Rattle.session.specs.Parts.{given_by}
 use Rattle.judge_loads.specs.Loads.{laid}
 use Rattle.judge_loads.proofs.LoadLaws.{over, within, NoneTo, none-all, none_found}
 use Rattle.judge_limits.specs.Limits.{notice_in, lowest_row, judged_in, border_at}
-use Rattle.judge_limits.specs.declared.BorderLimit.{BorderLimit}
+use mathlib.Core.Option.{Option, some, none}
+use Rattle.std.specs.Prelude.{Some, None}
+use Rattle.std.specs.declared.option.Option as O
 use Rattle.judge_limits.proofs.RowLaws.{ten, eleven, l11, l12, ten-as, eleven-as, twelve-off, twelve-on, judged-default, judged-normal}
 use Rattle.lodge_keys.specs.Sums.{Below, load_on}
 use Rattle.lodge_limits.specs.Judging.{kept, is_clear}
@@ -61,7 +62,7 @@ kept_same own load n m x t e = rw (not-true x.given t) (sym e)
 -- All limits
 
 clear-row : (x y z : ℕ) → is_clear (lowest_row x y z) ≡ (eqb x 0 && (eqb y 0 && eqb z 0))
-unfolding lowest_row first_row
+unfolding lowest_row first_row given_by
 clear-row x y z =
     by_bool (eqb x 0) (λ a. by_bool (eqb y 0) (λ b. by_bool (eqb z 0) (λ c. rw (a, b, c)) (λ c. rw (a, b, c))) (λ b. rw (a, b))) (λ a. rw a)
 
@@ -100,16 +101,16 @@ module _ (own : List ℕ) (load : ℕ → ℕ) (H : ℕ) (most : H ≤ 25) (u : 
       unfolding kept
       eleven-passed b = rw t (sym (clear-normal ∙ rw (a, b)))
 
-      module _ (b : kept own load H (cond n.given n.energies (replicate 25 u.maximum)) ≡ true) (l : BorderLimit) (is : (h : ℕ) → border_at l h ≡ border_sum (map notice_in cs) u.border h) where
-        pub no_line : not l.applies ≡ true → true ≡ clear
+      module _ (b : kept own load H (cond n.given n.energies (replicate 25 u.maximum)) ≡ true) (l : O.Option (List ℕ)) (is : (h : ℕ) → border_at l h ≡ border_sum (map notice_in cs) u.border h) where
+        pub no_line : l ≡ None → true ≡ clear
         unfolding kept
         no_line k = rw t (sym (clear-normal ∙ rw (a, b, twelve-off H own load most u n cs l is k)))
 
-        pub line-told : not l.applies ≡ false → {r : Bool} → r ≡ kept own load H l.energies → r ≡ clear
+        pub line-told : (es : List ℕ) → l ≡ Some es → {r : Bool} → r ≡ kept own load H es → r ≡ clear
         unfolding kept
-        line-told k e = e ∙ rw t (sym (clear-normal ∙ rw (a, b, twelve-on H own load most u n cs l is k)))
+        line-told es k e = e ∙ rw t (sym (clear-normal ∙ rw (a, b, twelve-on H own load most u n cs l is es k)))
 
 -- a clear judgement
-pub is-clear : (j : Ruling) → is_clear j ≡ true → Clear ≡ j
-is-clear Clear e = refl
-is-clear (No n h) e = let z : ◌≡◌ {A = ℕ} 0 1 = cc in absurd (omega arith)
+pub is-clear : (j : Option (ℕ × ℕ)) → is_clear j ≡ true → none ≡ j
+is-clear none e = refl
+is-clear (some r) e = absurd (false≢true e)

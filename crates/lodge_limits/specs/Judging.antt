@@ -5,8 +5,7 @@ use Rattle.rules.specs.Lodging.{passed_at}
 use Rattle.session.specs.Bare.{bare_notice}
 use Rattle.session.specs.declared.Notice.{Notice}
 use Rattle.session.specs.declared.Session.{Session}
-use Rattle.session.specs.declared.Ruling.{Ruling}
-use Rattle.session.specs.declared.Ruling.TheVariants.{No, Clear}
+use Rattle.std.proofs.Math.Option.{Option, some, none}
 use Rattle.judge_loads.specs.Loads.{load_in, laid}
 use Rattle.judge_limits.specs.Limits.{judged_in}
 use Rattle.lodge_keys.specs.Beside.{marks_for}
@@ -16,21 +15,19 @@ use Rattle.lodge_pending.specs.declared.Pending.{Pending}
 unfoldable pub kept : List ℕ → (ℕ → ℕ) → ℕ → List ℕ → Bool
 kept own load H limit = eqb (lowest (passed_at own load (laid limit)) H) 0
 
-abbrev pub is_clear : Ruling → Bool
-is_clear Clear = true
-is_clear (No row hour) = false
+-- nothing refuses
+abbrev pub is_clear : Option (ℕ × ℕ) → Bool
+is_clear = elim [
+  | none ↦ true
+  | some r ↦ false
+]
 
 -- the judgement by the limits of its unit, with a notice
-abbrev pub judged_with : Session → Pending → Notice → Ruling
+abbrev pub judged_with : Session → Pending → Notice → Option (ℕ × ℕ)
 judged_with s p notice =
     judged_in p.holder.unit notice s.capacities p.fields.default s.hours p.fields.energies
     (load_in p.fields.energies (marks_for s p.fields) (take s.standing s.energies))
 
 -- with the notice that the session keeps
-abbrev pub judged_for : Session → Pending → Ruling
+abbrev pub judged_for : Session → Pending → Option (ℕ × ℕ)
 judged_for s p = judged_with s p (get_or s.notices p.holder.at bare_notice)
-
--- whether one that no earlier row refuses is clear; of another nothing is looked for
-pub record Keeps (s : Session) (p : Pending) (notice : Notice) (r : Bool) : Type 0 where
-  pub told : p.row ≡ 0 → r ≡ is_clear (judged_with s p notice)
-  pub awaits : r ≡ false → p.row ≡ 0

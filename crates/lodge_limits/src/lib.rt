@@ -4,19 +4,20 @@
 
 ghost use Rattle.std.specs.Prelude.{◌≡◌, true, cond, ◌≤◌, eqb, length, replicate};
 ghost use Rattle.rules.specs.Lists.{from};
-ghost use Rattle.session.specs.declared.Ruling.TheVariants.{Clear};
+ghost use Rattle.session.specs.Parts.{said};
 ghost use Rattle.judge_limits.specs.Limits.{judged_in};
 ghost use Rattle.lodge_keys.specs.Beside.{Indices};
 ghost use Rattle.lodge_keys.specs.Sums.{Below, SumsOf, RowsOf, load_on};
-ghost use Rattle.lodge_pending.specs.Awaiting.{Awaits, Prepared};
-ghost use Rattle.lodge_limits.specs.Judging.{kept, is_clear, judged_with, judged_for, Keeps};
+ghost use Rattle.lodge_pending.specs.Awaiting.{Awaits};
+ghost use Rattle.lodge_limits.specs.Judging.{kept, is_clear, judged_with, judged_for};
 
+use answer::Refusal;
 use judge_limits::{available_energies, border_limit, judge_energy, maximum_energies};
 use judge_loads::put;
 use lodge_keys::beside::Counted;
 use lodge_pending::Pending;
 use rules::{DIRECTIONS, HOURS, LODGEMENTS};
-use session::{Notice, Ruling, Session, Unit};
+use session::{Notice, Session, Unit};
 
 // Whether a limit is passed in no hour that is named, by a lodgement's own energy and a sum.
 fn keeps(own: [u32; HOURS], sums: &[u64; HOURS], hours: usize, limit: [u64; HOURS]) -> bool
@@ -28,7 +29,8 @@ fn keeps(own: [u32; HOURS], sums: &[u64; HOURS], hours: usize, limit: [u64; HOUR
         if named == 0 {
             continue;
         }
-        if limit[h] < arrays::wide(named) + sums[h] {
+        let load = u64::from(named) + sums[h];
+        if limit[h] < load {
             return false;
         }
     }
@@ -76,42 +78,26 @@ fn keeps_all(
     if !keeps_available(unit.maximum, notice, own, sums, hours) {
         return false;
     }
-    let border = border_limit(unit.border, capacities);
-    if !border.applies {
+    let Some(line) = border_limit(unit.border, capacities) else {
         return true;
-    }
-    let line = border.energies;
+    };
     keeps(own, sums, hours, line)
 }
 
-// Whether a message that no earlier row refuses keeps its limits, by the sums of the energies beside it.
+// Whether a message keeps its limits, by the sums of the energies beside it.
 pub fn keeps_limits(s: Session, p: Pending, notice: Notice, sums: [u64; HOURS]) -> bool
-    requires { (p.row ≡ 0 → Awaits s p) × SumsOf s.energies p.beside sums × Below 128 sums }
-    ensures { Keeps s p notice result }
+    requires { Awaits s p × SumsOf s.energies p.beside sums × Below 128 sums }
+    ensures { result ≡ is_clear (judged_with s p notice) }
 {
-    if p.row != 0 {
-        return true;
-    }
-    let own = p.fields.energies;
-    let capacities = s.capacities;
-    let hours = s.hours as usize;
-    let unit = p.holder.unit;
     keeps_all(
-        unit,
+        p.holder.unit,
         notice,
-        capacities,
+        s.capacities,
         p.fields.default,
-        own,
+        p.fields.energies,
         &sums,
-        hours,
+        s.hours as usize,
     )
-}
-
-// The judgement of one that keeps them.
-pub fn clear() -> Ruling
-    ensures { result ≡ Clear }
-{
-    Ruling::Clear
 }
 
 // The indices of rows that lie one after the other.
@@ -131,25 +117,21 @@ pub fn judge_limits(
     p: Pending,
     notice: Notice,
     rows: [u32; LODGEMENTS * HOURS],
-) -> Ruling
+) -> Result<(), Refusal>
     requires { Awaits s p × RowsOf s.energies p.beside rows }
-    ensures { result ≡ judged_with s p notice }
+    ensures { said result ≡ judged_with s p notice }
 {
-    let own = p.fields.energies;
-    let capacities = s.capacities;
-    let hours = s.hours as usize;
-    let unit = p.holder.unit;
     let at = indices();
     judge_energy(
-        unit,
+        p.holder.unit,
         notice,
-        capacities,
+        s.capacities,
         p.fields.default,
-        own,
+        p.fields.energies,
         &rows,
         &at,
         p.beside.count,
-        hours,
+        s.hours as usize,
     )
 }
 
@@ -161,25 +143,16 @@ fn rows_of(s: Session, c: Counted) -> [u32; LODGEMENTS * HOURS]
     let mut rows = [0u32; LODGEMENTS * HOURS];
     for i in 0..c.count {
         let at = c.at[i] as usize;
-        let e = s.energies[at];
-        let row = e.energies;
-        put(&mut rows, i, row);
+        put(&mut rows, i, s.energies[at].energies);
     }
     rows
 }
 
-// The judgement of a message that no earlier row refuses, by a session by value.
-pub fn judge(s: Session, p: Pending) -> Ruling
-    requires { Prepared s p }
-    ensures { p.row ≡ 0 → result ≡ judged_for s p }
+// The judgement of a message, by a session by value.
+pub fn judge(s: Session, p: Pending) -> Result<(), Refusal>
+    requires { Awaits s p }
+    ensures { said result ≡ judged_for s p }
 {
-    if p.row != 0 {
-        return clear();
-    }
-    let beside = p.beside;
-    let rows = rows_of(s, beside);
-    let notices = s.notices;
-    let at = p.holder.at;
-    let notice = notices[at];
-    judge_limits(s, p, notice, rows)
+    let rows = rows_of(s, p.beside);
+    judge_limits(s, p, s.notices[p.holder.at], rows)
 }

@@ -5,7 +5,7 @@ use mathlib.Core.Bool.{Bool, true, false, cond}
 use mathlib.Core.List.{List, [], ◌∷◌, map}
 use mathlib.Core.Option.{some, none}
 use native.Mathlib.Omega.{arith}
-use lib.ListN.{length}
+use lib.ListN.{length, take}
 use borrow.Author.Tests.{eqb-true, not-false}
 use Rattle.rules.specs.Lists.{any}
 use Rattle.rules.specs.Refusals.{row, first_row}
@@ -13,21 +13,26 @@ use Rattle.rules.specs.Units as U
 use Rattle.rules.specs.Book as B
 use Rattle.rules.specs.DayBook as D
 use Rattle.rules.proofs.BoolLaws.{neither}
-use Rattle.rules.proofs.ListLaws.{all_head, all_tail}
+use Rattle.rules.proofs.ListLaws.{all_head, all_tail, any-list}
 use Rattle.rules.proofs.RefusalLaws.{accepted-rows}
 use Rattle.rules.proofs.HoursLaws.{hours-most}
 use Rattle.session.specs.Laid.{counted}
 use Rattle.session.specs.Image.{image, verdicts_in, hours_in, published_in, capacities_in, notice_as, no_notice}
-use Rattle.session_changes.specs.Changes.{with_capacities, capacity_effect}
+use Rattle.session_changes.specs.Changes.{with_capacities, capacities_with}
+use Rattle.session_changes.specs.Effects.{done}
 use Rattle.answer.specs.Told.{told, is_refusal, accepted}
-use Rattle.answer.specs.declared.Response.{Response}
-use Rattle.session.specs.Parts.{Judges, Entered}
+use Rattle.session.specs.Parts.{JudgesRow, given_by, Entered}
 use Rattle.notify_unavailability.specs.Notices.{stored_as}
-use Rattle.notify_capacity.specs.Capacities.{direction_as, off_hours, off_range}
+use Rattle.notify_capacity.specs.Capacities.{capacity_in, direction_as, off_hours, off_range}
+use Rattle.notify_capacity.specs.declared.Capacities.{Capacities}
+use Rattle.std.specs.List.{list_any}
+use Rattle.std.specs.declared.result.Result.{Result}
+use Rattle.std.specs.declared.result.Result.TheVariants.{Ok, Err}
+use Rattle.rules.specs.declared.row.Row as Code
+use Rattle.rules.specs.declared.row.Row.TheVariants.{Gate, Hour, Range}
 use Rattle.session.specs.declared.Session.{Session}
 use Rattle.session.specs.declared.Notice.{Notice}
 use Rattle.session.specs.declared.Published.{Published}
-use Rattle.session.specs.declared.Ruling.TheVariants.{No, Clear}
 use Rattle.session.proofs.LaidLaws.{length-counted, any-map}
 use Rattle.session.proofs.ImageLaws.{closed-as, hours-as}
 use Rattle.session.proofs.StepLaws.{open_row}
@@ -36,37 +41,42 @@ use Rattle.notify_unavailability.proofs.NoticeLaws.{stored-as}
 
 -- Judging
 
-module _ (s : Session) (ps : List Published) where
-  abbrev call : D.Call
-  call = D.capacity (capacities_in ps)
+module _ (s : Session) (a : Capacities) where
+  abbrev ps : List Published
+  ps = a.directions
 
-  off-hours-as : (b : B.Book) → s ≡ image b → any (U.not_of_hours (B.hours b)) (capacities_in ps) ≡ any (off_hours s.hours) ps
-  off-hours-as b e = ap (λ H. any (U.not_of_hours H) (capacities_in ps)) (hours-as s b e) ∙ any-map published_in (U.not_of_hours s.hours) ps
+  -- the judgement is the table's
+  abbrev Judged : Result (Unit {0}) Code.Row → Type 0
+  Judged j = JudgesRow s (capacity_in a) j
 
-  off-range-as : any U.bad_published (capacities_in ps) ≡ any off_range ps
-  off-range-as = any-map published_in U.bad_published ps
+  off-hours-as : (b : B.Book) → s ≡ image b → any (U.not_of_hours (B.hours b)) (capacities_in ps) ≡ list_any (off_hours s.hours) ps
+  off-hours-as b e =
+      ap (λ H. any (U.not_of_hours H) (capacities_in ps)) (hours-as s b e) ∙ any-map published_in (U.not_of_hours s.hours) ps ∙ any-list (off_hours s.hours) ps
 
-  pub capacity-2 : s.closed ≡ true → Judges s call (No 2 0)
-  unfolding D.rows_of D.gate_row D.call_rows D.change_row row first_row
+  off-range-as : any U.bad_published (capacities_in ps) ≡ list_any off_range ps
+  off-range-as = any-map published_in U.bad_published ps ∙ any-list off_range ps
+
+  pub capacity-2 : s.closed ≡ true → Judged (Err Gate)
+  unfolding D.rows_of D.gate_row D.call_rows D.change_row row first_row given_by
   capacity-2 h b e = rw (closed-as s b e, h)
 
-  pub capacity-4 : s.closed ≡ false → any (off_hours s.hours) ps ≡ true → Judges s call (No 4 0)
-  unfolding D.rows_of D.gate_row D.call_rows D.change_row row first_row
+  pub capacity-4 : s.closed ≡ false → list_any (off_hours s.hours) ps ≡ true → Judged (Err Hour)
+  unfolding D.rows_of D.gate_row D.call_rows D.change_row row first_row given_by
   capacity-4 h k b e = rw (off-hours-as b e, k, closed-as s b e, h)
 
-  pub capacity-5 : s.closed ≡ false → any (off_hours s.hours) ps ≡ false → any off_range ps ≡ true → Judges s call (No 5 0)
-  unfolding D.rows_of D.gate_row D.call_rows D.change_row row first_row
+  pub capacity-5 : s.closed ≡ false → list_any (off_hours s.hours) ps ≡ false → list_any off_range ps ≡ true → Judged (Err Range)
+  unfolding D.rows_of D.gate_row D.call_rows D.change_row row first_row given_by
   capacity-5 h k r b e = rw (off-hours-as b e, k, off-range-as, r, closed-as s b e, h)
 
-  pub capacity-0 : s.closed ≡ false → any (off_hours s.hours) ps ≡ false → any off_range ps ≡ false → Judges s call Clear
-  unfolding D.rows_of D.gate_row D.call_rows D.change_row row first_row
+  pub capacity-0 : s.closed ≡ false → list_any (off_hours s.hours) ps ≡ false → list_any off_range ps ≡ false → Judged (Ok tt)
+  unfolding D.rows_of D.gate_row D.call_rows D.change_row row first_row given_by
   capacity-0 h k r b e = rw (off-hours-as b e, k, off-range-as, r, closed-as s b e, h)
 
 -- Entering
 
 module _ (H : ℕ) (most : H ≤ 25) where
   stored-direction : (t : Bool) (n : ℕ) (es : List ℕ) → U.not_of_hours H (cond t (some (counted n es)) none) ≡ false
-      → cond t (stored_as n es) no_notice ≡ notice_as (cond t (some (counted n es)) none)
+      → cond t (stored_as (take n es)) no_notice ≡ notice_as (cond t (some (counted n es)) none)
   unfolding U.not_of_hours notice_as
   stored-direction true n es h =
       stored-as n es (omega (arith, most, eqb-true (length (counted n es)) H (not-false _ h), length-counted n es))
@@ -92,16 +102,14 @@ hours-fit : (b : B.Book) → B.hours b ≤ 25
 unfolding B.hours
 hours-fit b = hours-most b.date
 
-pub capacity-entered : (s : Session) (ps : List Published) (ns : List Notice) (a : Response) → ns ≡ map direction_as ps → a ≡ accepted
-    → Entered s (D.capacity (capacities_in ps)) (capacity_effect s (record { change = record { capacities = ns; changed = true }; answer = a }))
+pub capacity-entered : (s : Session) (a : Capacities)
+    → Entered s (capacity_in a) (done capacities_with s (record { change = record { capacities = map direction_as a.directions }; answer = accepted }))
 unfolding told is_refusal D.reply D.rows_of D.gate_row D.call_rows
-capacity-entered s ps ns a q f = rw f (record {
+capacity-entered s a = record {
   book = λ b sound o e.
-      let k = q ∙ directions-as (B.hours b) (hours-fit b) ps (of-hours b (capacities_in ps) o) in
+      let cs = capacities_in a.directions in
+      let k = directions-as (B.hours b) (hours-fit b) a.directions (of-hours b cs o) in
       let early = open_row b _ o in
-      record {
-        answer = refl;
-        session = rw (k, e) (capacity-image b (capacities_in ps) early (open-stage b sound early));
-      };
+      record { answer = refl; session = rw (k, e) (capacity-image b cs early (open-stage b sound early)) };
   fine = refl;
-})
+}

@@ -1,1 +1,2 @@
+pub mod DirectionLaws
 pub mod CapacityLaws

@@ -1,5 +1,5 @@
 -- What the code makes of a capacity notice.
-use Rattle.std.specs.Prelude.{ℕ, Bool, false, cond, []}
+use Rattle.std.specs.Prelude.{ℕ, Bool, cond, take}
 use Rattle.rules.specs.Units as U
 use Rattle.rules.specs.DayBook as D
 use Rattle.session.specs.Image.{published_in, capacities_in, no_notice}
@@ -14,7 +14,7 @@ capacity_in n = D.capacity (capacities_in n.directions)
 
 -- a direction as it is kept
 unfoldable pub direction_as : Published → Notice
-direction_as p = cond p.published (stored_as p.count p.energies) no_notice
+direction_as p = cond p.published (stored_as (take p.count p.energies)) no_notice
 
 -- Searches among directions
 
@@ -23,7 +23,3 @@ off_hours H p = U.not_of_hours H (published_in p)
 
 abbrev pub off_range : Published → Bool
 off_range p = U.bad_published (published_in p)
-
--- an element that is read beyond an array
-abbrev pub bare_published : Published
-bare_published = record { count = 0; published = false; reserved = 0; reserved2 = 0; energies = [] }

@@ -2,21 +2,19 @@
 #![tactic(auto)]
 
 ghost use Rattle.std.specs.Prelude.{◌≡◌, map};
-ghost use Rattle.rules.specs.Lists.{any};
-ghost use Rattle.rules.specs.Units.{not_of_hours, bad_published};
-ghost use Rattle.rules.specs.DayBook.{capacity};
-ghost use Rattle.session.specs.Image.{published_in, capacities_in};
-ghost use Rattle.session_changes.specs.Changes.{capacity_effect};
+ghost use Rattle.std.specs.List.{list_any};
 ghost use Rattle.session.specs.Steps.{Met};
-ghost use Rattle.session.specs.Parts.{Judges, Entered};
+ghost use Rattle.session.specs.Parts.{JudgesRow, Entered};
+ghost use Rattle.session_changes.specs.Changes.{capacities_with};
+ghost use Rattle.session_changes.specs.Effects.{effect_of, done};
 ghost use Rattle.notify_capacity.specs.Capacities.{direction_as, off_hours, off_range, capacity_in};
 
-use answer::accepted;
-use notify_unavailability::{bad_energies, stored_notice};
+use answer::{Refusal, Response};
+use notify_unavailability::{bad_energies, front, stored_notice};
 use rules::DIRECTIONS;
-use rules::row::{GATE, HOUR, RANGE};
-use session::{Effect, Notice, Published, Ruling, Session, no_notice};
-use session_changes::{CapacityChange, CapacityEffect, capacity_refused, with_capacities};
+use rules::row::Row;
+use session::{Effect, Notice, Published, Session, no_notice};
+use session_changes::{CapacityChange, Step, effect};
 
 // A capacity notice: export and import of border 1, of 2, of 3, of 4.
 #[repr(C)]
@@ -26,125 +24,100 @@ pub struct Capacities {
 }
 
 // Row 4, of a direction: "a notice not of H hours". What is absent has no hours.
-fn not_of_hours(hours: usize, p: Published) -> bool
-    ensures { result ≡ not_of_hours hours (published_in p) }
+#[tactic(auto, using(crate::proofs::DirectionLaws::directions))]
+fn not_of_hours(hours: usize, p: &Published) -> bool
+    ensures { result ≡ off_hours hours p.now }
 {
-    if p.published {
-        return p.count != hours;
-    }
-    false
+    p.published && p.count != hours
 }
 
 // Row 5, of a direction.
-fn bad_published(p: Published) -> bool
-    ensures { result ≡ bad_published (published_in p) }
+#[tactic(auto, using(crate::proofs::DirectionLaws::directions))]
+fn bad_published(p: &Published) -> bool
+    ensures { result ≡ off_range p.now }
 {
-    if p.published {
-        let energies = p.energies;
-        return bad_energies(p.count, energies);
-    }
-    false
+    p.published && bad_energies(front(p.count, &p.energies))
 }
 
 // Row 4 of the table, for the whole notice.
-fn any_off_hours(hours: usize, ps: [Published; DIRECTIONS]) -> bool
-    ensures { result ≡ any (off_hours hours) ps }
+fn any_off_hours(hours: usize, ps: &[Published]) -> bool
+    ensures { result ≡ list_any (off_hours hours) ps.now }
 {
-    for i in 0..DIRECTIONS {
-        let p = ps[i];
-        if not_of_hours(hours, p) {
-            return true;
-        }
-    }
-    false
+    ps.iter().any(|p| not_of_hours(hours, p))
 }
 
 // Row 5 of the table, for the whole notice.
-fn any_off_range(ps: [Published; DIRECTIONS]) -> bool
-    ensures { result ≡ any off_range ps }
+fn any_off_range(ps: &[Published]) -> bool
+    ensures { result ≡ list_any off_range ps.now }
 {
-    for i in 0..DIRECTIONS {
-        let p = ps[i];
-        if bad_published(p) {
-            return true;
-        }
-    }
-    false
+    ps.iter().any(|p| bad_published(p))
 }
 
 // A direction as the session keeps it.
-fn stored_direction(p: Published) -> Notice
-    ensures { result ≡ direction_as p }
+#[tactic(auto, unfolding(crate::specs::Capacities::direction_as))]
+fn stored_direction(p: &Published) -> Notice
+    ensures { result ≡ direction_as p.now }
 {
     if p.published {
-        let energies = p.energies;
-        return stored_notice(p.count, energies);
+        stored_notice(front(p.count, &p.energies))
+    } else {
+        no_notice()
     }
-    no_notice()
 }
 
 // The notice as the session keeps it.
-fn stored_directions(ps: [Published; DIRECTIONS]) -> [Notice; DIRECTIONS]
-    ensures { result ≡ map direction_as ps }
+fn stored_directions(ps: &[Published; DIRECTIONS]) -> [Notice; DIRECTIONS]
+    ensures { result ≡ map direction_as ps.now }
 {
-    let none = no_notice();
-    let mut next = [none; DIRECTIONS];
-    for i in 0..DIRECTIONS {
-        let p = ps[i];
-        let x = stored_direction(p);
-        next[i] = x;
+    let mut stored = [no_notice(); DIRECTIONS];
+    for (i, p) in ps.iter().enumerate() {
+        stored[i] = stored_direction(p);
     }
-    next
+    stored
 }
 
-// The refusal that applies to a capacity notice.
-fn judge_capacity(s: Session, directions: [Published; DIRECTIONS]) -> Ruling
-    ensures { Judges s (capacity (capacities_in directions)) result }
+// The row that refuses a capacity notice: 2, 4, 5.
+fn judge_capacity(s: Session, notice: Capacities) -> Result<(), Row>
+    ensures { JudgesRow s (capacity_in notice) result }
 {
     if s.closed {
-        return Ruling::No(GATE, 0);
+        return Err(Row::Gate);
     }
-    if any_off_hours(s.hours as usize, directions) {
-        return Ruling::No(HOUR, 0);
+    if any_off_hours(s.hours as usize, &notice.directions) {
+        return Err(Row::Hour);
     }
-    if any_off_range(directions) {
-        return Ruling::No(RANGE, 0);
+    if any_off_range(&notice.directions) {
+        return Err(Row::Range);
     }
-    Ruling::Clear
+    Ok(())
 }
 
 // "It replaces the notice before it."
-fn note_capacity(s: Session, directions: [Published; DIRECTIONS]) -> CapacityEffect
-    ensures { Entered s (capacity (capacities_in directions)) (capacity_effect s result) }
+fn note_capacity(s: Session, notice: Capacities) -> Step<CapacityChange>
+    ensures { Entered s (capacity_in notice) (done capacities_with s result) }
 {
-    let stored = stored_directions(directions);
-    let change = CapacityChange {
-        capacities: stored,
-        changed: true,
-    };
-    let answer = accepted();
-    CapacityEffect { change, answer }
+    Step {
+        change: CapacityChange {
+            capacities: stored_directions(&notice.directions),
+        },
+        answer: Response::accepted(),
+    }
 }
 
 // What a capacity notice changes.
-pub fn capacity_change(s: Session, notice: Capacities) -> CapacityEffect
-    ensures { Met s (capacity_in notice) (capacity_effect s result) }
+pub fn capacity_change(s: Session, notice: Capacities) -> Result<Step<CapacityChange>, Refusal>
+    ensures { Met s (capacity_in notice) (effect_of capacities_with s result) }
 {
-    let directions = notice.directions;
     if !s.sound() {
-        return capacity_refused(s, GATE, 0);
+        return Err(Refusal::from(Row::Gate));
     }
-    let j = judge_capacity(s, directions);
-    match j {
-        Ruling::No(row, hour) => capacity_refused(s, row, hour),
-        Ruling::Clear => note_capacity(s, directions),
-    }
+    judge_capacity(s, notice)?;
+    Ok(note_capacity(s, notice))
 }
 
 // Takes a capacity notice: 2, 4, 5.
 pub fn capacity(s: Session, notice: Capacities) -> Effect
     ensures { Met s (capacity_in notice) result }
 {
-    let t = capacity_change(s, notice);
-    with_capacities(s, t)
+    effect(s, capacity_change(s, notice))
 }

@@ -1,84 +1,108 @@
 -- Unavailability notices: each way out.
-use Prim.Native.Nat.{ℕ, ◌≤◌, ◌<◌}
+use Prim.Native.Nat.{ℕ, ◌≤◌, ◌<◌, min}
 use mathlib.Core.Path.{◌≡◌, refl, sym, ap, ap₂, ◌∙◌}
 use mathlib.Core.Bool.{Bool, true, false, ◌||◌}
 use mathlib.Core.List.{List, [], ◌∷◌, ◌++◌, map}
 use mathlib.Core.Option.{some, none as nothing}
 use native.Mathlib.Omega.{arith}
-use lib.Dec.{eqb, ltb}
-use lib.ListN.{take, length, set, get_or, length-map}
-use lib.Seq.{set-get_or}
-use borrow.Author.Tests.{eqb-true, ne_eqb, lt-ltb, le-ltb, not-false}
-use Rattle.rules.specs.Lists.{All, none, more, Pairwise, empty, ahead, any}
-use Rattle.rules.specs.Units.{max_energy}
+use lib.Dec.{eqb}
+use lib.ListN.{take, drop, replicate, length, set, get_or, length-map, length-take}
+use lib.Seq.{set-get_or, take_all}
+use borrow.Author.Tests.{eqb-true, ne_eqb, not-false}
+use Rattle.rules.specs.Lists.{All, none, more, Pairwise, empty, ahead}
 use Rattle.rules.specs.Refusals.{row, first_row}
 use Rattle.rules.specs.Units as U
 use Rattle.rules.specs.Book as B
 use Rattle.rules.specs.DayBook as D
 use Rattle.rules.proofs.BoolLaws.{by_bool}
-use Rattle.rules.proofs.ListLaws.{all_map, all_head, all_tail}
+use Rattle.rules.proofs.ListLaws.{all_map, all_head, all_tail, any-list}
 use Rattle.rules.proofs.ElementLaws.{pairwise-weaken}
 use Rattle.rules.proofs.RefusalLaws.{accepted-rows}
 use Rattle.rules.proofs.HoursLaws.{hours-most}
 use Rattle.session.specs.Laid.{pad, counted}
 use Rattle.session.specs.Image.{image, Sound, verdicts_in, hours_in, unit_of, notice_of, notice_as, no_notice, no_unit}
-use Rattle.session_changes.specs.Changes.{with_registry, registry_effect}
-use Rattle.answer.specs.Told.{told, is_refusal}
-use Rattle.session.specs.Parts.{number_is, index_of, Holds, Judges, Entered}
-use Rattle.notify_unavailability.specs.Notices.{stored_as, noted_at}
+use Rattle.session_changes.specs.Changes.{with_registry, registry_with}
+use Rattle.session_changes.specs.Effects.{done}
+use Rattle.answer.specs.Told.{told, is_refusal, accepted}
+use Rattle.session.specs.Parts.{number_is, index_of, held, JudgesRow, given_by, Entered}
+use Rattle.notify_unavailability.specs.Notices.{over_limit, stored_as, available_in}
+use Rattle.notify_unavailability.specs.declared.Availability.{Availability}
 use Rattle.session.specs.declared.Session.{Session}
 use Rattle.session.specs.declared.Unit.{Unit}
 use Rattle.session.specs.declared.Holder.{Holder}
-use Rattle.session.specs.declared.Ruling.TheVariants.{No, Clear}
-use Rattle.session.proofs.LaidLaws.{length-counted, any-counted, pad-counted}
+use Rattle.std.specs.declared.option.Option.{Option}
+use Rattle.std.specs.declared.option.Option.TheVariants.{Some, None}
+use Rattle.std.specs.declared.result.Result.{Result}
+use Rattle.std.specs.declared.result.Result.TheVariants.{Ok, Err}
+use Rattle.std.specs.Option.{ok_or, option_map}
+use Rattle.std.specs.List.{position, list_any}
+use Rattle.std.proofs.lemmas.Option.{none-some, same_Some}
+use Rattle.std.proofs.lemmas.List.{drop-replicate}
+use Rattle.std.proofs.lemmas.List.Quantifiers.{position-Some}
+use Rattle.rules.specs.declared.row.Row as R
+use Rattle.rules.specs.declared.row.Row.TheVariants.{Gate, Hour, Range}
+use Rattle.session.proofs.LaidLaws.{length-counted, any-counted, pad-counted, front-end}
 use Rattle.session.proofs.IndexLaws.{Once}
-use Rattle.session.proofs.ImageLaws.{closed-as, hours-as, enrolled-as, index-as, registered-at}
+use Rattle.session.proofs.ImageLaws.{closed-as, hours-as, enrolled-as, index-as, unit-as, holder-none, holder-registered, holder-at, holder-inside, holder-unit}
 use Rattle.session.proofs.StepLaws.{open_row}
 use Rattle.session.proofs.SoundLaws.{open-stage}
 
 -- the energies that a count and an array stand for
 
-abbrev pub over_limit : ℕ → Bool
-over_limit e = ltb max_energy e
-
-pub bad-counted : (n : ℕ) (es : List ℕ) → U.bad_energies (counted n es) ≡ any over_limit (take n es)
+pub bad-counted : (n : ℕ) (es : List ℕ) → U.bad_energies (counted n es) ≡ list_any over_limit (take n es)
 unfolding U.bad_energies
-bad-counted n es = any-counted over_limit n es refl
+bad-counted n es = any-counted over_limit n es refl ∙ any-list over_limit (take n es)
 
 -- what is kept of them is what the book keeps
-pub stored-as : (n : ℕ) (es : List ℕ) → n ≤ 25 → stored_as n es ≡ notice_as (some (counted n es))
-unfolding stored_as notice_as
-stored-as n es h = rw (pad-counted 25 n es h)
+pub stored-as : (n : ℕ) (es : List ℕ) → n ≤ 25 → stored_as (take n es) ≡ notice_as (some (counted n es))
+unfolding notice_as
+stored-as n es h = rw (pad-counted 25 n es h, take_all 25 (take n es) (omega (arith, length-take n es, h)))
+
+-- blanks behind the first of them
+padded : (m n : ℕ) (es : List ℕ) → n ≤ length es → take n es ++ drop n (replicate m 0) ≡ pad m 0 (take n es)
+unfolding pad
+padded m n es h = let e : length (take n es) ≡ n = omega (arith, length-take n es, h) in rw (drop-replicate {X = ℕ} n m 0, e)
+
+pub kept-as : (n : ℕ) (es : List ℕ) → n ≡ min (length es) 25 → take n es ++ drop n (replicate 25 0) ≡ pad 25 0 (take 25 es)
+kept-as n es h = front-end 25 0 es _ n 25 (padded 25 n es (omega (arith, h))) (omega (arith, h)) (omega (arith, h))
 
 -- Judging
 
-module _ (s : Session) (n count : ℕ) (es : List ℕ) where
-  abbrev call : D.Call
-  call = D.available n (counted count es)
+module _ (s : Session) (a : Availability) where
+  -- the judgement is the table's
+  abbrev Judged : Result Holder R.Row → Type 0
+  Judged j = JudgesRow s (available_in a) j
 
-  pub available-2 : s.closed ≡ true → Judges s call (No 2 0)
-  unfolding D.rows_of D.gate_row D.call_rows D.change_row row first_row
+  abbrev bad : Bool
+  bad = U.bad_number a.unit || list_any over_limit (take a.count a.energies)
+
+  pub available-2 : s.closed ≡ true → Judged (Err Gate)
+  unfolding D.rows_of D.gate_row D.call_rows D.change_row row first_row given_by
   available-2 h b e = rw (closed-as s b e, h)
 
-  pub available-4 : s.closed ≡ false → eqb count s.hours ≡ false → Judges s call (No 4 0)
-  unfolding D.rows_of D.gate_row D.call_rows D.change_row row first_row
-  available-4 h k b e = rw (length-counted count es, hours-as s b e, k, closed-as s b e, h)
+  pub available-4 : s.closed ≡ false → eqb a.count s.hours ≡ false → Judged (Err Hour)
+  unfolding D.rows_of D.gate_row D.call_rows D.change_row row first_row given_by
+  available-4 h k b e = rw (length-counted a.count a.energies, hours-as s b e, k, closed-as s b e, h)
 
-  pub available-5 : s.closed ≡ false → eqb count s.hours ≡ true → (U.bad_number n || U.bad_energies (counted count es)) ≡ true → Judges s call (No 5 0)
-  unfolding D.rows_of D.gate_row D.call_rows D.change_row row first_row
-  available-5 h k r b e = rw (length-counted count es, hours-as s b e, k, r, closed-as s b e, h)
+  pub available-5 : s.closed ≡ false → eqb a.count s.hours ≡ true → bad ≡ true → Judged (Err Range)
+  unfolding D.rows_of D.gate_row D.call_rows D.change_row row first_row given_by
+  available-5 h k r b e = rw (length-counted a.count a.energies, hours-as s b e, k, bad-counted a.count a.energies, r, closed-as s b e, h)
 
-  -- p is the index of the unit
-  module _ (p : ℕ) (at : p ≡ index_of (number_is n) (take s.enrolled s.units)) where
-    pub available-6 : s.closed ≡ false → eqb count s.hours ≡ true → U.bad_number n ≡ false → U.bad_energies (counted count es) ≡ false → s.enrolled ≤ p → Judges s call (No 6 0)
-    unfolding D.rows_of D.gate_row D.call_rows D.change_row D.unregistered row first_row
-    available-6 h k r q t b e =
-        rw (length-counted count es, hours-as s b e, k, r, q, registered-at s b e n p at, le-ltb p s.enrolled t, closed-as s b e, h)
+  module _ (h : s.closed ≡ false) (k : eqb a.count s.hours ≡ true) (r : bad ≡ false) where
+    available-6 : held (take s.enrolled s.units) a.unit ≡ None → Judged (Err R.TheVariants.Unit)
+    unfolding D.rows_of D.gate_row D.call_rows D.change_row D.unregistered row first_row given_by
+    available-6 t b e =
+        rw (length-counted a.count a.energies, hours-as s b e, k, bad-counted a.count a.energies, r, holder-none s b e a.unit t, closed-as s b e, h)
 
-    pub available-0 : s.closed ≡ false → eqb count s.hours ≡ true → U.bad_number n ≡ false → U.bad_energies (counted count es) ≡ false → p < s.enrolled → Judges s call Clear
-    unfolding D.rows_of D.gate_row D.call_rows D.change_row D.unregistered row first_row
-    available-0 h k r q t b e =
-        rw (length-counted count es, hours-as s b e, k, r, q, registered-at s b e n p at, lt-ltb p s.enrolled t, closed-as s b e, h)
+    available-0 : (x : Holder) → held (take s.enrolled s.units) a.unit ≡ Some x → Judged (Ok x)
+    unfolding D.rows_of D.gate_row D.call_rows D.change_row D.unregistered row first_row given_by
+    available-0 x t b e =
+        rw (length-counted a.count a.energies, hours-as s b e, k, bad-counted a.count a.energies, r, holder-registered s b e a.unit x t, closed-as s b e, h)
+
+    -- the unit that was looked for is found, or refused
+    pub available-found : (o : Option Holder) → o ≡ held (take s.enrolled s.units) a.unit → Judged (ok_or o R.TheVariants.Unit)
+    available-found None q = available-6 (sym q)
+    available-found (Some x) q = available-0 x (sym q)
 
 -- Entering
 
@@ -127,23 +151,37 @@ count-of-hours b n count es o =
     let k = not-false (eqb (length (counted count es)) (B.hours b)) (all_head (all_tail (accepted-rows _ o))) in
     omega (arith, eqb-true (length (counted count es)) (B.hours b) k, length-counted count es, hours-most b.date)
 
--- a notice at a unit's index
-available-entered : (s : Session) (n count : ℕ) (es : List ℕ) (d : Unit) (p : ℕ) → p ≡ index_of (number_is n) (take s.enrolled s.units) → p < s.enrolled
-    → Entered s (D.available n (counted count es)) (registry_effect s (noted_at s p (get_or s.units p d) count es))
+-- the index of a unit found is one of those it was looked for among
+module _ (us : List Unit) (n : ℕ) (x : Holder) where
+  abbrev holder_at : ℕ → Holder
+  holder_at at = record { at = at; unit = get_or us at no_unit }
+
+  inside : (o : Option ℕ) → position (number_is n) us ≡ o → option_map holder_at o ≡ Some x → x.at < length us
+  inside None q h = absurd (none-some x h)
+  inside (Some at) q h =
+      let e : at ≡ x.at = ap (λ (y : Holder). y.at) (same_Some _ _ h) in
+      rw (← e) (position-Some (number_is n) us at no_unit q).0
+
+  pub held-inside : held us n ≡ Some x → x.at < length us
+  held-inside h = inside (position (number_is n) us) refl h
+
+-- a notice at the index of the unit found
+pub available-entered : (s : Session) (a : Availability) (x : Holder) → held (take s.enrolled s.units) a.unit ≡ Some x
+    → Entered s (available_in a) (done registry_with s (record { change = record { enrolled = s.enrolled; at = x.at; unit = x.unit; notice = stored_as (take a.count a.energies) }; answer = accepted }))
 unfolding told is_refusal D.reply D.rows_of D.gate_row D.call_rows
-available-entered s n count es d p at h = record {
+available-entered s a x h = record {
   book = λ b sound o e.
-      let k = stored-as count es (count-of-hours b n count es o) in
+      let n = a.unit in
+      let es = counted a.count a.energies in
+      let k = stored-as a.count a.energies (count-of-hours b n a.count a.energies o) in
       let early = open_row b _ o in
       let m = enrolled-as s b e in
+      let at = holder-at s b e n x h in
+      let inside = holder-inside s b e n x h in
+      let same : x.unit ≡ get_or s.units x.at no_unit = holder-unit s b e n x h ∙ sym (unit-as s b e n x.at at inside no_unit) in
       record {
         answer = refl;
-        session = rw (set-get_or s.units p d, k, e) (available-image n (counted count es) b sound early p (index-as s b e n ∙ sym at) (omega arith));
+        session = rw (same, set-get_or s.units x.at no_unit, k, e) (available-image n es b sound early x.at (index-as s b e n ∙ sym at) (omega arith));
       };
   fine = refl;
 }
-
--- and at that of the unit found
-pub available-held : (s : Session) (n count : ℕ) (es : List ℕ) (u : Holder) → Holds s.units s.enrolled n u → u.at < s.enrolled
-    → Entered s (D.available n (counted count es)) (registry_effect s (noted_at s u.at u.unit count es))
-available-held s n count es u held h = rw (held.unit h) (available-entered s n count es no_unit u.at held.index h)

@@ -1,23 +1,22 @@
 // Unavailability notices: what a unit has available.
 #![tactic(auto)]
 
-ghost use Rattle.std.specs.Prelude.{◌≡◌, ◌<◌, take};
-ghost use Rattle.rules.specs.Units.{bad_energies};
-ghost use Rattle.rules.specs.DayBook.{available};
-ghost use Rattle.session.specs.Laid.{pad, counted};
-ghost use Rattle.session_changes.specs.Changes.{registry_effect};
+ghost use Rattle.std.specs.Prelude.{◌≡◌, take, IfOk, Some};
+ghost use Rattle.std.specs.List.{list_any};
 ghost use Rattle.session.specs.Steps.{Met};
-ghost use Rattle.session.specs.Parts.{Judges, unit_index};
-ghost use Rattle.notify_unavailability.specs.Notices.{stored_as, noted_at, available_in};
+ghost use Rattle.session.specs.Parts.{Within, JudgesRow, Entered, held};
+ghost use Rattle.session_changes.specs.Changes.{Placed, registry_with};
+ghost use Rattle.session_changes.specs.Effects.{effect_of, done};
+ghost use Rattle.notify_unavailability.specs.Notices.{over_limit, stored_as, available_in};
 
-use answer::accepted;
-use rules::HOURS;
-use rules::row::{GATE, HOUR, NO_UNIT, RANGE};
-use session::units::{bad_number, holder_of};
-use session::{Effect, Notice, Ruling, Session, Unit};
-use session_changes::{RegistryChange, RegistryEffect, registry_refused, with_registry};
+use answer::{Refusal, Response};
+use rules::row::Row;
+use rules::{HOURS, bad_number};
+use session::units::holder_of;
+use session::{Effect, Holder, Notice, Session};
+use session_changes::{RegistryChange, Step, effect};
 
-// An unavailability notice: `count` available energies of a unit.
+// An unavailability notice: `count` available energies of a unit. C hands the count beside the array.
 #[repr(C)]
 #[derive(Clone, Copy)]
 pub struct Availability {
@@ -26,40 +25,27 @@ pub struct Availability {
     pub energies: [u32; HOURS],
 }
 
-// Row 5: one of `count` energies is above the limit.
-pub fn bad_energies(count: usize, energies: [u32; HOURS]) -> bool
-    ensures { result ≡ bad_energies (counted count energies) }
+// The energies that C's count gives: as many as there is place for.
+pub fn front(count: usize, energies: &[u32; HOURS]) -> &[u32]
+    ensures { result.now ≡ take count energies.now }
 {
-    for i in 0..HOURS {
-        if count <= i {
-            return false;
-        }
-        if Session::MAX_ENERGY < energies[i] {
-            return true;
-        }
-    }
-    false
+    &energies[..count.min(HOURS)]
 }
 
-// The first `count` energies, 0 after them.
-fn front(count: usize, energies: [u32; HOURS]) -> [u32; HOURS]
-    ensures { result ≡ pad 25 0 (take count energies) }
+// Row 5: one of the energies is above the limit.
+pub fn bad_energies(energies: &[u32]) -> bool
+    ensures { result ≡ list_any over_limit energies.now }
+{
+    energies.iter().any(|energy| Session::MAX_ENERGY < *energy)
+}
+
+// A notice as the session keeps it: its energies, 0 after them.
+pub fn stored_notice(energies: &[u32]) -> Notice
+    ensures { result ≡ stored_as energies.now }
 {
     let mut stored = [0u32; HOURS];
-    for i in 0..HOURS {
-        if count <= i {
-            return stored;
-        }
-        stored[i] = energies[i];
-    }
-    stored
-}
-
-// A notice as the session keeps it.
-pub fn stored_notice(count: usize, energies: [u32; HOURS]) -> Notice
-    ensures { result ≡ stored_as count energies }
-{
-    let stored = front(count, energies);
+    let count = energies.len().min(HOURS);
+    stored[..count].copy_from_slice(&energies[..count]);
     Notice {
         given: true,
         reserved: 0,
@@ -68,80 +54,58 @@ pub fn stored_notice(count: usize, energies: [u32; HOURS]) -> Notice
     }
 }
 
-// The refusal that applies to a notice of `count` energies for a unit, `at` the unit's index.
-fn judge_available(
-    s: Session,
-    at: usize,
-    number: u32,
-    count: usize,
-    energies: [u32; HOURS],
-) -> Ruling
-    requires { at ≡ unit_index s number }
-    ensures { Judges s (available number (counted count energies)) result × (result ≡ Ruling.Clear → at < s.enrolled) }
+// The row that refuses a notice, or else its unit: 2, 4, 5, 6.
+fn judge_available(s: Session, notice: Availability) -> Result<Holder, Row>
+    requires { Within s }
+    ensures judges { JudgesRow s (available_in notice) result }
+    ensures found { IfOk result (λ x. held (take s.enrolled s.units) notice.unit ≡ Some x) }
 {
     if s.closed {
-        return Ruling::No(GATE, 0);
+        return Err(Row::Gate);
     }
-    if count != s.hours as usize {
-        return Ruling::No(HOUR, 0);
+    if notice.count != s.hours as usize {
+        return Err(Row::Hour);
     }
-    if bad_number(number) {
-        return Ruling::No(RANGE, 0);
+    if bad_number(notice.unit) || bad_energies(front(notice.count, &notice.energies)) {
+        return Err(Row::Range);
     }
-    if bad_energies(count, energies) {
-        return Ruling::No(RANGE, 0);
-    }
-    if s.enrolled <= at {
-        return Ruling::No(NO_UNIT, 0);
-    }
-    Ruling::Clear
+    holder_of(&s.units[..s.enrolled], notice.unit).ok_or(Row::Unit)
 }
 
-// "a notice replaces its earlier one": the unit at the index stays.
-fn note_available(
-    s: Session,
-    at: usize,
-    unit: Unit,
-    count: usize,
-    energies: [u32; HOURS],
-) -> RegistryEffect
-    ensures { result ≡ noted_at s at unit count energies }
+// "a notice replaces its earlier one": the unit stays at its index.
+fn note_available(s: Session, holder: Holder, notice: Availability) -> Step<RegistryChange>
+    requires within { Within s }
+    requires found { held (take s.enrolled s.units) notice.unit ≡ Some holder }
+    ensures entered { Entered s (available_in notice) (done registry_with s result) }
+    ensures placed { Placed result.change }
 {
-    let notice = stored_notice(count, energies);
-    let change = RegistryChange {
-        enrolled: s.enrolled,
-        at: at,
-        unit: unit,
-        notice: notice,
-        changed: true,
-    };
-    let answer = accepted();
-    RegistryEffect { change, answer }
+    Step {
+        change: RegistryChange {
+            enrolled: s.enrolled,
+            at: holder.at,
+            unit: holder.unit,
+            notice: stored_notice(front(notice.count, &notice.energies)),
+        },
+        answer: Response::accepted(),
+    }
 }
 
 // An unavailability notice changes the notice at one index.
-pub fn available_change(s: Session, notice: Availability) -> RegistryEffect
-    ensures { Met s (available_in notice) (registry_effect s result) × (result.change.at < 64) }
+#[tactic(auto, using(session_changes::proofs::StepLaws::step_laws))]
+pub fn available_change(s: Session, notice: Availability) -> Result<Step<RegistryChange>, Refusal>
+    ensures met { Met s (available_in notice) (effect_of registry_with s result) }
+    ensures placed { IfOk result (λ t. Placed t.change) }
 {
-    let energies = notice.energies;
     if !s.sound() {
-        return registry_refused(s, GATE, 0);
+        return Err(Refusal::from(Row::Gate));
     }
-    let units = s.units;
-    let holder = holder_of(units, s.enrolled, notice.unit);
-    let at = holder.at;
-    let unit = holder.unit;
-    let j = judge_available(s, at, notice.unit, notice.count, energies);
-    match j {
-        Ruling::No(row, hour) => registry_refused(s, row, hour),
-        Ruling::Clear => note_available(s, at, unit, notice.count, energies),
-    }
+    let holder = judge_available(s, notice)?;
+    Ok(note_available(s, holder, notice))
 }
 
 // Takes an unavailability notice: 2, 4, 5, 6.
 pub fn available(s: Session, notice: Availability) -> Effect
     ensures { Met s (available_in notice) result }
 {
-    let t = available_change(s, notice);
-    with_registry(s, t)
+    effect(s, available_change(s, notice))
 }

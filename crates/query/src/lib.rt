@@ -1,74 +1,46 @@
-// Queries, by value: what all of them share, and the price. Verdicts are asked in `query_verdict`, a unit's energies in `query_unit`,
-// a border's balances in `query_balance` and its maxima in `query_maximum`.
+// Queries: what all of them share, and the price. Verdicts are asked in `query_verdict`, a unit's energies in `query_unit`, a border's
+// balances in `query_balance` and its maxima in `query_maximum`. The session is lent: an answer reads one element of an array.
 #![tactic(auto)]
 
-ghost use Rattle.std.specs.Prelude.{◌≡◌, ◌<◌};
+ghost use Rattle.std.specs.Prelude.{◌≡◌, IfOk};
+ghost use Rattle.rules.specs.Hours.{not_an_hour};
 ghost use Rattle.rules.specs.Queries as Q;
 ghost use Rattle.query.specs.Replies.{Answered};
-ghost use Rattle.query.specs.Parts.{Judges, HourFits, index_in, figures_in};
+ghost use Rattle.query.specs.Parts.{Judges, HourFits};
 
-use answer::{Response, number, refused};
-use rules::LONG_DAY;
-use rules::row::{GATE, HOUR};
-use session::{HourFigures, Ruling, Session};
+use answer::{Refusal, Response};
+use rules::row::Row;
+use session::Session;
 
-// A figure of an hour: 2, 4. A session that the guard rejects is answered 2; no call leaves one.
-pub fn judge_hour(s: Session, hour: u32) -> Ruling
-    ensures { Judges s (Q.price hour) result × (result ≡ Ruling.Clear → HourFits s hour) }
+// Row 4: "an hour" outside 1 to the day's hours.
+#[tactic(auto, unfolding(rules::specs::Hours::not_an_hour))]
+fn not_an_hour(hours: u32, hour: u32) -> bool
+    ensures { result ≡ not_an_hour hours hour }
 {
-    if !s.sound() {
-        return Ruling::No(GATE, 0);
-    }
-    if !s.cleared {
-        return Ruling::No(GATE, 0);
-    }
-    if hour == 0 {
-        return Ruling::No(HOUR, 0);
-    }
-    if s.hours < hour {
-        return Ruling::No(HOUR, 0);
-    }
-    Ruling::Clear
+    !(1..=hours).contains(&hour)
 }
 
-// The index of an hour's figures: an index for any number, as what is no hour is refused whatever is read.
-pub fn index_of(hour: u32) -> usize
-    ensures { (result ≡ index_in hour) × (result < 25) }
+// The index of an hour's figures, or the row that refuses them: 2, 4. A session that the guard rejects is answered 2; no call leaves
+// one.
+pub fn judge_hour(s: &Session, hour: u32) -> Result<usize, Row>
+    ensures judges { Judges s.now (Q.price hour) result }
+    ensures found { IfOk result (λ at. HourFits s.now hour at) }
 {
-    if LONG_DAY < hour {
-        return 0;
+    if !s.sound() || !s.cleared {
+        return Err(Row::Gate);
     }
-    if hour < 1 {
-        return 0;
+    if not_an_hour(s.hours, hour) {
+        return Err(Row::Hour);
     }
-    (hour - 1) as usize
-}
-
-// The figures of an hour.
-pub fn figures_at(s: Session, hour: u32) -> HourFigures
-    ensures { result ≡ figures_in s hour }
-{
-    let figures = s.figures;
-    let at = index_of(hour);
-    figures[at]
-}
-
-// The hour's price, from its figures: 2, 4.
-pub fn price_from(s: Session, x: HourFigures, hour: u32) -> Response
-    requires { x ≡ figures_in s hour }
-    ensures { Answered s (Q.price hour) result }
-{
-    let j = judge_hour(s, hour);
-    if let Ruling::No(row, at) = j {
-        return refused(row, at);
-    }
-    number(x.price)
+    Ok(hour as usize - 1)
 }
 
 // The hour's price: 2, 4.
-pub fn price(s: Session, hour: u32) -> Response
-    ensures { Answered s (Q.price hour) result }
+pub fn price(s: &Session, hour: u32) -> Response
+    ensures { Answered s.now (Q.price hour) result }
 {
-    let x = figures_at(s, hour);
-    price_from(s, x, hour)
+    match judge_hour(s, hour) {
+        Ok(at) => Response::from(s.figures[at].price),
+        Err(row) => Response::from(Refusal::from(row)),
+    }
 }

@@ -5,7 +5,7 @@ ghost use Rattle.std.specs.Prelude.{◌≡◌};
 ghost use Rattle.query.specs.Replies.{Answered};
 ghost use Rattle.query_any.specs.Asked.{asked, query_in, query_of, Replied};
 
-use answer::Response;
+use answer::{Refusal, Response};
 use rules::row::Row;
 use session::Session;
 
@@ -96,22 +96,22 @@ impl Query {
         ensures { Answered s.now (query_in self) result }
     {
         match self {
-            Query::Verdict(number) => query_verdict::verdict(*s, number),
-            Query::Matched { unit, hour } => query_unit::matched(*s, unit, hour),
-            Query::Executed { unit, hour } => query_unit::executed(*s, unit, hour),
-            Query::Market { border, hour } => query_balance::market(*s, border, hour),
-            Query::Bilateral { border, hour } => query_balance::bilateral(*s, border, hour),
-            Query::Price(hour) => query::price(*s, hour),
+            Query::Verdict(number) => query_verdict::verdict(s, number),
+            Query::Matched { unit, hour } => query_unit::matched(s, unit, hour),
+            Query::Executed { unit, hour } => query_unit::executed(s, unit, hour),
+            Query::Market { border, hour } => query_balance::market(s, border, hour),
+            Query::Bilateral { border, hour } => query_balance::bilateral(s, border, hour),
+            Query::Price(hour) => query::price(s, hour),
             Query::MarketMaximum {
                 border,
                 export,
                 hour,
-            } => query_maximum::market_maximum(*s, border, export, hour),
+            } => query_maximum::market_maximum(s, border, export, hour),
             Query::BilateralMaximum {
                 border,
                 export,
                 hour,
-            } => query_maximum::bilateral_maximum(*s, border, export, hour),
+            } => query_maximum::bilateral_maximum(s, border, export, hour),
         }
     }
 }
@@ -122,6 +122,6 @@ pub fn reply_to(s: &Session, kind: u8, of: u32, export: bool, hour: u32) -> Resp
 {
     match Query::numbered(kind, of, export, hour) {
         Some(query) => query.reply(s),
-        None => answer::refused(Row::Form.number(), 0),
+        None => Response::from(Refusal::from(Row::Form)),
     }
 }

@@ -7,7 +7,8 @@ use lib.Dec.{eqb}
 use lib.IntN.{ℤ, sub_ℕ}
 use lib.ListN.{get_or}
 use Rattle.rules.specs.Book.{Book}
-use Rattle.rules.specs.Borders.{balance, market_balance, execution_balance}
+use Rattle.rules.specs.Borders as B
+use Rattle.rules.specs.Borders.{market_balance, execution_balance}
 use Rattle.rules.specs.Clearing.{figures_at}
 use Rattle.rules.specs.Queries as Q
 use Rattle.rules.specs.Queries.{shown}
@@ -18,9 +19,11 @@ use Rattle.session.specs.Image.{image, Sound, by_way, figures_as}
 use Rattle.session.specs.declared.Session.{Session}
 use Rattle.session.specs.declared.HourFigures.{HourFigures}
 use Rattle.answer.specs.Told.{value_told, figure}
-use Rattle.query.specs.Parts.{HourFits, figures_in}
 use Rattle.query.proofs.FigureLaws.{made_at, figures-as}
-use Rattle.query_balance.specs.Parts.{BorderFits}
+use Rattle.session.specs.Bare.{bare_figures}
+use Rattle.query_balance.specs.declared.Balance.{Balance}
+use Rattle.query_balance.specs.declared.Balance.TheVariants.{Market, Bilateral}
+use Rattle.query_balance.specs.Parts.{BorderFits, balance_query, balance_of}
 
 pub by_way_lem : (f : ℕ → Bool → ℕ) (border : ℕ) (export : Bool) → border ≤ 4 → get_or (by_way f) (way_of border export) 0 ≡ f border export
 unfolding by_way
@@ -29,29 +32,25 @@ by_way_lem f border export h =
     ∙ ap (λ w. f (w / 2) (eqb (w % 2) 0)) (let q : 0 + way_of border export ≡ way_of border export = omega arith in q)
     ∙ ap₂ f (way-border border export) (way-export border export)
 
-module _ (s : Session) (hour : ℕ) (x : HourFigures) (at : x ≡ figures_in s hour) (b : Book) (sound : Sound b) (e : s ≡ image b) where
-  the-figures : HourFits s hour → x ≡ figures_as b hour
-  the-figures f = at ∙ figures-as s b e f
+module _ (s : Session) (b : Book) (e : s ≡ image b) (border hour at : ℕ) (f : BorderFits s border hour at) where
+  abbrev figures : HourFigures
+  figures = get_or s.figures at bare_figures
 
-  module _ (border : ℕ) (f : BorderFits s border hour) where
-    pub market-at : (export : Bool) → get_or x.market (way_of border export) 0 ≡ market_flow border export (figures_at b hour).offers
-    unfolding figures_as
-    market-at export =
-        ap (λ y. get_or y.market (way_of border export) 0) (the-figures f.hours)
-        ∙ by_way_lem (λ k t. market_flow k t (figures_at b hour).offers) border export f.high
+  pub market-at : (export : Bool) → get_or figures.market (way_of border export) 0 ≡ market_flow border export (figures_at b hour).offers
+  unfolding figures_as
+  market-at export =
+      ap (λ (y : HourFigures). get_or y.market (way_of border export) 0) (figures-as s b e f.hours)
+      ∙ by_way_lem (λ k t. market_flow k t (figures_at b hour).offers) border export f.high
 
-    bilateral-at : (export : Bool) → get_or x.bilateral (way_of border export) 0 ≡ execution_flow border export (figures_at b hour).executions
-    unfolding figures_as
-    bilateral-at export =
-        ap (λ y. get_or y.bilateral (way_of border export) 0) (the-figures f.hours)
-        ∙ by_way_lem (λ k t. execution_flow k t (figures_at b hour).executions) border export f.high
+  bilateral-at : (export : Bool) → get_or figures.bilateral (way_of border export) 0 ≡ execution_flow border export (figures_at b hour).executions
+  unfolding figures_as
+  bilateral-at export =
+      ap (λ (y : HourFigures). get_or y.bilateral (way_of border export) 0) (figures-as s b e f.hours)
+      ∙ by_way_lem (λ k t. execution_flow k t (figures_at b hour).executions) border export f.high
 
-    pub market-shown : (z : ℤ) → z ≡ sub_ℕ (get_or x.market (way_of border true) 0) (get_or x.market (way_of border false) 0)
-        → figure z ≡ value_told (shown b (Q.market border hour))
-    unfolding value_told shown market_balance balance
-    market-shown z q = ap figure (q ∙ ap₂ sub_ℕ (market-at true) (market-at false))
-
-    pub bilateral-shown : (z : ℤ) → z ≡ sub_ℕ (get_or x.bilateral (way_of border true) 0) (get_or x.bilateral (way_of border false) 0)
-        → figure z ≡ value_told (shown b (Q.bilateral border hour))
-    unfolding value_told shown execution_balance balance
-    bilateral-shown z q = ap figure (q ∙ ap₂ sub_ℕ (bilateral-at true) (bilateral-at false))
+  -- "exports less imports", of the energies that are read
+  pub balance-shown : (balance : Balance) → figure (sub_ℕ (get_or (balance_of balance figures) (way_of border true) 0) (get_or (balance_of balance figures) (way_of border false) 0))
+      ≡ value_told (shown b (balance_query balance border hour))
+  unfolding value_told shown market_balance execution_balance B.balance
+  balance-shown Market = ap figure (ap₂ sub_ℕ (market-at true) (market-at false))
+  balance-shown Bilateral = ap figure (ap₂ sub_ℕ (bilateral-at true) (bilateral-at false))

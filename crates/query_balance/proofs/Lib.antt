@@ -1,3 +1,2 @@
-pub mod SignedLaws
 pub mod RowLaws
 pub mod FlowLaws

@@ -1,150 +1,96 @@
 // The queries of a border's maxima, after clearing.
 #![tactic(auto)]
 
-ghost use Rattle.std.specs.Prelude.{◌≡◌, ◌+◌, ◌<◌, get_or};
-ghost use Rattle.std.proofs.Math.IntN.{sub_ℕ};
+ghost use Rattle.std.specs.Prelude.{◌≡◌, ◌<◌, IfOk};
 ghost use Rattle.rules.specs.Queries as Q;
 ghost use Rattle.answer.specs.Told as T;
-ghost use Rattle.session.specs.Bare.{bare_figures, bare_notice};
 ghost use Rattle.query.specs.Replies.{Answered};
-ghost use Rattle.query_maximum.specs.Parts.{Asks, market_maximum_as, bilateral_maximum_as};
+ghost use Rattle.query.specs.Parts.{Judges};
+ghost use Rattle.query_maximum.specs.Parts.{DirectionFits, maximum_query, maximum_of};
 
-use answer::{Response, absent, number, refused};
-use query_balance::{difference, judge_border};
-use session::{HourFigures, Notice, Ruling, Session};
+use answer::{Refusal, Response};
+use hour_borders::way;
+use query_balance::judge_border;
+use rules::row::Row;
+use session::{HourFigures, Session};
 
-// What a query of a direction is refused with; or, if it is not, where it finds what it asks for: the index of the hour's figures, of
-// the direction's capacity, and among the energies at the borders of the direction and of the other one at its border.
-#[derive(Clone, Copy)]
-pub struct Asked {
-    pub refused: bool,
-    pub row: u32,
-    pub hour: u32,
-    pub at: usize,
-    pub of: usize,
-    pub way: usize,
-    pub other: usize,
+// Which of a direction's maxima is asked for.
+#[derive(Clone, Copy, Debug, PartialEq, Eq)]
+enum Maximum {
+    Market,
+    Bilateral,
+}
+
+// Where a query of a direction finds what it asks for: the index of the hour's figures, and among the energies at the borders those of
+// the direction and of the other one at its border. Its capacity in the hour is the last notice's energy, if it gives one.
+#[derive(Clone, Copy, Debug, PartialEq, Eq)]
+struct Asked {
+    at: usize,
+    way: usize,
+    other: usize,
+    capacity: Option<u32>,
+}
+
+impl Maximum {
+    // The maximum, from the hour's figures and the capacity's energy E. "The bilateral maximum is E less the final market balance, which
+    // may be below zero": seen in the direction, that balance is the energy along it less the energy against it.
+    fn figure(self, figures: &HourFigures, p: Asked, energy: u32) -> Response
+        requires way { p.way < 10 }
+        requires other { p.other < 10 }
+        ensures { result ≡ T.figure (maximum_of self figures.now p energy) }
+    {
+        match self {
+            Maximum::Market => Response::from(figures.maxima[p.way]),
+            Maximum::Bilateral => {
+                let along = i64::from(figures.market[p.way]);
+                let against = i64::from(figures.market[p.other]);
+                Response::figure(i64::from(energy) + against - along)
+            }
+        }
+    }
 }
 
 // A query of a direction, judged: 2, 4, 5. Notices have no index for border 0.
-pub fn judge_direction(s: Session, border: u32, export: bool, hour: u32) -> Asked
-    ensures { Asks s border export hour result }
+fn judge_direction(s: &Session, border: u32, export: bool, hour: u32) -> Result<Asked, Row>
+    ensures judges { Judges s.now (Q.market border hour) result }
+    ensures found { IfOk result (λ p. DirectionFits s.now border export hour p) }
 {
-    let j = judge_border(s, border, hour);
-    if let Ruling::No(row, at) = j {
-        return Asked {
-            refused: true,
-            row,
-            hour: at,
-            at: 0,
-            of: 0,
-            way: 0,
-            other: 0,
-        };
-    }
-    let way = hour_borders::way(border, export);
-    let other = hour_borders::way(border, !export);
-    Asked {
-        refused: false,
-        row: 0,
-        hour: 0,
-        at: (hour - 1) as usize,
-        of: way - 2,
-        way: way,
-        other: other,
-    }
+    let at = judge_border(s, border, hour)?;
+    let way_of = way(border, export);
+    let other = way(border, !export);
+    let notice = &s.capacities[way_of - 2];
+    let capacity = notice.given.then_some(notice.energies[at]);
+    Ok(Asked {
+        at,
+        way: way_of,
+        other,
+        capacity,
+    })
 }
 
-// An hour's figures.
-fn figures_at(s: Session, at: usize) -> HourFigures
-    requires { at < 25 }
-    ensures { result ≡ get_or s.figures at bare_figures }
+// A maximum of a border's direction, "absent without capacity": 2, 4, 5.
+fn reply(s: &Session, maximum: Maximum, border: u32, export: bool, hour: u32) -> Response
+    ensures { Answered s.now (maximum_query maximum border export hour) result }
 {
-    let figures = s.figures;
-    figures[at]
-}
-
-// The last notice of a direction's capacity.
-fn capacity_at(s: Session, of: usize) -> Notice
-    requires { of < 8 }
-    ensures { result ≡ get_or s.capacities of bare_notice }
-{
-    let capacities = s.capacities;
-    capacities[of]
-}
-
-// Its energy in an hour.
-fn energy_at(notice: Notice, at: usize) -> u32
-    requires { at < 25 }
-    ensures { result ≡ get_or notice.energies at 0 }
-{
-    let energies = notice.energies;
-    energies[at]
-}
-
-// The market maximum of a border's direction, "absent without capacity", from the hour's figures and the capacity: whether it is given,
-// and its energy, which only the other maximum looks at.
-pub fn market_maximum_from(p: Asked, x: HourFigures, given: bool, energy: u32) -> Response
-    requires { (p.way < 10) × (p.other < 10) }
-    ensures { result ≡ market_maximum_as p x given energy }
-{
-    if p.refused {
-        return refused(p.row, p.hour);
+    match judge_direction(s, border, export, hour) {
+        Ok(p) => match p.capacity {
+            Some(energy) => maximum.figure(&s.figures[p.at], p, energy),
+            None => Response::absent(),
+        },
+        Err(row) => Response::from(Refusal::from(row)),
     }
-    if !given {
-        return absent();
-    }
-    let maxima = x.maxima;
-    let way = p.way;
-    let maximum = maxima[way];
-    number(maximum)
 }
 
 // The market maximum of a border's direction, "absent without capacity": 2, 4, 5.
-pub fn market_maximum(s: Session, border: u32, export: bool, hour: u32) -> Response
-    ensures { Answered s (Q.market_max border export hour) result }
+pub fn market_maximum(s: &Session, border: u32, export: bool, hour: u32) -> Response
+    ensures { Answered s.now (Q.market_max border export hour) result }
 {
-    let p = judge_direction(s, border, export, hour);
-    let x = figures_at(s, p.at);
-    let notice = capacity_at(s, p.of);
-    let energy = energy_at(notice, p.at);
-    market_maximum_from(p, x, notice.given, energy)
-}
-
-// E less a balance: the energy along a direction less the energy against it.
-fn left(energy: u32, along: u32, against: u32) -> Response
-    ensures { result ≡ T.figure (sub_ℕ (energy + against) along) }
-{
-    difference(energy as u64 + against as u64, along as u64)
-}
-
-// "The bilateral maximum is E less the final market balance, which may be below zero", and absent without E, from the hour's figures
-// and E. Seen in the direction, that balance is the energy along it less the energy against it.
-pub fn bilateral_maximum_from(p: Asked, x: HourFigures, given: bool, energy: u32) -> Response
-    requires { (p.way < 10) × (p.other < 10) }
-    ensures { result ≡ bilateral_maximum_as p x given energy }
-{
-    if p.refused {
-        return refused(p.row, p.hour);
-    }
-    if !given {
-        return absent();
-    }
-    let market = x.market;
-    let way = p.way;
-    let other = p.other;
-    let along = market[way];
-    let against = market[other];
-    left(energy, along, against)
+    reply(s, Maximum::Market, border, export, hour)
 }
 
 // Its bilateral maximum: 2, 4, 5.
-pub fn bilateral_maximum(s: Session, border: u32, export: bool, hour: u32) -> Response
-    ensures { Answered s (Q.bilateral_max border export hour) result }
+pub fn bilateral_maximum(s: &Session, border: u32, export: bool, hour: u32) -> Response
+    ensures { Answered s.now (Q.bilateral_max border export hour) result }
 {
-    let p = judge_direction(s, border, export, hour);
-    let x = figures_at(s, p.at);
-    let notice = capacity_at(s, p.of);
-    let energy = energy_at(notice, p.at);
-    bilateral_maximum_from(p, x, notice.given, energy)
+    reply(s, Maximum::Bilateral, border, export, hour)
 }

@@ -9,19 +9,21 @@ use lib.ListN.{get_or, length-map}
 use borrow.Author.Tests.{eqb-true, lt-ltb}
 use Rattle.rules.specs.Units as U
 use Rattle.rules.specs.Book.{Book}
-use Rattle.rules.specs.Queries as Q
 use Rattle.rules.specs.Queries.{shown, matched_at, executed_at}
 use Rattle.rules.proofs.ListLaws.{first_passes}
-use Rattle.session.specs.Image.{image, Sound, by_unit, figures_as}
+use Rattle.session.specs.Image.{image, by_unit, figures_as}
 use Rattle.session.specs.Parts.{index_of}
 use Rattle.session.specs.declared.Session.{Session}
 use Rattle.session.specs.declared.HourFigures.{HourFigures}
 use Rattle.session.proofs.IndexLaws.{indexed, index-first, get_or-map}
 use Rattle.session.proofs.ImageLaws.{registered-at, index-as}
 use Rattle.answer.specs.Told.{value_told, figure}
-use Rattle.query.specs.Parts.{HourFits, figures_in}
 use Rattle.query.proofs.FigureLaws.{pad-at, figures-as}
-use Rattle.query_unit.specs.Parts.{UnitFits}
+use Rattle.session.specs.Bare.{bare_figures}
+use Rattle.query_unit.specs.declared.Energy.{Energy}
+use Rattle.query_unit.specs.declared.Energy.TheVariants.{Matched, Executed}
+use Rattle.query_unit.specs.declared.Place.{Place}
+use Rattle.query_unit.specs.Parts.{UnitFits, energy_of, energy_query}
 
 the_number : (us : List U.Registered) (n : ℕ) → U.is_registered us n ≡ true → (U.unit_of us n).unit.number ≡ n
 unfolding U.is_registered U.unit_of U.has_number
@@ -40,26 +42,20 @@ module _ (f : ℕ → ℕ) (us : List U.Registered) where
       ∙ ap of_unit (sym (index-first (U.has_number n) U.nobody us))
       ∙ ap f (the_number us n h)
 
-module _ (s : Session) (b : Book) (e : s ≡ image b) where
+module _ (s : Session) (b : Book) (e : s ≡ image b) (unit hour : ℕ) (p : Place) (f : UnitFits s unit hour p) where
   -- an energy of a unit
-  pub unit-figure : {u at h : ℕ} (f : ℕ → ℕ) → UnitFits s u at h → get_or (by_unit f b.units) at 0 ≡ f u
-  unit-figure {u} {at} f k =
-      ap (λ p. get_or (by_unit f b.units) p 0) (k.index ∙ sym (index-as s b e u))
-      ∙ by-unit f b.units u (registered-at s b e u at k.index ∙ lt-ltb at s.enrolled k.registered)
+  unit-figure : (g : ℕ → ℕ) → get_or (by_unit g b.units) p.unit 0 ≡ g unit
+  unit-figure g =
+      ap (λ i. get_or (by_unit g b.units) i 0) (f.index ∙ sym (index-as s b e unit))
+      ∙ by-unit g b.units unit (registered-at s b e unit p.unit f.index ∙ lt-ltb p.unit s.enrolled f.registered)
 
-module _ (s : Session) (hour : ℕ) (x : HourFigures) (is : x ≡ figures_in s hour) (b : Book) (sound : Sound b) (e : s ≡ image b) where
-  the-figures : HourFits s hour → x ≡ figures_as b hour
-  the-figures f = is ∙ figures-as s b e f
+  abbrev figures : HourFigures
+  figures = get_or s.figures p.hour bare_figures
 
-  module _ (unit at : ℕ) (f : UnitFits s unit at hour) where
-    pub matched-shown : figure (pos (get_or x.matched at 0)) ≡ value_told (shown b (Q.matched unit hour))
-    unfolding value_told shown figures_as
-    matched-shown =
-        ap (λ m. figure (pos m))
-        (ap (λ y. get_or y.matched at 0) (the-figures f.hours) ∙ unit-figure s b e (λ u. matched_at b u hour) f)
-
-    pub executed-shown : figure (pos (get_or x.executed at 0)) ≡ value_told (shown b (Q.executed unit hour))
-    unfolding value_told shown figures_as
-    executed-shown =
-        ap (λ m. figure (pos m))
-        (ap (λ y. get_or y.executed at 0) (the-figures f.hours) ∙ unit-figure s b e (λ u. executed_at b u hour) f)
+  -- what is read of it is what its query is to show
+  pub energy-shown : (energy : Energy) → figure (pos (energy_of energy figures p.unit)) ≡ value_told (shown b (energy_query energy unit hour))
+  unfolding value_told shown figures_as
+  energy-shown Matched =
+      ap (λ m. figure (pos m)) (ap (λ (y : HourFigures). get_or y.matched p.unit 0) (figures-as s b e f.hours) ∙ unit-figure (λ u. matched_at b u hour))
+  energy-shown Executed =
+      ap (λ m. figure (pos m)) (ap (λ (y : HourFigures). get_or y.executed p.unit 0) (figures-as s b e f.hours) ∙ unit-figure (λ u. executed_at b u hour))

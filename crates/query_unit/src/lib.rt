@@ -1,90 +1,79 @@
 // The queries of a unit's energies, after clearing.
 #![tactic(auto)]
 
-ghost use Rattle.std.specs.Prelude.{◌≡◌};
+ghost use Rattle.std.specs.Prelude.{◌≡◌, ◌<◌, IfOk};
 ghost use Rattle.rules.specs.Queries as Q;
 ghost use Rattle.query.specs.Replies.{Answered};
-ghost use Rattle.query.specs.Parts.{Judges, figures_in};
-ghost use Rattle.query_unit.specs.Parts.{UnitFits, UnitFound};
+ghost use Rattle.query.specs.Parts.{Judges};
+ghost use Rattle.query_unit.specs.Parts.{UnitFits, energy_of, energy_query};
 
-use answer::{Response, number, refused};
-use query::{figures_at, judge_hour};
-use rules::UNITS;
-use rules::row::{NO_UNIT, RANGE};
-use session::units::{bad_number, index};
-use session::{HourFigures, Ruling, Session};
+use answer::{Refusal, Response};
+use query::judge_hour;
+use rules::bad_number;
+use rules::row::Row;
+use session::units::index;
+use session::{HourFigures, Session};
 
-// The index of a unit among the registered ones, or their number. Of a session that the guard refuses, any index will do.
-fn unit_at(s: Session, unit: u32) -> usize
-    ensures { UnitFound s unit result }
-{
-    if UNITS < s.enrolled {
-        return 0;
-    }
-    let units = s.units;
-    index(units, s.enrolled, unit)
+// Which of a unit's energies is asked for.
+#[derive(Clone, Copy, Debug, PartialEq, Eq)]
+enum Energy {
+    Matched,
+    Executed,
 }
 
-// A figure of a unit in an hour, from the unit's index: 2, 4, 5, 6.
-fn judge_unit(s: Session, at: usize, unit: u32, hour: u32) -> Ruling
-    requires { UnitFound s unit at }
-    ensures { Judges s (Q.matched unit hour) result × (result ≡ Ruling.Clear → UnitFits s unit at hour) }
-{
-    let j = judge_hour(s, hour);
-    if let Ruling::No(row, of) = j {
-        return Ruling::No(row, of);
+// Where a unit's energies in an hour stand: the index of the hour's figures, and the unit's own.
+#[derive(Clone, Copy, Debug, PartialEq, Eq)]
+struct Place {
+    hour: usize,
+    unit: usize,
+}
+
+impl Energy {
+    // The energy among an hour's figures, at a unit's index.
+    fn among(self, figures: &HourFigures, unit: usize) -> u32
+        requires { unit < 64 }
+        ensures { result ≡ energy_of self figures.now unit }
+    {
+        match self {
+            Energy::Matched => figures.matched[unit],
+            Energy::Executed => figures.executed[unit],
+        }
     }
+}
+
+// A unit in an hour, or the row that refuses it: 2, 4, 5, 6.
+fn judge_unit(s: &Session, unit: u32, hour: u32) -> Result<Place, Row>
+    ensures judges { Judges s.now (Q.matched unit hour) result }
+    ensures found { IfOk result (λ p. UnitFits s.now unit hour p) }
+{
+    let at = judge_hour(s, hour)?;
     if bad_number(unit) {
-        return Ruling::No(RANGE, 0);
+        return Err(Row::Range);
     }
-    if at < s.enrolled {
-        return Ruling::Clear;
-    }
-    Ruling::No(NO_UNIT, 0)
+    let of = index(&s.units[..s.enrolled], unit).ok_or(Row::Unit)?;
+    Ok(Place { hour: at, unit: of })
 }
 
-// "a unit's matched [..] energy in an hour", from the hour's figures and the unit's index: 2, 4, 5, 6.
-pub fn matched_from(s: Session, x: HourFigures, at: usize, unit: u32, hour: u32) -> Response
-    requires { (x ≡ figures_in s hour) × UnitFound s unit at }
-    ensures { Answered s (Q.matched unit hour) result }
+// A unit's energy in an hour: 2, 4, 5, 6.
+fn reply(s: &Session, energy: Energy, unit: u32, hour: u32) -> Response
+    ensures { Answered s.now (energy_query energy unit hour) result }
 {
-    let j = judge_unit(s, at, unit, hour);
-    if let Ruling::No(row, of) = j {
-        return refused(row, of);
+    match judge_unit(s, unit, hour) {
+        Ok(at) => Response::from(energy.among(&s.figures[at.hour], at.unit)),
+        Err(row) => Response::from(Refusal::from(row)),
     }
-    let energies = x.matched;
-    let matched = energies[at];
-    number(matched)
 }
 
 // "a unit's matched [..] energy in an hour": 2, 4, 5, 6.
-pub fn matched(s: Session, unit: u32, hour: u32) -> Response
-    ensures { Answered s (Q.matched unit hour) result }
+pub fn matched(s: &Session, unit: u32, hour: u32) -> Response
+    ensures { Answered s.now (Q.matched unit hour) result }
 {
-    let x = figures_at(s, hour);
-    let at = unit_at(s, unit);
-    matched_from(s, x, at, unit, hour)
-}
-
-// "and executed energy", from the hour's figures and the unit's index: 2, 4, 5, 6.
-pub fn executed_from(s: Session, x: HourFigures, at: usize, unit: u32, hour: u32) -> Response
-    requires { (x ≡ figures_in s hour) × UnitFound s unit at }
-    ensures { Answered s (Q.executed unit hour) result }
-{
-    let j = judge_unit(s, at, unit, hour);
-    if let Ruling::No(row, of) = j {
-        return refused(row, of);
-    }
-    let energies = x.executed;
-    let executed = energies[at];
-    number(executed)
+    reply(s, Energy::Matched, unit, hour)
 }
 
 // "and executed energy": 2, 4, 5, 6.
-pub fn executed(s: Session, unit: u32, hour: u32) -> Response
-    ensures { Answered s (Q.executed unit hour) result }
+pub fn executed(s: &Session, unit: u32, hour: u32) -> Response
+    ensures { Answered s.now (Q.executed unit hour) result }
 {
-    let x = figures_at(s, hour);
-    let at = unit_at(s, unit);
-    executed_from(s, x, at, unit, hour)
+    reply(s, Energy::Executed, unit, hour)
 }

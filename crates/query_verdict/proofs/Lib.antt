@@ -1,1 +1,2 @@
+pub mod HalvingLaws
 pub mod VerdictLaws

@@ -1,16 +1,14 @@
 -- Verdicts at the lodgements' indices, and what they are told as.
-use Prim.Native.Nat.{ℕ, zero, suc, ◌≤◌, ◌<◌}
+use Prim.Native.Nat.{ℕ, zero, suc, ◌<◌}
 use mathlib.Core.Path.{◌≡◌, refl, ap, sym, ◌∙◌}
 use mathlib.Core.Bool.{Bool, true, false, cond, not}
 use mathlib.Core.List.{List, [], ◌∷◌, map}
-use mathlib.Core.Option.{none as nothing}
 use native.Mathlib.Omega.{arith}
 use lib.Dec.{eqb}
 use lib.ListN.{length, get_or, take, length-map}
-use lib.Seq.{get_or-take}
-use borrow.Author.Tests.{eqb-true, not-true, lt-ltb, le-ltb}
+use borrow.Author.Tests.{eqb-true, not-true, ltb-true, lt-ltb}
 use Rattle.rules.specs.Lists.{All, none, more, Pairwise, empty, ahead, first}
-use Rattle.rules.specs.Refusals.{Row, row, limit_row, first_row, unless, outcome}
+use Rattle.rules.specs.Refusals.{Row, row, limit_row, first_row}
 use Rattle.rules.specs.Units.{unit_of}
 use Rattle.rules.specs.Lodging as L
 use Rattle.rules.specs.Book.{Book, lines_of, limits_of}
@@ -18,22 +16,31 @@ use Rattle.rules.specs.Judging.{judge_each}
 use Rattle.rules.specs.Closing as C
 use Rattle.rules.specs.Queries as Q
 use Rattle.rules.specs.Queries.{is_standing}
-use Rattle.rules.proofs.BoolLaws.{by_bool, of-not}
+use Rattle.rules.proofs.BoolLaws.{by_bool}
 use Rattle.rules.proofs.ListLaws.{all-at, first_passes, all-mapped}
 use Rattle.rules.proofs.CeilingLaws.{limits-numbered}
 use Rattle.session.specs.Bare.{bare_verdict}
 use Rattle.session.specs.Laid.{pad}
 use Rattle.session.specs.Image.{image, Sound, verdicts_in, verdict_as, no_verdict, no_lodgement, lodgement_as}
-use Rattle.session.specs.Parts.{index_of}
+use Rattle.session.specs.Parts.{Within, within, index_of, given_by}
 use Rattle.session.specs.declared.Session.{Session}
 use Rattle.session.specs.declared.Lodgement.{Lodgement}
-use Rattle.session.specs.declared.Verdict.{Verdict}
-use Rattle.session.proofs.IndexLaws.{indexed, unindexed, index-first, index-map, get_or-map}
-use Rattle.session.proofs.ImageLaws.{closed-as, standing-as, lodgements-as}
-use Rattle.answer.specs.Told.{shown, value_told, verdict_told, refused}
-use Rattle.answer.specs.declared.Response.{Response}
-use Rattle.query.specs.Replies.{Answered}
-use Rattle.query_verdict.specs.Parts.{lodged, number_at, Rising, told_as, verdict_index, verdict_at}
+use Rattle.session.proofs.IndexLaws.{indexed, unindexed, index-first, index-map, get_or-map, position-as}
+use Rattle.session.proofs.ImageLaws.{closed-as, lodgements-as}
+use Rattle.answer.specs.Told.{value_told, verdict_told}
+use Rattle.std.specs.declared.option.Option.{Option}
+use Rattle.std.specs.declared.option.Option.TheVariants.{Some, None}
+use Rattle.std.specs.declared.result.Result.{Result}
+use Rattle.std.specs.declared.result.Result.TheVariants.{Ok, Err}
+use Rattle.std.specs.Option.{ok_or}
+use Rattle.std.specs.Prelude.{IfSome, IfOk}
+use Rattle.std.specs.List.{position}
+use Rattle.std.proofs.lemmas.Option.{none-some, cond_some}
+use Rattle.rules.specs.declared.row.Row as Code
+use Rattle.rules.specs.declared.row.Row.TheVariants.{Gate, Absent}
+use Rattle.query.specs.Parts.{Judges}
+use Rattle.query.proofs.RowLaws.{unsound}
+use Rattle.query_verdict.specs.Parts.{lodged, number_at, Rising, told_as, VerdictFits}
 use Rattle.query.proofs.FigureLaws.{pad-at}
 
 -- A limit's number is never 0
@@ -101,72 +108,88 @@ numbers-rise (ahead a t) zero (suc j) l h = all-at j blank a (omega arith)
 numbers-rise (ahead a t) (suc i) (suc j) l h = numbers-rise t i j (omega arith) (omega arith)
 
 module _ (s : Session) (b : Book) (e : s ≡ image b) where
-  number-as : (i : ℕ) → i < s.standing → number_at s i ≡ (get_or b.standing i blank).number
+  abbrev standing : List Lodgement
+  standing = take s.standing s.lodgements
+
+  number-as : (i : ℕ) → i < length b.standing → number_at standing i ≡ (get_or b.standing i blank).number
   number-as i h =
       ap (λ (l : Lodgement). l.number)
-      (sym (get_or-take s.standing s.lodgements i no_lodgement h)
-      ∙ ap (λ (ls : List Lodgement). get_or ls i no_lodgement) (lodgements-as s b e)
-      ∙ get_or-map lodgement_as blank no_lodgement b.standing i (omega (arith, h, standing-as s b e)))
+      (ap (λ (ls : List Lodgement). get_or ls i no_lodgement) (lodgements-as s b e) ∙ get_or-map lodgement_as blank no_lodgement b.standing i h)
+
+  long : length standing ≡ length b.standing
+  long = ap length (lodgements-as s b e) ∙ length-map b.standing lodgement_as
 
   -- a sound book's lodgements stand by rising number
-  pub rises : Sound b → Rising s
-  rises sound i j l h = rw (number-as i (omega arith), number-as j h) (numbers-rise sound.ranges.standing.rising i j l (omega (arith, h, standing-as s b e)))
+  pub rises : Sound b → Rising standing
+  rises sound i j l h = rw (number-as i (omega (arith, long)), number-as j (omega (arith, long))) (numbers-rise sound.ranges.standing.rising i j l (omega (arith, h, long)))
 
-  index-among : (n : ℕ) → index_of (lodged n) (take s.standing s.lodgements) ≡ index_of (has_number n) b.standing
+  index-among : (n : ℕ) → index_of (lodged n) standing ≡ index_of (has_number n) b.standing
   index-among n = rw (lodgements-as s b e) (index-map lodgement_as (lodged n) b.standing)
 
   verdicts-list : s.closed ≡ true → s.verdicts ≡ pad 128 no_verdict (map verdict_as (C.verdicts b))
   unfolding image verdicts_in
   verdicts-list k = let c = closed-as s b e ∙ k in rw (e, c)
 
-  -- the verdict at its index is the number's
-  pub verdict-as : (n at : ℕ) → s.closed ≡ true → is_standing b n ≡ true → at ≡ index_of (lodged n) (take s.standing s.lodgements)
-      → get_or s.verdicts at bare_verdict ≡ verdict_as (C.verdict_among (C.judgements b) n)
-  verdict-as n at k h q = rw (verdicts-list k, q, index-among n) (verdict-at b n h)
+  module _ (n : ℕ) where
+    -- a number that is looked for and found stands, and one that is not does not
+    stands : (at : ℕ) → position (lodged n) standing ≡ Some at → (is_standing b n ≡ true) × (at ≡ index_of (has_number n) b.standing)
+    unfolding is_standing
+    stands at h =
+        let c = cond_some _ _ at (sym (position-as (lodged n) standing) ∙ h) in
+        let inside = ltb-true (index_of (lodged n) standing) (length standing) c.0 in (
+          by_bool (is_standing b n) (λ t. t) (λ t. absurd (omega (arith, inside, long, index-among n, unindexed (has_number n) b.standing t))),
+          sym c.1 ∙ index-among n,
+        )
 
--- an index of a lodgement is its verdict's
-pub index-low : (at : ℕ) → at ≤ 127 → verdict_index at ≡ at
-unfolding verdict_index
-index-low at h = rw (le-ltb 127 at h)
+    absent : position (lodged n) standing ≡ None → is_standing b n ≡ false
+    unfolding is_standing
+    absent h =
+        by_bool (is_standing b n)
+        (λ t.
+        let inside : index_of (lodged n) standing < length standing = omega (arith, index-among n, long, indexed (has_number n) b.standing t) in
+        absurd (none-some (index_of (lodged n) standing) (sym h ∙ (position-as (lodged n) standing ∙ rw (lt-ltb _ _ inside) refl))))
+        (λ t. t)
 
-pub index-high : (at : ℕ) → 127 < at → 0 ≡ verdict_index at
-unfolding verdict_index
-index-high at h = rw (lt-ltb 127 at h)
+    -- the verdict at its index is the number's
+    verdict-as : (at : ℕ) → s.closed ≡ true → position (lodged n) standing ≡ Some at → get_or s.verdicts at bare_verdict ≡ verdict_as (C.verdict_among (C.judgements b) n)
+    verdict-as at k h = let q = stands at h in rw (verdicts-list k, q.1) (verdict-at b n q.0)
 
 -- The ways out
 
-pub verdict-2 : (s : Session) (n : ℕ) → (r : Response) → r ≡ refused 2 0 → s.closed ≡ false → Answered s (Q.verdict n) r
-unfolding shown Q.query Q.query_rows outcome unless row first_row
-verdict-2 s n r q k b sound e = rw (closed-as s b e, k) q
+module _ (s : Session) (n : ℕ) where
+  -- a judgement of a lodging number is the table's
+  abbrev Judged : Result ℕ Code.Row → Type 0
+  Judged j = Judges s (Q.verdict n) j
 
-module _ (s : Session) (n at : ℕ) (found : Rising s → at ≡ index_of (lodged n) (take s.standing s.lodgements)) (k : s.closed ≡ true) where
-  module _ (b : Book) (sound : Sound b) (e : s ≡ image b) where
-    index : at ≡ index_of (lodged n) (take s.standing s.lodgements)
-    index = found (rises s b e sound)
+  pub verdict-unsound : within s ≡ false → Judged (Err Gate)
+  verdict-unsound w b sound e = unsound s w b sound e
 
-    -- the number stands exactly if its index is one of the lodgements'
-    stands-below : is_standing b n ≡ true → at < s.standing
-    unfolding is_standing
-    stands-below t = omega (arith, index, index-among s b e n, indexed (has_number n) b.standing t, standing-as s b e)
+  pub verdict-2 : s.closed ≡ false → Judged (Err Gate)
+  unfolding Q.query_rows row first_row given_by
+  verdict-2 k b sound e = rw (closed-as s b e, k)
 
-    below-stands : at < s.standing → is_standing b n ≡ true
-    unfolding is_standing
-    below-stands h =
-        by_bool (is_standing b n) (λ t. t)
-        (λ t. absurd (omega (arith, index, index-among s b e n, unindexed (has_number n) b.standing t, standing-as s b e)))
+  module _ (k : s.closed ≡ true) where
+    verdict-13 : (Rising (take s.standing s.lodgements) → position (lodged n) (take s.standing s.lodgements) ≡ None) → Judged (Err Absent)
+    unfolding Q.query_rows row first_row given_by
+    verdict-13 h b sound e = rw (absent s b e n (h (rises s b e sound)), closed-as s b e, k)
 
-  pub verdict-13 : (r : Response) → r ≡ refused 13 0 → s.standing ≤ at → Answered s (Q.verdict n) r
-  unfolding shown Q.query Q.query_rows outcome unless row first_row
-  verdict-13 r q h b sound e =
-      rw (of-not (is_standing b n) (λ t. absurd (omega (arith, h, stands-below b sound e t))), closed-as s b e, k) q
+    verdict-0 : (at : ℕ) → (Rising (take s.standing s.lodgements) → position (lodged n) (take s.standing s.lodgements) ≡ Some at) → Judged (Ok at)
+    unfolding Q.query_rows row first_row given_by
+    verdict-0 at h b sound e = rw ((stands s b e n at (h (rises s b e sound))).0, closed-as s b e, k)
 
-  no_row : (b : Book) → Sound b → s ≡ image b → at < s.standing → first_row (Q.query_rows b (Q.verdict n)) ≡ nothing
-  unfolding Q.query_rows row first_row
-  no_row b sound e h = rw (below-stands b sound e h, closed-as s b e, k)
+    -- the number that was looked for is found, or refused
+    pub verdict-found : (o : Option ℕ) → (Rising (take s.standing s.lodgements) → o ≡ position (lodged n) (take s.standing s.lodgements)) → Judged (ok_or o Absent)
+    verdict-found None h = verdict-13 (λ r. sym (h r))
+    verdict-found (Some at) h = verdict-0 at (λ r. sym (h r))
 
-  pub verdict-told : at < s.standing → at ≤ 127 → (v : Verdict) → v ≡ verdict_at s at → (r : Response) → r ≡ told_as v → Answered s (Q.verdict n) r
-  unfolding Q.query Q.shown outcome unless shown value_told
-  verdict-told h low v w r q b sound e =
-      q ∙ ap told_as (w ∙ ap (λ i. get_or s.verdicts i bare_verdict) (index-low at low) ∙ verdict-as s b e n at k (below-stands b sound e h) (index b sound e))
-      ∙ told-as (C.verdict_among (C.judgements b) n) (among-numbered b n)
-      ∙ sym (ap (λ o. shown (unless o (Q.shown b (Q.verdict n)))) (no_row b sound e h))
+pub found-fits : (s : Session) (n : ℕ) → Within s → s.closed ≡ true → (o : Option ℕ) → IfSome o (λ at. at < length (take s.standing s.lodgements))
+    → (Rising (take s.standing s.lodgements) → o ≡ position (lodged n) (take s.standing s.lodgements)) → IfOk (ok_or o Absent) (λ at. VerdictFits s n at)
+found-fits s n w k None l h = tt
+found-fits s n w k (Some at) l h = record { within = w; closed = k; inside = l; found = λ r. sym (h r) }
+
+-- what is read there is what the query is to show
+pub verdict-shown : (s : Session) (n at : ℕ) → VerdictFits s n at → (b : Book) → Sound b → s ≡ image b
+    → told_as (get_or s.verdicts at bare_verdict) ≡ value_told (Q.shown b (Q.verdict n))
+unfolding Q.shown value_told
+verdict-shown s n at f b sound e =
+    ap told_as (verdict-as s b e n at f.closed (f.found (rises s b e sound))) ∙ told-as (C.verdict_among (C.judgements b) n) (among-numbered b n)

@@ -1,8 +1,7 @@
 -- What the parts of a verdict's query promise to each other.
-use Rattle.std.specs.Prelude.{ℕ, ◌<◌, Bool, cond, ◌≡◌, eqb, ltb, get_or, take}
-use Rattle.session.specs.Bare.{bare_verdict}
+use Rattle.std.specs.Prelude.{ℕ, ◌<◌, Bool, true, cond, ◌≡◌, List, length, eqb, get_or, take, position, Some}
 use Rattle.session.specs.Image.{no_lodgement}
-use Rattle.session.specs.Parts.{Within, index_of}
+use Rattle.session.specs.Parts.{Within}
 use Rattle.session.specs.declared.Session.{Session}
 use Rattle.session.specs.declared.Lodgement.{Lodgement}
 use Rattle.session.specs.declared.Verdict.{Verdict}
@@ -13,28 +12,19 @@ use Rattle.answer.specs.declared.Response.{Response}
 abbrev pub lodged : ℕ → Lodgement → Bool
 lodged n l = eqb l.number n
 
--- the index of a lodging number among the standing ones, or their number
-abbrev pub lodged_index : Session → ℕ → ℕ
-lodged_index s n = index_of (lodged n) (take s.standing s.lodgements)
+-- the numbers of some lodgements rise, as those of a sound book's standing ones do
+abbrev pub number_at : List Lodgement → ℕ → ℕ
+number_at ls i = (get_or ls i no_lodgement).number
 
--- the standing lodgements' numbers rise, as those of a sound book do
-abbrev pub number_at : Session → ℕ → ℕ
-number_at s i = (get_or s.lodgements i no_lodgement).number
+abbrev pub Rising : List Lodgement → Type 0
+Rising ls = (i j : ℕ) → i < j → j < length ls → number_at ls i < number_at ls j
 
-abbrev pub Rising : Session → Type 0
-Rising s = (i j : ℕ) → i < j → j < s.standing → number_at s i < number_at s j
-
--- where a lodging number was looked for
-abbrev pub LodgedFound : Session → ℕ → ℕ → Type 0
-LodgedFound s n at = Within s → Rising s → at ≡ lodged_index s n
-
--- the index of a verdict; beyond the lodgements' indices, the first
-unfoldable pub verdict_index : ℕ → ℕ
-verdict_index at = cond (ltb 127 at) 0 at
-
--- the verdict at a lodgement's index
-abbrev pub verdict_at : Session → ℕ → Verdict
-verdict_at s at = get_or s.verdicts (verdict_index at) bare_verdict
+-- what no row refuses: a lodging number that stands, of a closed gate; its verdict has this index
+pub record VerdictFits (s : Session) (number at : ℕ) : Type 0 where
+  pub within : Within s
+  pub closed : s.closed ≡ true
+  pub inside : at < length (take s.standing s.lodgements)
+  pub found : Rising (take s.standing s.lodgements) → position (lodged number) (take s.standing s.lodgements) ≡ Some at
 
 -- what a verdict is told as
 unfoldable pub told_as : Verdict → Response

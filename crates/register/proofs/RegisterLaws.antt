@@ -7,7 +7,9 @@ use mathlib.Core.Option.{none}
 use native.Mathlib.Omega.{arith}
 use lib.ListN.{take, length, get_or, set, length-map}
 use borrow.Author.Tests.{le-leb, lt-leb}
+use Rattle.std.specs.List.{list_any}
 use Rattle.rules.specs.Lists.{any}
+use Rattle.rules.proofs.ListLaws.{any-list}
 use Rattle.rules.specs.Refusals.{row, first_row}
 use Rattle.rules.specs.Units as U
 use Rattle.rules.specs.Book as B
@@ -15,10 +17,13 @@ use Rattle.rules.specs.DayBook as D
 use Rattle.session.specs.Image.{image, verdicts_in, hours_in, unit_as, unit_of, notice_of, notice_as, no_unit, no_notice}
 use Rattle.session_changes.specs.Changes.{with_registry}
 use Rattle.answer.specs.Told.{told, is_refusal, accepted}
-use Rattle.session.specs.Parts.{number_is, Judges, Entered}
+use Rattle.session.specs.Parts.{number_is, JudgesRow, given_by, Entered}
 use Rattle.register.specs.Registry.{beside_unit}
 use Rattle.session.specs.declared.Session.{Session}
-use Rattle.session.specs.declared.Ruling.TheVariants.{No, Clear}
+use Rattle.std.specs.declared.result.Result.{Result}
+use Rattle.std.specs.declared.result.Result.TheVariants.{Ok, Err}
+use Rattle.rules.specs.declared.row.Row as Code
+use Rattle.rules.specs.declared.row.Row.TheVariants.{Gate, Range, Taken, Second, Full}
 use Rattle.session.proofs.LaidLaws.{any_from, any-start, any_step, any-end, any-map, map_last, length_last, set-pad}
 use Rattle.session.proofs.StepLaws.{open_row}
 use Rattle.session.proofs.SoundLaws.{open-stage}
@@ -29,58 +34,48 @@ second-as : (s : Session) (b : B.Book) → s ≡ image b → (u : U.TradingUnit)
 unfolding D.is_second
 second-as s b e u = rw (units-as s b e) (sym (any-map unit_of (beside_unit u) b.units))
 
--- A pass over the units: what was found so far, and what is found from index i on
-
-pub found-start : {A : Type 0} (p : A → Bool) (l : List A) (n : ℕ) → (false || any_from p l n 0) ≡ any p (take n l)
-found-start p l n = any-start p l n
-
-module _ {A : Type 0} (p : A → Bool) (l : List A) (n i : ℕ) where
-  pub found-next : (d : A) (t : Bool) {a v r : Bool} → i < n → i < length l → v ≡ p (get_or l i d) → r ≡ (t || v) → (t || any_from p l n i) ≡ a → (r || any_from p l n (i + 1)) ≡ a
-  found-next d true h k q e f = rw e f
-  found-next d false h k q e f = rw (e, q) (sym (any_step p d l n i h k) ∙ f)
-
-  pub found-end : {a : Bool} (t : Bool) → min n (length l) ≤ i → (t || any_from p l n i) ≡ a → t ≡ a
-  found-end true h f = f
-  found-end false h f = sym (any-end p l n i h) ∙ f
-
 module _ (s : Session) (u : U.TradingUnit) where
   abbrev call : D.Call
   call = D.register u
+
+  -- the judgement is the table's
+  abbrev Judged : Result (Unit {0}) Code.Row → Type 0
+  Judged j = JudgesRow s call j
 
   abbrev bad : Bool
   bad = U.bad_unit u
 
   abbrev taken : Bool
-  taken = any (number_is u.number) (take s.enrolled s.units)
+  taken = list_any (number_is u.number) (take s.enrolled s.units)
 
   abbrev second : Bool
-  second = any (beside_unit u) (take s.enrolled s.units)
+  second = list_any (beside_unit u) (take s.enrolled s.units)
 
-  pub register-2 : s.closed ≡ true → Judges s call (No 2 0)
-  unfolding D.rows_of D.gate_row D.call_rows D.change_row row first_row
+  pub register-2 : s.closed ≡ true → Judged (Err Gate)
+  unfolding D.rows_of D.gate_row D.call_rows D.change_row row first_row given_by
   register-2 h b e = rw (closed-as s b e, h)
 
-  pub register-5 : s.closed ≡ false → bad ≡ true → Judges s call (No 5 0)
-  unfolding D.rows_of D.gate_row D.call_rows D.change_row row first_row
+  pub register-5 : s.closed ≡ false → bad ≡ true → Judged (Err Range)
+  unfolding D.rows_of D.gate_row D.call_rows D.change_row row first_row given_by
   register-5 h k b e = rw (k, closed-as s b e, h)
 
-  pub register-7 : s.closed ≡ false → bad ≡ false → taken ≡ true → Judges s call (No 7 0)
-  unfolding D.rows_of D.gate_row D.call_rows D.change_row row first_row
-  register-7 h k t b e = rw (k, registered-as s b e u.number, t, closed-as s b e, h)
+  pub register-7 : s.closed ≡ false → bad ≡ false → taken ≡ true → Judged (Err Taken)
+  unfolding D.rows_of D.gate_row D.call_rows D.change_row row first_row given_by
+  register-7 h k t b e = rw (k, registered-as s b e u.number, any-list (number_is u.number) (take s.enrolled s.units), t, closed-as s b e, h)
 
-  pub register-8 : s.closed ≡ false → bad ≡ false → taken ≡ false → second ≡ true → Judges s call (No 8 0)
-  unfolding D.rows_of D.gate_row D.call_rows D.change_row row first_row
-  register-8 h k t g b e = rw (k, registered-as s b e u.number, t, second-as s b e u, g, closed-as s b e, h)
+  pub register-8 : s.closed ≡ false → bad ≡ false → taken ≡ false → second ≡ true → Judged (Err Second)
+  unfolding D.rows_of D.gate_row D.call_rows D.change_row row first_row given_by
+  register-8 h k t g b e = rw (k, registered-as s b e u.number, any-list (number_is u.number) (take s.enrolled s.units), t, second-as s b e u, any-list (beside_unit u) (take s.enrolled s.units), g, closed-as s b e, h)
 
-  pub register-9 : s.closed ≡ false → bad ≡ false → taken ≡ false → second ≡ false → 64 ≤ s.enrolled → Judges s call (No 9 0)
-  unfolding D.rows_of D.gate_row D.call_rows D.change_row D.units_full row first_row
+  pub register-9 : s.closed ≡ false → bad ≡ false → taken ≡ false → second ≡ false → 64 ≤ s.enrolled → Judged (Err Full)
+  unfolding D.rows_of D.gate_row D.call_rows D.change_row D.units_full row first_row given_by
   register-9 h k t g f b e =
-      rw (k, registered-as s b e u.number, t, second-as s b e u, g, enrolled-as s b e, le-leb 64 s.enrolled f, closed-as s b e, h)
+      rw (k, registered-as s b e u.number, any-list (number_is u.number) (take s.enrolled s.units), t, second-as s b e u, any-list (beside_unit u) (take s.enrolled s.units), g, enrolled-as s b e, le-leb 64 s.enrolled f, closed-as s b e, h)
 
-  pub register-0 : s.closed ≡ false → bad ≡ false → taken ≡ false → second ≡ false → s.enrolled < 64 → Judges s call Clear
-  unfolding D.rows_of D.gate_row D.call_rows D.change_row D.units_full row first_row
+  pub register-0 : s.closed ≡ false → bad ≡ false → taken ≡ false → second ≡ false → s.enrolled < 64 → Judged (Ok tt)
+  unfolding D.rows_of D.gate_row D.call_rows D.change_row D.units_full row first_row given_by
   register-0 h k t g f b e =
-      rw (k, registered-as s b e u.number, t, second-as s b e u, g, enrolled-as s b e, lt-leb 64 s.enrolled f, closed-as s b e, h)
+      rw (k, registered-as s b e u.number, any-list (number_is u.number) (take s.enrolled s.units), t, second-as s b e u, any-list (beside_unit u) (take s.enrolled s.units), g, enrolled-as s b e, lt-leb 64 s.enrolled f, closed-as s b e, h)
 
   abbrev pub with_unit : Session
   with_unit = with_registry s (s.enrolled + 1) (set s.units s.enrolled (unit_as u)) (set s.notices s.enrolled no_notice)

@@ -1,15 +1,11 @@
 // What stands in the cells of the tables.
-use answer::{FIGURE, Response};
+use answer::{Kind, Response};
 use calendar::Date;
 use std::fmt;
 
 // A reply's number; no other reply has one.
 pub fn number_in(r: Response) -> Option<i64> {
-    if r.kind == FIGURE {
-        Some(r.value)
-    } else {
-        None
-    }
+    (r.kind() == Some(Kind::Figure)).then_some(r.value)
 }
 
 // A number, or "-", as for a maximum without capacity.

@@ -157,3 +157,9 @@ module _ (H : ℕ) (c : Clock) where
 -- "Name plus mark gives back the hour"
 pub hour-back : (H h : ℕ) → 1 ≤ h → h ≤ H → hour_of H (clock_of H h) ≡ h
 hour-back H h a b = hour-is H (clock_of H h) h a b refl
+
+-- the days of a year before a month fit any word
+pub ruleset before_laws = (before-most)
+
+-- a day has 23 to 25 hours
+pub ruleset length_laws = (hours-least, hours-most)

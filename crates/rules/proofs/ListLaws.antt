@@ -9,6 +9,7 @@ use native.Mathlib.Nat.{not-suc-le-zero, le_of_suc-le-suc, eq-or-lt_of_le}
 use lib.Dec.{eqb}
 use lib.ListN.{length, take, drop, get_or, replicate, get_or-eq_default}
 use borrow.Author.Tests.{eqb-true, not-false}
+use Rattle.std.specs.List.{list_any, filter}
 use Rattle.rules.specs.Lists.{All, none, more, keep, any, first, from, hourly}
 use Rattle.rules.proofs.BoolLaws.{by_bool, not-both, neither, of-neither}
 
@@ -238,3 +239,17 @@ hourly-suc xs i = let e : suc i - 1 ≡ i = omega arith in rw e
 -- and hours beyond the list have 0
 pub hourly-beyond : (xs : List ℕ) (i : ℕ) → length xs ≤ i → hourly xs (suc i) ≡ 0
 hourly-beyond xs i h = hourly-suc xs i ∙ get_or-eq_default xs 0 h
+
+-- The library's words for what the rules say of lists
+
+pub any-list : {A : Type 0} (p : A → Bool) (xs : List A) → any p xs ≡ list_any p xs
+unfolding any
+any-list p [] = refl
+any-list p (x ∷ xs) = rw (any-list p xs) refl
+
+pub keep-list : {A : Type 0} (p : A → Bool) (xs : List A) → keep p xs ≡ filter p xs
+unfolding keep
+keep-list p [] = refl
+keep-list p (x ∷ xs) = rw (keep-list p xs) refl
+
+pub ruleset list_words = (any-list, keep-list)

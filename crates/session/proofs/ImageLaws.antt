@@ -2,25 +2,29 @@
 use Prim.Native.Nat.{ℕ, ◌-◌, ◌≤◌, ◌<◌}
 use mathlib.Core.Path.{◌≡◌, refl, sym, ap, ◌∙◌}
 use native.Mathlib.Omega.{arith}
-use mathlib.Core.Bool.{true}
+use mathlib.Core.Bool.{true, false}
 use mathlib.Core.List.{List, map}
 use lib.Dec.{leb, ltb}
-use lib.ListN.{length, take, get_or, replicate, length-map, length-append}
+use lib.ListN.{length, take, get_or, replicate, length-map, length-append, length-take}
 use lib.Seq.{get_or-take}
-use borrow.Author.Tests.{le-leb, leb-true}
+use borrow.Author.Tests.{le-leb, leb-true, ltb-true}
 use Rattle.rules.specs.Lists.{any}
 use Rattle.rules.specs.Units as U
 use Rattle.rules.specs.Book as B
-use Rattle.rules.proofs.BoolLaws.{both}
+use Rattle.std.proofs.lemmas.Option.{none-some, cond_some}
+use Rattle.rules.proofs.BoolLaws.{both, by_bool}
 use Rattle.rules.proofs.HoursLaws.{hours-most}
 use Rattle.session.specs.Laid.{pad}
 use Rattle.session.specs.Image.{image, unit_of, notice_of, notice_as, lodgement_as, energies_as, no_unit, no_notice, no_lodgement, no_energies, Sound}
-use Rattle.session.specs.Parts.{Within, within, number_is, index_of}
+use Rattle.session.specs.Parts.{Within, within, number_is, index_of, held}
+use Rattle.session.specs.declared.Holder.{Holder}
+use Rattle.std.specs.Prelude.{Some, None}
+use mathlib.Core.Bool.{cond}
 use Rattle.session.specs.declared.Session.{Session}
 use Rattle.session.specs.declared.Unit.{Unit}
 use Rattle.session.specs.declared.Notice.{Notice}
 use Rattle.session.proofs.LaidLaws.{take-pad, any-map}
-use Rattle.session.proofs.IndexLaws.{index-first, index-any, index-map, get_or-map}
+use Rattle.session.proofs.IndexLaws.{index-first, index-any, index-map, get_or-map, position-as}
 
 -- The guard
 
@@ -127,3 +131,42 @@ module _ (s : Session) (b : B.Book) (e : s ≡ image b) where
         sym (get_or-take s.enrolled s.notices p d in_List)
         ∙ (ap (λ (l : List Notice). get_or l p d) notices-as
         ∙ (get_or-map notice_of U.nobody d b.units p within-list ∙ ap notice_of (sym here)))
+
+  module _ (n : ℕ) where
+    abbrev first-at : ℕ
+    first-at = index_of (number_is n) (take s.enrolled s.units)
+
+    long : length (take s.enrolled s.units) ≡ s.enrolled
+    long = omega (arith, length-take s.enrolled s.units, units-fit)
+
+    abbrev first-holder : Holder
+    first-holder = record { at = first-at; unit = get_or (take s.enrolled s.units) first-at no_unit }
+
+    held-as : held (take s.enrolled s.units) n ≡ cond (ltb first-at s.enrolled) (Some first-holder) None
+    held-as = rw (position-as (number_is n) (take s.enrolled s.units), long) (by_bool (ltb first-at s.enrolled) (λ t. rw t refl) (λ t. rw t refl))
+
+    pub holder-none : held (take s.enrolled s.units) n ≡ None → U.is_registered b.units n ≡ false
+    holder-none h =
+        registered-at n first-at refl
+        ∙ by_bool (ltb first-at s.enrolled) (λ t. absurd (none-some first-holder (sym h ∙ (held-as ∙ ap (λ q. cond q (Some first-holder) None) t)))) (λ t. t)
+
+    module _ (x : Holder) (h : held (take s.enrolled s.units) n ≡ Some x) where
+      got : (ltb first-at s.enrolled ≡ true) × (first-holder ≡ x)
+      got = cond_some (ltb first-at s.enrolled) _ x (sym held-as ∙ h)
+
+      inside : first-at < s.enrolled
+      inside = ltb-true first-at s.enrolled got.0
+
+      pub holder-registered : U.is_registered b.units n ≡ true
+      holder-registered = registered-at n first-at refl ∙ got.0
+
+      pub holder-at : x.at ≡ first-at
+      holder-at = sym (ap (λ (y : Holder). y.at) got.1)
+
+      pub holder-inside : x.at < s.enrolled
+      holder-inside = rw holder-at inside
+
+      pub holder-unit : x.unit ≡ unit_of (U.unit_of b.units n)
+      holder-unit =
+          sym (ap (λ (y : Holder). y.unit) got.1)
+          ∙ (get_or-take s.enrolled s.units first-at no_unit inside ∙ unit-as n first-at refl inside no_unit)

@@ -1,7 +1,9 @@
 -- The index of the first element that passes a test.
 use Prim.Native.Nat.{ℕ, zero, suc, ◌+◌, ◌≤◌, ◌<◌}
 use mathlib.Core.Path.{◌≡◌, refl, sym, ap}
-use mathlib.Core.Bool.{Bool, true, false, false≢true}
+use mathlib.Core.Bool.{Bool, true, false, cond, false≢true}
+use Rattle.std.specs.Prelude.{Some, None}
+use Rattle.std.specs.List.{position, position_or_len}
 use mathlib.Core.List.{List, [], ◌∷◌, map}
 use native.Mathlib.Omega.{arith}
 use native.Mathlib.Numerals.{add-one}
@@ -76,3 +78,14 @@ module _ {A B : Type 0} (f : A → B) where
   get_or-map d e [] i h = absurd (omega arith)
   get_or-map d e (x ∷ xs) zero h = refl
   get_or-map d e (x ∷ xs) (suc i) h = get_or-map d e xs i (omega arith)
+
+-- The library's search: the same index, or none
+
+module _ {A : Type 0} (p : A → Bool) where
+  at-first : (xs : List A) → position_or_len p xs ≡ index_of p xs
+  unfolding index_of
+  at-first [] = refl
+  at-first (x ∷ xs) = by_bool (p x) (λ e. rw e) (λ e. rw (e, at-first xs) (omega arith))
+
+  pub position-as : (xs : List A) → position p xs ≡ cond (ltb (index_of p xs) (length xs)) (Some (index_of p xs)) None
+  position-as xs = rw (at-first xs) refl

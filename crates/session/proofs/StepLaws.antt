@@ -2,7 +2,7 @@
 use Prim.Native.Nat.{ℕ}
 use mathlib.Core.Path.{◌≡◌, refl, sym, ap, ◌∙◌}
 use mathlib.Core.Bool.{false, false≢true}
-use mathlib.Core.Option.{Option, some, none}
+use mathlib.Core.Option.{Option, some, none, some-ne-none, some-injective}
 use mathlib.Core.List.{List, ◌∷◌}
 use native.Mathlib.Omega.{arith}
 use Rattle.rules.proofs.RefusalLaws.{accepted-rows}
@@ -11,45 +11,45 @@ use Rattle.rules.specs.Refusals.{Row, row, first_row}
 use Rattle.rules.specs.Book.{Book}
 use Rattle.rules.specs.DayBook as D
 use Rattle.session.specs.Image.{image}
-use Rattle.answer.specs.Told.{told, refused}
+use Rattle.rules.specs.Rows.{number_of}
+use Rattle.answer.specs.Told.{told, refusal}
+use Rattle.answer.specs.declared.Refusal.{Refusal}
 use Rattle.session.specs.Steps.{Met, As}
-use Rattle.session.specs.Parts.{within, judgement, Judges, Entered, refused_with}
+use Rattle.session.specs.Parts.{within, given_by, Entered, refused_with}
 use Rattle.session.specs.declared.Session.{Session}
 use Rattle.session.specs.declared.Effect.{Effect}
-use Rattle.session.specs.declared.Ruling.TheVariants.{No, Clear}
 use Rattle.session.proofs.ImageLaws.{image-within}
 
-refused_as : (b : Book) (c : D.Call) (s : Session) (n h : ℕ) (o : Option Row) → No n h ≡ judgement o → s ≡ image b → As (D.effect_of b c o) (refused n h) s
-unfolding told D.effect_of
-refused_as b c s n h none q e = let z : ◌≡◌ {A = ℕ} 0 1 = cc in absurd (omega arith)
-refused_as b c s n h (some r) q e =
-    record { answer = let a : n ≡ r.number = cc in let d : h ≡ r.hour = cc in rw (a, d); session = e }
+refused_as : (b : Book) (c : D.Call) (s : Session) (x : Refusal) (o : Option Row) → some (number_of x.row, x.hour) ≡ given_by o → s ≡ image b → As (D.effect_of b c o) (refusal x) s
+unfolding told D.effect_of given_by
+refused_as b c s x none q e = absurd (some-ne-none _ q)
+refused_as b c s x (some r) q e =
+    let p = some-injective _ _ q in
+    record { answer = rw (ap (λ (t : ℕ × ℕ). t.0) p, ap (λ (t : ℕ × ℕ). t.1) p); session = e }
 
 -- refused: the judgement is the book's
-pub out-refused : (s : Session) (c : D.Call) (n h : ℕ) (r : Effect) → r ≡ refused_with s n h → Judges s c (No n h) → Met s c r
+pub out-refused : (s : Session) (c : D.Call) (x : Refusal) (r : Effect) → r ≡ refused_with s x → ((b : Book) → s ≡ image b → some (number_of x.row, x.hour) ≡ given_by (first_row (D.rows_of b c))) → Met s c r
 unfolding D.effect
-out-refused s c n h r q j =
-    rw q (record { book = λ b sound e. refused_as b c s n h (first_row (D.rows_of b c)) (j b e) e; kept = λ _. refl })
+out-refused s c x r q j =
+    rw q (record { book = λ b sound e. refused_as b c s x (first_row (D.rows_of b c)) (j b e) e; kept = λ _. refl })
 
 -- not a session that calls leave
-pub out-unsound : (s : Session) (c : D.Call) (n h : ℕ) (r : Effect) → r ≡ refused_with s n h → within s ≡ false → Met s c r
-out-unsound s c n h r q w =
+pub out-unsound : (s : Session) (c : D.Call) (x : Refusal) (r : Effect) → r ≡ refused_with s x → within s ≡ false → Met s c r
+out-unsound s c x r q w =
     rw q (record { book = λ b sound e. absurd (false≢true (sym w ∙ (ap within e ∙ image-within b sound))); kept = λ _. refl })
 
-clear_none : (o : Option Row) → Clear ≡ judgement o → o ≡ none
+pub clear_none : (o : Option Row) → none ≡ given_by o → o ≡ none
+unfolding given_by
 clear_none none q = refl
-clear_none (some r) q = let z : ◌≡◌ {A = ℕ} 0 1 = cc in absurd (omega arith)
+clear_none (some r) q = absurd (some-ne-none _ (sym q))
 
 -- accepted
-pub out-entered : (s : Session) (c : D.Call) (r : Effect) → Judges s c Clear → Entered s c r → Met s c r
+pub out-entered : (s : Session) (c : D.Call) (r : Effect) → ((b : Book) → s ≡ image b → none ≡ given_by (first_row (D.rows_of b c))) → Entered s c r → Met s c r
 unfolding D.effect D.effect_of
 out-entered s c r j n = record {
   book = λ b sound e. let o = clear_none (first_row (D.rows_of b c)) (j b e) in rw o (n.book b sound o e);
   kept = λ y. absurd (false≢true (sym n.fine ∙ y));
 }
-
-pub not-clear : {C : Type 0} (n h : ℕ) → No n h ≡ Clear → C
-not-clear n h q = let z : ◌≡◌ {A = ℕ} 0 1 = cc in absurd (omega arith)
 
 -- a change that no row refuses is before closing
 pub open_row : (b : Book) (rows : List Row) → first_row (D.change_row b ∷ rows) ≡ none → b.closed ≡ false

@@ -8,9 +8,9 @@ ghost use Rattle.session.specs.Image.{image, no_unit, no_notice, no_lodgement, n
 ghost use Rattle.session.specs.Steps.{Opens};
 ghost use Rattle.session.specs.Parts.{within, refused_with};
 
-use answer::Response;
+use answer::{Refusal, Response};
 use calendar::Date;
-use rules::row::DATE;
+use rules::row::Row;
 use rules::{DIRECTIONS, HOURS, LODGEMENTS, LONG_DAY, UNITS};
 
 pub mod units;
@@ -124,18 +124,11 @@ pub struct Session {
     pub reserved2: u32,
 }
 
-// The unit of a number, found once for all that ask about it: its index and itself; where there is none, the count and a blank unit.
+// The unit of a number, found once for all that ask about it: its index and itself.
 #[derive(Clone, Copy)]
 pub struct Holder {
     pub at: usize,
     pub unit: Unit,
-}
-
-// The first row of the refusal table that applies to a call, or none.
-#[derive(Clone, Copy)]
-pub enum Ruling {
-    No(u32, u32),
-    Clear,
 }
 
 // A call's answer, and the session that it leaves.
@@ -281,27 +274,19 @@ impl Session {
     pub fn sound(self) -> bool
         ensures { result ≡ within self }
     {
-        if LONG_DAY < self.hours {
-            return false;
-        }
-        if Self::MAX_UNITS < self.enrolled {
-            return false;
-        }
-        if Self::MAX_LODGEMENTS < self.standing {
-            return false;
-        }
-        self.last <= Self::MAX_NUMBER
+        self.hours <= LONG_DAY
+            && self.enrolled <= Self::MAX_UNITS
+            && self.standing <= Self::MAX_LODGEMENTS
+            && self.last <= Self::MAX_NUMBER
     }
 
     // A refused call hands the session back.
-    pub fn refused(self, number: u32, hour: u32) -> Effect
-        ensures { result ≡ refused_with self number hour }
+    pub fn refused(self, refusal: Refusal) -> Effect
+        ensures { result ≡ refused_with self refusal }
     {
-        let session = self;
-        let answer = answer::refused(number, hour);
         Effect {
-            session: session,
-            answer: answer,
+            session: self,
+            answer: Response::from(refusal),
         }
     }
 }
@@ -317,12 +302,12 @@ pub fn open(date: Date) -> Opened
             day: 1,
         };
         return Opened {
-            answer: answer::refused(DATE, 0),
+            answer: Response::from(Refusal::from(Row::Date)),
             session: Session::fresh(first),
         };
     }
     Opened {
-        answer: answer::accepted(),
+        answer: Response::accepted(),
         session: Session::fresh(date),
     }
 }

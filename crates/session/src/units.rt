@@ -1,41 +1,23 @@
 // Units by their numbers.
-ghost use Rattle.std.specs.Prelude.{◌≡◌, ◌≤◌, ◌<◌, take};
-ghost use Rattle.rules.specs.Units.{bad_number};
-ghost use Rattle.session.specs.Parts.{number_is, index_of, Holds};
+ghost use Rattle.std.specs.Prelude.{◌≡◌, position};
+ghost use Rattle.session.specs.Parts.{number_is, held};
 
-use crate::{Holder, Session, Unit, no_unit};
-use rules::UNITS;
+use crate::{Holder, Unit};
 
-// Numbers of units and agents are 1 to 65,535.
-pub fn bad_number(n: u32) -> bool
-    ensures { result ≡ bad_number n }
+// The index of the unit with this number.
+pub fn index(units: &[Unit], number: u32) -> Option<usize>
+    ensures { result ≡ position (number_is number) units.now }
 {
-    if n == 0 {
-        return true;
-    }
-    Session::MAX_NUMBER < n
+    units.iter().position(|u| u.number == number)
 }
 
-// The unit with this number among the first n.
-pub fn holder_of(units: [Unit; UNITS], n: usize, number: u32) -> Holder
-    requires { n ≤ 64 }
-    ensures { Holds units n number result }
+// The unit with this number.
+pub fn holder_of(units: &[Unit], number: u32) -> Option<Holder>
+    ensures { result ≡ held units.now number }
 {
-    for i in 0..n {
-        let u = units[i];
-        if u.number == number {
-            return Holder { at: i, unit: u };
-        }
-    }
-    let unit = no_unit();
-    Holder { at: n, unit: unit }
-}
-
-// Its index, or n.
-pub fn index(units: [Unit; UNITS], n: usize, number: u32) -> usize
-    requires { n ≤ 64 }
-    ensures { (result ≡ index_of (number_is number) (take n units)) × (result ≤ n) }
-{
-    let holder = holder_of(units, n, number);
-    holder.at
+    let at = index(units, number)?;
+    Some(Holder {
+        at,
+        unit: units[at],
+    })
 }

@@ -6,15 +6,10 @@ use mathlib.Core.List.{List, [], ◌∷◌}
 use native.Mathlib.Omega.{arith}
 use native.Mathlib.Numerals.{add-one}
 use lib.ListN.{length, get_or, set}
-use Rattle.session_changes.specs.Changes.{with_lodgements, with_registry, with_capacities, with_verdicts, with_figures, moved, moved_in, registry_effect, capacity_effect, standing_effect, closing_effect, clearing_effect}
+use Rattle.session_changes.specs.Changes.{with_lodgements, moved, moved_in}
 use Rattle.session.specs.declared.Lodgement.{Lodgement}
 use Rattle.session.specs.declared.Energies.{Energies}
 use Rattle.session.specs.declared.Session.{Session}
-use Rattle.session_changes.specs.declared.RegistryEffect.{RegistryEffect}
-use Rattle.session_changes.specs.declared.CapacityEffect.{CapacityEffect}
-use Rattle.session_changes.specs.declared.StandingEffect.{StandingEffect}
-use Rattle.session_changes.specs.declared.ClosingEffect.{ClosingEffect}
-use Rattle.session_changes.specs.declared.ClearingEffect.{ClearingEffect}
 
 -- Elements moved forward
 
@@ -64,38 +59,3 @@ module _ (s t : Session) (f i : ℕ) (e : t ≡ moved_in s f i) (h : f ≤ i) (k
       let a = moved_more d f i s.lodgements t.lodgements h (omega (arith, moved-long f i s.lodgements t.lodgements p)) p in
       let b = moved_more x f i s.energies t.energies h (omega (arith, moved-long f i s.energies t.energies q)) q in
       rw (a, b, e)
-
--- A effect by whether it changes anything
-
-module _ (s : Session) where
-  pub registry-still : (t : RegistryEffect) → t.change.changed ≡ false → record { session = s; answer = t.answer } ≡ registry_effect s t
-  registry-still t e = rw e
-
-  pub registry-changed : (t : RegistryEffect) → t.change.changed ≡ true
-      → record { session = with_registry s t.change.enrolled (set s.units t.change.at t.change.unit) (set s.notices t.change.at t.change.notice); answer = t.answer } ≡ registry_effect s t
-  registry-changed t e = rw e
-
-  pub capacities-still : (t : CapacityEffect) → t.change.changed ≡ false → record { session = s; answer = t.answer } ≡ capacity_effect s t
-  capacities-still t e = rw e
-
-  pub capacities-changed : (t : CapacityEffect) → t.change.changed ≡ true → record { session = with_capacities s t.change.capacities; answer = t.answer } ≡ capacity_effect s t
-  capacities-changed t e = rw e
-
-  pub standing-still : (t : StandingEffect) → t.change.changed ≡ false → record { session = s; answer = t.answer } ≡ standing_effect s t
-  standing-still t e = rw e
-
-  pub standing-changed : (t : StandingEffect) (m : Session) → m ≡ moved_in s t.change.from t.change.to → t.change.changed ≡ true
-      → record { session = with_lodgements m t.change.standing (set m.lodgements t.change.at t.change.lodgement) (set m.energies t.change.at t.change.energies) t.change.last; answer = t.answer } ≡ standing_effect s t
-  standing-changed t m q e = rw (q, e)
-
-  pub closing-still : (t : ClosingEffect) → t.change.changed ≡ false → record { session = s; answer = t.answer } ≡ closing_effect s t
-  closing-still t e = rw e
-
-  pub closing-changed : (t : ClosingEffect) → t.change.changed ≡ true → record { session = with_verdicts s true t.change.verdicts; answer = t.answer } ≡ closing_effect s t
-  closing-changed t e = rw e
-
-  pub clearing-still : (t : ClearingEffect) → t.change.changed ≡ false → record { session = s; answer = t.answer } ≡ clearing_effect s t
-  clearing-still t e = rw e
-
-  pub clearing-changed : (t : ClearingEffect) → t.change.changed ≡ true → record { session = with_figures s true t.change.figures; answer = t.answer } ≡ clearing_effect s t
-  clearing-changed t e = rw e

@@ -1,5 +1,5 @@
 -- What calls change of a session.
-use Rattle.std.specs.Prelude.{ℕ, zero, suc, ◌≤◌, ◌<◌, ◌≡◌, Bool, true, false, cond, List, [], ◌∷◌, set}
+use Rattle.std.specs.Prelude.{ℕ, zero, suc, ◌≤◌, ◌<◌, ◌≡◌, Bool, true, List, [], ◌∷◌, set}
 use Rattle.session.specs.declared.Notice.{Notice}
 use Rattle.session.specs.declared.Unit.{Unit}
 use Rattle.session.specs.declared.Lodgement.{Lodgement}
@@ -7,17 +7,11 @@ use Rattle.session.specs.declared.Energies.{Energies}
 use Rattle.session.specs.declared.Verdict.{Verdict}
 use Rattle.session.specs.declared.HourFigures.{HourFigures}
 use Rattle.session.specs.declared.Session.{Session}
-use Rattle.session.specs.declared.Effect.{Effect}
 use Rattle.session_changes.specs.declared.RegistryChange.{RegistryChange}
-use Rattle.session_changes.specs.declared.RegistryEffect.{RegistryEffect}
 use Rattle.session_changes.specs.declared.CapacityChange.{CapacityChange}
-use Rattle.session_changes.specs.declared.CapacityEffect.{CapacityEffect}
 use Rattle.session_changes.specs.declared.StandingChange.{StandingChange}
-use Rattle.session_changes.specs.declared.StandingEffect.{StandingEffect}
 use Rattle.session_changes.specs.declared.ClosingChange.{ClosingChange}
-use Rattle.session_changes.specs.declared.ClosingEffect.{ClosingEffect}
 use Rattle.session_changes.specs.declared.ClearingChange.{ClearingChange}
-use Rattle.session_changes.specs.declared.ClearingEffect.{ClearingEffect}
 
 -- Sessions with other parts
 
@@ -124,18 +118,16 @@ with_figures s cleared fs = record {
 -- Units and their notices
 
 abbrev pub registry_with : Session → RegistryChange → Session
-registry_with s c = cond c.changed (with_registry s c.enrolled (set s.units c.at c.unit) (set s.notices c.at c.notice)) s
+registry_with s c = with_registry s c.enrolled (set s.units c.at c.unit) (set s.notices c.at c.notice)
 
-abbrev pub registry_effect : Session → RegistryEffect → Effect
-registry_effect s t = record { session = registry_with s t.change; answer = t.answer }
+-- its index is one of the array
+abbrev pub Placed : RegistryChange → Type 0
+Placed c = c.at < 64
 
 -- Capacities
 
 abbrev pub capacities_with : Session → CapacityChange → Session
-capacities_with s c = cond c.changed (with_capacities s c.capacities) s
-
-abbrev pub capacity_effect : Session → CapacityEffect → Effect
-capacity_effect s t = record { session = capacities_with s t.change; answer = t.answer }
+capacities_with s c = with_capacities s c.capacities
 
 -- Standing lodgements
 
@@ -154,31 +146,18 @@ moved_in s from to = with_lodgements s s.standing (moved from to s.lodgements) (
 
 abbrev pub standing_with : Session → StandingChange → Session
 standing_with s c =
-    cond c.changed
-    (with_lodgements s c.standing (set (moved c.from c.to s.lodgements) c.at c.lodgement)
-    (set (moved c.from c.to s.energies) c.at c.energies) c.last)
-    s
+    with_lodgements s c.standing (set (moved c.from c.to s.lodgements) c.at c.lodgement) (set (moved c.from c.to s.energies) c.at c.energies) c.last
 
-abbrev pub standing_effect : Session → StandingEffect → Effect
-standing_effect s t = record { session = standing_with s t.change; answer = t.answer }
-
--- its indices are indices of the array, and where nothing changes, none goes forward
+-- its indices are indices of the array
 pub record Indexed (c : StandingChange) : Type 0 where
   pub forward : c.from ≤ c.to
   pub to : c.to < 128
   pub at : c.at < 128
-  pub still : c.changed ≡ false → c.from ≡ c.to
 
 -- Verdicts and figures
 
 abbrev pub closed_with : Session → ClosingChange → Session
-closed_with s c = cond c.changed (with_verdicts s true c.verdicts) s
-
-abbrev pub closing_effect : Session → ClosingEffect → Effect
-closing_effect s t = record { session = closed_with s t.change; answer = t.answer }
+closed_with s c = with_verdicts s true c.verdicts
 
 abbrev pub cleared_with : Session → ClearingChange → Session
-cleared_with s c = cond c.changed (with_figures s true c.figures) s
-
-abbrev pub clearing_effect : Session → ClearingEffect → Effect
-clearing_effect s t = record { session = cleared_with s t.change; answer = t.answer }
+cleared_with s c = with_figures s true c.figures

@@ -1,22 +1,19 @@
 use mathlib.Core.Path.{sym, ◌∙◌}
-use Rattle.session.proofs.StepLaws.{not-clear}
-use Rattle.annul.proofs.AnnulLaws.{annul-0, annul-2, annul-5, annul-6, annul-13}
+use Rattle.std.proofs.lemmas.Result.{err_from_is_err_and}
+use Rattle.annul.proofs.AnnulLaws.{annul-2, annul-5, annul-6, annul-last}
 use Rattle.annul.proofs.judge_annul.Goals as goal
 
-pub returns-then-s : goal.returns-then-s
-returns-then-s c = (annul-2 _ c.args.key c.if-s.true, not-clear _ _)
+pub returns-then-s-clause-judges : goal.returns-then-s-clause-judges
+returns-then-s-clause-judges c = annul-2 _ c.args.key c.if-s.true
 
-pub returns-then-bad_key : goal.returns-then-bad_key
-returns-then-bad_key c = (annul-5 _ c.args.key c.if-s.false (sym c.bad_key.ensures ∙ c.if-bad_key.true), not-clear _ _)
+pub returns-then-bad_key-clause-judges : goal.returns-then-bad_key-clause-judges
+returns-then-bad_key-clause-judges c = annul-5 _ c.args.key c.if-s.false (sym c.bad_key.ensures ∙ c.if-bad_key.true)
 
-pub holder_of-holder-requires : goal.holder_of-holder-requires
-holder_of-holder-requires c = c.requires.0.enrolled
+pub returns-in_err-holder_for-clause-judges : goal.returns-in_err-holder_for-clause-judges
+returns-in_err-holder_for-clause-judges c =
+    let p = err_from_is_err_and c.from_residual.result c.from_residual.ensures.1 in
+    rw (p.1, p.2) (annul-6 _ c.args.key c.if-s.false (sym c.bad_key.ensures ∙ c.if-bad_key.false) _ c.in_err-holder_for.ensures)
 
-pub returns-then-bad_holder : goal.returns-then-bad_holder
-returns-then-bad_holder c = (annul-6 _ c.args.key _ c.if-s.false (sym c.bad_key.ensures ∙ c.if-bad_key.false) c.bad_holder.ensures.0 c.if-bad_holder.true, not-clear _ _)
-
-pub returns-then-s-at : goal.returns-then-s-at
-returns-then-s-at c = (annul-13 _ c.args.key _ c.requires.1 _ c.if-s.false (sym c.bad_key.ensures ∙ c.if-bad_key.false) c.bad_holder.ensures.0 c.if-bad_holder.false c.if-s-at.true, not-clear _ _)
-
-pub returns : goal.returns
-returns c = (annul-0 _ c.args.key _ c.requires.1 _ c.if-s.false (sym c.bad_key.ensures ∙ c.if-bad_key.false) c.bad_holder.ensures.0 c.if-bad_holder.false c.if-s-at.false, λ _. c.if-s-at.false)
+pub returns-clause-judges : goal.returns-clause-judges
+returns-clause-judges c =
+    rw c.ok_or.ensures.value (annul-last _ c.args.key c.if-s.false (sym c.bad_key.ensures ∙ c.if-bad_key.false) c.in_ok-holder_for.ensures _ (sym c.key_index.ensures))

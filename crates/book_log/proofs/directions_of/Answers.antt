@@ -9,12 +9,12 @@ use Rattle.book_log.proofs.directions_of.Goals as goal
 
 pub loop-k-init : goal.loop-k-init
 unfolding from
-loop-k-init c = (omega arith, refl, refl)
+loop-k-init c = (refl, refl)
 
 pub loop-k-preserved : goal.loop-k-preserved
 unfolding direction_in
-loop-k-preserved c = (omega arith, (simp length-set) ∙ c.loop-k.invariant.1, indices-next published_in _ _ _ _ c.direction_at-x.ensures (omega arith) c.loop-k.invariant.2)
+loop-k-preserved c = ((simp length-set) ∙ c.loop-k.invariant.0, indices-next published_in _ _ _ _ c.direction_at.ensures (omega arith) c.loop-k.invariant.1)
 
 pub returns : goal.returns
 unfolding directions_of
-returns c = indices-end published_in _ _ _ _ (omega arith) c.loop-k.invariant.1 c.loop-k.invariant.2
+returns c = indices-end published_in _ _ _ _ (omega arith) c.loop-k.invariant.0 c.loop-k.invariant.1

@@ -1,4 +1,3 @@
-use Prim.Native.Nat.{◌≤◌, ◌-◌}
 use mathlib.Core.Path.{◌≡◌}
 use mathlib.Core.List.{map}
 use lib.ListN.{take, length}
@@ -8,7 +7,4 @@ use Rattle.book_log.specs.Calls.{direction_in}
 use Rattle.book_log.proofs.directions_of.Given as goal
 
 abbrev pub invariant-loop-k : goal.invariant-loop-k
-invariant-loop-k l = (l.k ≤ 8) × (length l.directions ≡ 8) × (map published_in (take l.k l.directions) ≡ map (direction_in l.p) (from 0 l.k))
-
-abbrev pub decreases-loop-k : goal.decreases-loop-k
-decreases-loop-k l = 8 - l.k
+invariant-loop-k l = (length l.direction-items ≡ 8) × (map published_in (take l.k l.direction-items) ≡ map (direction_in l.p) (from 0 l.k))

@@ -8,12 +8,12 @@ use Rattle.book_log.proofs.numbers_at.Goals as goal
 
 pub loop-k-init : goal.loop-k-init
 unfolding from
-loop-k-init c = (omega arith, refl, refl)
+loop-k-init c = (refl, refl)
 
 pub loop-k-preserved : goal.loop-k-preserved
 unfolding number_in
-loop-k-preserved c = (omega arith, (simp length-set) ∙ c.loop-k.invariant.1, filled_next _ _ _ _ c.number_at-x.ensures (omega arith) c.loop-k.invariant.2)
+loop-k-preserved c = ((simp length-set) ∙ c.loop-k.invariant.0, filled_next _ _ _ _ c.number_at.ensures (omega arith) c.loop-k.invariant.1)
 
 pub returns : goal.returns
 unfolding numbers_at
-returns c = filled-end _ _ _ _ (omega arith) c.loop-k.invariant.1 c.loop-k.invariant.2
+returns c = filled-end _ _ _ _ (omega arith) c.loop-k.invariant.0 c.loop-k.invariant.1

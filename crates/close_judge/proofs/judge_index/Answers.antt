@@ -1,5 +1,6 @@
 use native.Mathlib.Omega.{arith}
 use Rattle.session.specs.Image.{no_lodgement}
+use Rattle.session.specs.Parts.{said}
 use Rattle.judge_limits.proofs.IndexLaws.{indices-asked}
 use Rattle.close_judge.proofs.JudgeLaws.{held-index, judge-held}
 use Rattle.close_judge.proofs.judge_index.Goals as goal
@@ -12,7 +13,7 @@ returns c =
     let a = c.args in
     let q = c.requires in
     let lent = q.2 in record {
-      judges_at = λ vs m. judge-held a.s vs a.at q.1 no_lodgement _ (held-index a.s a.holders.now a.at q.1 lent.units) a.u a.notice c.energies_at-own.result a.marks.now a.holders.now a.loads.now _ c.judge_limits-j.result c.verdict_by.result
+      judges_at = λ vs m. judge-held a.s vs a.at q.1 no_lodgement _ (held-index a.s a.holders.now a.at q.1 lent.units) a.u a.notice c.energies_at-own.result a.marks.now a.holders.now a.loads.now _ (said c.judge_limits-j.result) c.verdict_by.result
           q.3 q.0 c.energies_at-own.ensures.1 lent.energies lent.units m c.accepted_on-count.ensures.indices (c.judge_limits-j.ensures a.s.capacities lent.lines) c.verdict_by.ensures;
       others_len = c.accepted_on-count.ensures.long;
     }

@@ -1,21 +1,34 @@
 use mathlib.Core.Path.{sym, ◌∙◌}
-use Rattle.lodge_judge.proofs.JudgeLaws.{fields-4, fields-5, fields-6, fields-9, fields-left, held-for}
+use Rattle.std.proofs.lemmas.Result.{err_from_is_err_and}
+use Rattle.lodge_keys.specs.Holding.{Holding, NotHolding}
+use Rattle.lodge_keys.specs.Keys.{key_for}
+use Rattle.lodge_judge.proofs.JudgeLaws.{fields-4, fields-5, fields-6, fields-9, fields-left, room}
 use Rattle.lodge_judge.proofs.judge_fields.Goals as goal
 
-pub returns-then-bad_hours : goal.returns-then-bad_hours
-returns-then-bad_hours c = fields-4 _ _ _ _ (sym c.bad_hours.ensures ∙ c.if-bad_hours.true)
+pub returns-then-bad_hours-clause-rows : goal.returns-then-bad_hours-clause-rows
+returns-then-bad_hours-clause-rows c = fields-4 _ _ c.args.m.now (sym c.bad_hours.ensures ∙ c.if-bad_hours.true)
 
-pub returns-then-bad_fields : goal.returns-then-bad_fields
-returns-then-bad_fields c = fields-5 _ _ _ _ (sym c.bad_hours.ensures ∙ c.if-bad_hours.false) (sym c.bad_fields.ensures ∙ c.if-bad_fields.true)
+pub returns-then-bad_fields-clause-rows : goal.returns-then-bad_fields-clause-rows
+returns-then-bad_fields-clause-rows c =
+    fields-5 _ _ c.args.m.now (sym c.bad_hours.ensures ∙ c.if-bad_hours.false) (sym c.bad_fields.ensures ∙ c.if-bad_fields.true)
 
-pub bad_holder-requires : goal.bad_holder-requires
-bad_holder-requires c = held-for _ _ _ c.args.m _ c.requires.1 c.requires.2
+pub returns-in_err-holder-clause-rows : goal.returns-in_err-holder-clause-rows
+returns-in_err-holder-clause-rows c =
+    let p = err_from_is_err_and c.from_residual.result c.from_residual.ensures.1 in
+    let n : NotHolding c.args.s (key_for c.args.m.now) c.in_err-holder.field-0.0 = rw c.key_of.ensures at c.in_err-holder.ensures in
+    rw (p.1, p.2) (fields-6 _ _ c.args.m.now (sym c.bad_hours.ensures ∙ c.if-bad_hours.false) (sym c.bad_fields.ensures ∙ c.if-bad_fields.false) _ n)
 
-pub returns-then-bad_holder : goal.returns-then-bad_holder
-returns-then-bad_holder c = fields-6 _ _ c.args.m _ _ c.requires.1 (sym c.bad_hours.ensures ∙ c.if-bad_hours.false) (sym c.bad_fields.ensures ∙ c.if-bad_fields.false) _ c.bad_holder.ensures.0 c.if-bad_holder.true
+pub returns-then-is_full-clause-rows : goal.returns-then-is_full-clause-rows
+returns-then-is_full-clause-rows c =
+    let n : Holding c.args.s (key_for c.args.m.now) c.in_ok-holder.holder = rw c.key_of.ensures at c.in_ok-holder.ensures in
+    fields-9 _ _ c.args.m.now (sym c.bad_hours.ensures ∙ c.if-bad_hours.false) (sym c.bad_fields.ensures ∙ c.if-bad_fields.false) _ n
+    (rw c.requires.1 at (sym c.is_full.ensures ∙ c.if-is_full.true))
 
-pub returns-then-is_full : goal.returns-then-is_full
-returns-then-is_full c = fields-9 _ _ c.args.m _ _ c.requires.1 (sym c.bad_hours.ensures ∙ c.if-bad_hours.false) (sym c.bad_fields.ensures ∙ c.if-bad_fields.false) _ c.bad_holder.ensures.0 _ c.requires.3 c.if-bad_holder.false (sym c.is_full.ensures ∙ c.if-is_full.true)
+pub returns-clause-rows : goal.returns-clause-rows
+returns-clause-rows c =
+    let n : Holding c.args.s (key_for c.args.m.now) c.in_ok-holder.holder = rw c.key_of.ensures at c.in_ok-holder.ensures in
+    fields-left _ _ c.args.m.now (sym c.bad_hours.ensures ∙ c.if-bad_hours.false) (sym c.bad_fields.ensures ∙ c.if-bad_fields.false) _ n
+    (rw c.requires.1 at (sym c.is_full.ensures ∙ c.if-is_full.false))
 
-pub returns : goal.returns
-returns c = fields-left _ _ c.args.m _ _ c.requires.1 (sym c.bad_hours.ensures ∙ c.if-bad_hours.false) (sym c.bad_fields.ensures ∙ c.if-bad_fields.false) _ c.bad_holder.ensures.0 _ c.requires.3 c.if-bad_holder.false (sym c.is_full.ensures ∙ c.if-is_full.false) c.requires.0 (c.bad_holder.ensures.1 c.if-bad_holder.false)
+pub returns-clause-room : goal.returns-clause-room
+returns-clause-room c = room _ _ c.requires.0 (rw c.requires.1 at (sym c.is_full.ensures ∙ c.if-is_full.false))

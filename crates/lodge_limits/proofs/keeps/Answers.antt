@@ -10,14 +10,14 @@ loop-h-init c = (omega arith, none-start _)
 pub loop-h-preserved-then-named-eq0 : goal.loop-h-preserved-then-named-eq0
 loop-h-preserved-then-named-eq0 c = let s = c.loop-h in (omega arith, none-next _ s.h s.invariant.1 (unnamed _ _ _ s.h c.if-named-eq0.true))
 
-pub overflow_add-wide : goal.overflow_add-wide
-overflow_add-wide c = let s = c.loop-h in record { fits = omega (arith, load_fits _ s.h (omega arith) c.requires.1) }
+pub overflow_add-load : goal.overflow_add-load
+overflow_add-load c = let s = c.loop-h in record { fits = omega (arith, load_fits _ s.h (omega arith) c.requires.1) }
 
 pub returns-then-limit-h : goal.returns-then-limit-h
-returns-then-limit-h c = let s = c.loop-h in passed-one _ _ _ _ s.h (omega arith) s.invariant.1 (over-load _ _ _ s.h c.wide.ensures.0 refl c.if-named-eq0.false c.if-limit-h.true)
+returns-then-limit-h c = let s = c.loop-h in passed-one _ _ _ _ s.h (omega arith) s.invariant.1 (over-load _ _ _ s.h c.from.ensures refl c.if-named-eq0.false c.if-limit-h.true)
 
 pub loop-h-preserved : goal.loop-h-preserved
-loop-h-preserved c = let s = c.loop-h in (omega arith, none-next _ s.h s.invariant.1 (within-load _ _ _ s.h c.wide.ensures.0 refl c.if-limit-h.false))
+loop-h-preserved c = let s = c.loop-h in (omega arith, none-next _ s.h s.invariant.1 (within-load _ _ _ s.h c.from.ensures refl c.if-limit-h.false))
 
 pub returns : goal.returns
 returns c = let s = c.loop-h in passed_none _ _ _ _ s.h (omega arith) s.invariant.1

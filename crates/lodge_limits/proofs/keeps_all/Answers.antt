@@ -14,8 +14,8 @@ keeps_available-requires c = (c.requires.0, c.requires.1, (rw c.maximum_energies
 pub returns-then-not-keeps_available : goal.returns-then-not-keeps_available
 returns-then-not-keeps_available c = eleven-passed _ _ _ c.requires.0 c.args.unit c.args.notice c.args.capacities c.args.default c.if-default.false (rw c.maximum_energies-most.ensures at (sym c.keeps.ensures ∙ c.if-not-keeps.false)) (sym c.keeps_available.ensures ∙ c.if-not-keeps_available.true)
 
-pub returns-then-not-border : goal.returns-then-not-border
-returns-then-not-border c = no_line _ _ _ c.requires.0 c.args.unit c.args.notice c.args.capacities c.args.default c.if-default.false (rw c.maximum_energies-most.ensures at (sym c.keeps.ensures ∙ c.if-not-keeps.false)) (sym c.keeps_available.ensures ∙ c.if-not-keeps_available.false) _ c.border_limit-border.ensures c.if-not-border.true
+pub returns-in_default : goal.returns-in_default
+returns-in_default c = no_line _ _ _ c.requires.0 c.args.unit c.args.notice c.args.capacities c.args.default c.if-default.false (rw c.maximum_energies-most.ensures at (sym c.keeps.ensures ∙ c.if-not-keeps.false)) (sym c.keeps_available.ensures ∙ c.if-not-keeps_available.false) _ c.border_limit.ensures c.in_default.is
 
 pub returns : goal.returns
-returns c = line-told _ _ _ c.requires.0 c.args.unit c.args.notice c.args.capacities c.args.default c.if-default.false (rw c.maximum_energies-most.ensures at (sym c.keeps.ensures ∙ c.if-not-keeps.false)) (sym c.keeps_available.ensures ∙ c.if-not-keeps_available.false) _ c.border_limit-border.ensures c.if-not-border.false c.keeps-2.ensures
+returns c = line-told _ _ _ c.requires.0 c.args.unit c.args.notice c.args.capacities c.args.default c.if-default.false (rw c.maximum_energies-most.ensures at (sym c.keeps.ensures ∙ c.if-not-keeps.false)) (sym c.keeps_available.ensures ∙ c.if-not-keeps_available.false) _ c.border_limit.ensures _ c.in-Some.is c.keeps-2.ensures

@@ -3,7 +3,7 @@ use Rattle.notify_capacity.proofs.CapacityLaws.{capacity-0, capacity-2, capacity
 use Rattle.notify_capacity.proofs.judge_capacity.Goals as goal
 
 pub returns-then-s : goal.returns-then-s
-returns-then-s c = capacity-2 _ c.args.directions c.if-s.true
+returns-then-s c = capacity-2 _ c.args.notice c.if-s.true
 
 pub returns-then-any_off_hours : goal.returns-then-any_off_hours
 returns-then-any_off_hours c = capacity-4 _ _ c.if-s.false (sym c.any_off_hours.ensures ∙ c.if-any_off_hours.true)

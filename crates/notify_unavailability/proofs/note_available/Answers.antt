@@ -1,4 +1,5 @@
+use Rattle.notify_unavailability.proofs.NoticeLaws.{available-entered}
 use Rattle.notify_unavailability.proofs.note_available.Goals as goal
 
-pub returns : goal.returns
-returns c = rw (c.stored_notice-notice.ensures, c.accepted-answer.ensures)
+pub returns-clause-entered : goal.returns-clause-entered
+returns-clause-entered c = rw (c.stored_notice.ensures, c.front.ensures, c.accepted.ensures) (available-entered _ c.args.notice _ c.requires.found)

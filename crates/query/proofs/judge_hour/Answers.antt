@@ -1,21 +1,27 @@
-use mathlib.Core.Path.{sym, ◌∙◌}
-use borrow.Author.Tests.{not-true, not-false}
+use Prim.Native.Nat.{◌-◌}
+use mathlib.Core.Path.{refl, sym, ◌∙◌}
 use Rattle.session.proofs.ImageLaws.{guarded}
-use Rattle.session.proofs.StepLaws.{not-clear}
-use Rattle.query.proofs.RowLaws.{unsound, above, hour-zero, hour-beyond, hour-inside, hour-2, hour-4, hour-0}
+use Rattle.query.proofs.RowLaws.{an-hour, hour-unsound, hour-2, hour-4, hour-0}
 use Rattle.query.proofs.judge_hour.Goals as goal
+use Rattle.query.proofs.judge_hour.Goals.{then-not-sound-via-then-not-sound, then-not-sound-via-else-not-sound+then-not-s}
 
-pub returns-then-not-sound : goal.returns-then-not-sound
-returns-then-not-sound c = (λ b sound e. unsound _ (sym c.sound.ensures ∙ c.if-not-sound.true) b sound e, not-clear _ _)
+pub returns-then-not-sound-clause-judges : goal.returns-then-not-sound-clause-judges
+returns-then-not-sound-clause-judges c =
+    elim c.then-not-sound.branch [
+      | then-not-sound-via-then-not-sound w ↦ hour-unsound _ _ (sym c.sound.ensures ∙ w.if-not-sound.true)
+      | then-not-sound-via-else-not-sound+then-not-s w ↦ hour-2 _ _ w.if-not-s.true
+    ]
 
-pub returns-then-not-s : goal.returns-then-not-s
-returns-then-not-s c = (hour-2 _ _ (not-true _ c.if-not-s.true), not-clear _ _)
+pub returns-then-not_an_hour-clause-judges : goal.returns-then-not_an_hour-clause-judges
+returns-then-not_an_hour-clause-judges c = hour-4 _ _ c.if-not-s.false (sym c.not_an_hour.ensures ∙ c.if-not_an_hour.true)
 
-pub returns-then-hour-eq0 : goal.returns-then-hour-eq0
-returns-then-hour-eq0 c = (hour-4 _ _ (not-false _ c.if-not-s.false) (hour-zero _ _ c.if-hour-eq0.true), not-clear _ _)
+pub overflow_sub-result : goal.overflow_sub-result
+overflow_sub-result c = (an-hour _ _ (sym c.not_an_hour.ensures ∙ c.if-not_an_hour.false)).0
 
-pub returns-then-s-hour : goal.returns-then-s-hour
-returns-then-s-hour c = (hour-4 _ _ (not-false _ c.if-not-s.false) (hour-beyond _ _ c.if-hour-eq0.false c.if-s-hour.true), not-clear _ _)
+pub returns-clause-judges : goal.returns-clause-judges
+returns-clause-judges c = hour-0 _ _ (c.args.hour - 1) c.if-not-s.false (sym c.not_an_hour.ensures ∙ c.if-not_an_hour.false)
 
-pub returns : goal.returns
-returns c = (hour-0 _ _ (not-false _ c.if-not-s.false) (hour-inside _ _ c.if-hour-eq0.false c.if-s-hour.false), λ _. record { within = guarded _ (sym c.sound.ensures ∙ c.if-not-sound.false); cleared = not-false _ c.if-not-s.false; low = above _ c.if-hour-eq0.false; high = c.if-s-hour.false })
+pub returns-clause-found : goal.returns-clause-found
+returns-clause-found c =
+    let p = an-hour _ _ (sym c.not_an_hour.ensures ∙ c.if-not_an_hour.false) in
+    record { within = guarded _ (sym c.sound.ensures ∙ c.if-not-sound.false); cleared = c.if-not-s.false; low = p.0; high = p.1; index = refl }

@@ -1,16 +1,22 @@
-use Rattle.session.proofs.StepLaws.{not-clear}
-use Rattle.query.proofs.RowLaws.{above}
-use Rattle.query_balance.proofs.RowLaws.{border-front, border-zero, border-beyond, border-0}
+use mathlib.Core.Path.{sym, ◌∙◌}
+use Rattle.std.proofs.lemmas.Result.{err_from_is_err_and}
+use Rattle.query_balance.proofs.RowLaws.{a-border, border-front, border-5, border-0}
 use Rattle.query_balance.proofs.judge_border.Goals as goal
 
-pub returns-in-No : goal.returns-in-No
-returns-in-No c = (border-front _ _ _ _ c.judge_hour-j.ensures.0 c.in-No.is, not-clear _ _)
+pub returns-in_err-at-clause-judges : goal.returns-in_err-at-clause-judges
+returns-in_err-at-clause-judges c =
+    let p = err_from_is_err_and c.from_residual.result c.from_residual.ensures.1 in
+    rw (p.1, p.2) (border-front _ _ _ _ c.judge_hour.ensures.judges _ c.in_err-at.was)
 
-pub returns-then-border-eq0 : goal.returns-then-border-eq0
-returns-then-border-eq0 c = (border-zero _ _ _ _ c.judge_hour-j.ensures.0 c.in_default.is c.if-border-eq0.true, not-clear _ _)
+pub returns-then-bad_border-clause-judges : goal.returns-then-bad_border-clause-judges
+returns-then-bad_border-clause-judges c =
+    border-5 _ _ _ _ c.judge_hour.ensures.judges _ c.in_ok-at.was (sym c.bad_border.ensures ∙ c.if-bad_border.true)
 
-pub returns-then-border-gt4 : goal.returns-then-border-gt4
-returns-then-border-gt4 c = (border-beyond _ _ _ _ c.judge_hour-j.ensures.0 c.in_default.is c.if-border-eq0.false c.if-border-gt4.true, not-clear _ _)
+pub returns-clause-judges : goal.returns-clause-judges
+returns-clause-judges c =
+    border-0 _ _ _ _ c.judge_hour.ensures.judges _ c.in_ok-at.was c.in_ok-at.at (sym c.bad_border.ensures ∙ c.if-bad_border.false)
 
-pub returns : goal.returns
-returns c = (border-0 _ _ _ _ c.judge_hour-j.ensures.0 c.in_default.is c.if-border-eq0.false c.if-border-gt4.false, λ _. record { hours = c.judge_hour-j.ensures.1 c.in_default.is; low = above _ c.if-border-eq0.false; high = c.if-border-gt4.false })
+pub returns-clause-found : goal.returns-clause-found
+returns-clause-found c =
+    let p = a-border _ (sym c.bad_border.ensures ∙ c.if-bad_border.false) in
+    record { hours = c.in_ok-at.ensures.found; low = p.0; high = p.1 }

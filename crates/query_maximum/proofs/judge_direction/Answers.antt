@@ -1,42 +1,24 @@
-use mathlib.Core.Path.{refl, ap, sym, ◌∙◌}
-use mathlib.Core.Bool.{false≢true}
 use Prim.Native.Nat.{◌-◌}
-use native.Mathlib.Omega.{arith}
+use mathlib.Core.Path.{ap, ◌∙◌}
+use lib.ListN.{get_or}
+use Rattle.std.specs.Bool.{then_some}
+use Rattle.session.specs.Bare.{bare_notice}
 use Rattle.hour_borders.proofs.WayLaws.{way-inner}
-use Rattle.query_balance.specs.Parts.{BorderFits}
-use Rattle.query_maximum.proofs.ShownLaws.{direction-small, way-direction}
+use Rattle.query_maximum.proofs.ShownLaws.{way-direction}
 use Rattle.query_maximum.proofs.judge_direction.Goals as goal
-use Rattle.query_maximum.proofs.judge_direction.Goals.{In_default}
 
--- what no row refuses
-fits : (c : In_default) → BorderFits c.args.s c.args.border c.args.hour
-fits c = c.judge_border-j.ensures.1 c.in_default.is
+pub overflow_sub-notice : goal.overflow_sub-notice
+overflow_sub-notice c = rw c.way-way_of.ensures.index (way-inner c.args.border c.args.export c.in_ok-at.ensures.found.low)
 
-pub returns-in-No : goal.returns-in-No
-returns-in-No c = record {
-  judges = λ b sound e. sym c.in-No.is ∙ c.judge_border-j.ensures.0 b sound e;
-  fits = λ f. absurd (false≢true (sym f));
-  at = omega arith;
-  of = omega arith;
-  way = omega arith;
-  other = omega arith;
-}
-
-pub overflow_sub-result : goal.overflow_sub-result
-overflow_sub-result c = omega (arith, (fits c.before.before).hours.low)
-
-pub overflow_sub-result-2 : goal.overflow_sub-result-2
-overflow_sub-result-2 c = omega (arith, c.way-way.ensures.index, way-inner c.args.border c.args.export (fits c.before.before).low)
-
-pub returns : goal.returns
-returns c =
-    let f = fits c.before.before in
-    let q = ap (λ w. w - 2) c.way-way.ensures.index ∙ way-direction c.args.border c.args.export f.low in
+pub returns-clause-found : goal.returns-clause-found
+returns-clause-found c =
+    let f = c.in_ok-at.ensures.found in
+    let of = ap (λ w. w - 2) c.way-way_of.ensures.index ∙ way-direction c.args.border c.args.export f.low in
     record {
-      judges = λ b sound e. sym c.in_default.is ∙ c.judge_border-j.ensures.0 b sound e;
-      fits = λ _. record { borders = f; at = refl; of = q; way = c.way-way.ensures.index; other = c.way-other.ensures.index };
-      at = omega (arith, f.hours.low, f.hours.high, f.hours.within.hours);
-      of = omega (arith, q, direction-small c.args.border c.args.export f.high);
-      way = c.way-way.ensures.within (omega (arith, f.high));
-      other = c.way-other.ensures.within (omega (arith, f.high));
+      borders = f;
+      way = c.way-way_of.ensures.index;
+      other = c.way-other.ensures.index;
+      capacity =
+          c.then_some-capacity.ensures
+          ∙ ap (λ i. let n = get_or c.args.s.now.capacities i bare_notice in then_some n.given (get_or n.energies c.in_ok-at.at 0)) of;
     }

@@ -1,5 +1,5 @@
 use Rattle.register.proofs.RegisterLaws.{unit-entered}
 use Rattle.register.proofs.enrol.Goals as goal
 
-pub returns : goal.returns
-returns c = (rw (c.stored-unit.ensures, c.no_notice-notice.ensures, c.accepted-answer.ensures) (unit-entered _ _ c.requires), c.requires)
+pub returns-clause-entered : goal.returns-clause-entered
+returns-clause-entered c = rw (c.no_notice.ensures, c.accepted.ensures) (unit-entered _ _ c.requires)

@@ -1,19 +1,17 @@
-use mathlib.Core.Path.{sym, ◌∙◌}
-use Rattle.session.proofs.ImageLaws.{guarded}
-use Rattle.session.proofs.StepLaws.{out-unsound, out-refused, out-entered}
+use mathlib.Core.Path.{refl, sym, ◌∙◌}
+use Rattle.std.proofs.lemmas.Result.{err_from_is_err_and}
+use Rattle.session.specs.Parts.{by_row}
+use Rattle.session_changes.specs.Changes.{registry_with}
+use Rattle.session_changes.proofs.StepLaws.{step-unsound, step-refused, step-entered}
 use Rattle.register.proofs.register_change.Goals as goal
 
-pub returns-then-not-sound : goal.returns-then-not-sound
-returns-then-not-sound c = (out-unsound _ _ _ _ _ c.registry_refused.ensures.0 (sym c.sound.ensures ∙ c.if-not-sound.true), c.registry_refused.ensures.1)
+pub returns-then-not-sound-clause-met : goal.returns-then-not-sound-clause-met
+returns-then-not-sound-clause-met c = step-unsound registry_with _ _ c.from.result (sym c.sound.ensures ∙ c.if-not-sound.true)
 
-pub judge_register-j-requires : goal.judge_register-j-requires
-judge_register-j-requires c = guarded _ (sym c.sound.ensures ∙ c.if-not-sound.false)
+pub returns-in_err-judge_register-clause-met : goal.returns-in_err-judge_register-clause-met
+returns-in_err-judge_register-clause-met c =
+    let p = err_from_is_err_and c.from_residual.result c.from_residual.ensures.1 in
+    rw (p.1, p.2) (step-refused registry_with _ _ by_row _ _ _ c.judge_register.ensures.judges c.in_err-judge_register.was refl)
 
-pub enrol-requires : goal.enrol-requires
-enrol-requires c = c.judge_register-j.ensures.1 c.in-Clear.is
-
-pub returns-in-No : goal.returns-in-No
-returns-in-No c = (out-refused _ _ _ _ _ c.registry_refused-in-No.ensures.0 (λ b e. sym c.in-No.is ∙ c.judge_register-j.ensures.0 b e), c.registry_refused-in-No.ensures.1)
-
-pub returns-in-Clear : goal.returns-in-Clear
-returns-in-Clear c = (out-entered _ _ _ (λ b e. sym c.in-Clear.is ∙ c.judge_register-j.ensures.0 b e) c.enrol.ensures.0, c.enrol.ensures.1)
+pub returns-clause-met : goal.returns-clause-met
+returns-clause-met c = step-entered registry_with _ _ by_row _ _ c.enrol.result c.judge_register.ensures.judges c.in_ok-judge_register.was c.enrol.ensures.entered

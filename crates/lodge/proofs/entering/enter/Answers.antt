@@ -1,12 +1,19 @@
+use Prim.Native.Nat.{◌+◌}
+use mathlib.Core.Path.{◌≡◌}
 use native.Mathlib.Omega.{arith}
-use Rattle.lodge.proofs.EntryLaws.{room-left, entering-indexed, entered}
+use lib.ListN.{length}
+use Rattle.lodge.proofs.EntryLaws.{room-left, entering-indexed, entered, from-default}
 use Rattle.lodge.proofs.entering.enter.Goals as goal
 
-pub overflow_add-standing : goal.overflow_add-standing
-overflow_add-standing c = omega (arith, room-left c.args.s c.args.m _ _ _ c.key_of-key.ensures c.requires.1 c.left_of-to.ensures c.requires.0)
+pub overflow_add-result : goal.overflow_add-result
+overflow_add-result c = omega (arith, c.left_of-left.ensures, room-left c.args.s c.args.m _ c.requires.1 c.requires.0)
 
-pub returns : goal.returns
-returns c = (
-  rw c.numbered-answer.ensures (entered _ _ _ _ _ c.key_of-key.ensures c.requires.1 c.left_of-to.ensures c.requires.0),
-  entering-indexed _ c.args.m _ _ _ c.key_of-key.ensures c.requires.1 c.left_of-to.ensures c.requires.0 c.requires.2 _,
-)
+pub returns-clause-entered : goal.returns-clause-entered
+returns-clause-entered c =
+    rw (c.numbered.ensures, c.key_of.ensures, c.left_of-left.ensures, c.unwrap_or.ensures, from-default c.args.replaces c.args.s.standing) (entered _ c.args.m _ c.requires.1 c.requires.0)
+
+pub returns-clause-indexed : goal.returns-clause-indexed
+returns-clause-indexed c =
+    let long : length c.args.s.lodgements ≡ 128 = omega arith in
+    rw (c.key_of.ensures, c.left_of-left.ensures, c.unwrap_or.ensures, from-default c.args.replaces c.args.s.standing)
+    (entering-indexed c.args.s c.args.m _ c.requires.1 c.requires.0 (omega (arith, long, c.requires.0.within.standing)) (c.args.s.last + 1))

@@ -1,26 +1,21 @@
-use mathlib.Core.Path.{sym, subst, ◌∙◌}
-use Rattle.rules.specs.DayBook as D
-use Rattle.session.specs.Steps.{Met}
-use Rattle.session.specs.declared.Effect.{Effect}
-use Rattle.session.proofs.StepLaws.{out-refused, out-entered}
+use mathlib.Core.Path.{refl, sym, ap, ◌∙◌}
+use Rattle.std.proofs.lemmas.Result.{err_from_is_err_and}
+use Rattle.session.specs.Parts.{by_refusal, said}
+use Rattle.session_changes.specs.Changes.{standing_with}
+use Rattle.session_changes.proofs.StepLaws.{step-refused, step-entered}
 use Rattle.lodge_limits.proofs.JudgeLaws.{judged-for}
 use Rattle.lodge.proofs.LodgeLaws.{lodge-entered}
 use Rattle.lodge.proofs.lodge.lodge_change.Goals as goal
 
-pub returns-then-p-ne0 : goal.returns-then-p-ne0
-returns-then-p-ne0 c = (λ bytes d. subst (λ (r : Effect). Met c.args.s (D.lodge bytes) r) (sym c.standing_refused.ensures.0) (d.refused c.if-p-ne0.true), c.standing_refused.ensures.1)
-
 pub enter-requires : goal.enter-requires
-enter-requires c = let found = c.requires.0.0 c.if-p-ne0.false in (found.room, found.replaced, found.most)
+enter-requires c = (c.requires.0.room, c.requires.0.replaced)
 
-pub returns-in-No : goal.returns-in-No
-returns-in-No c =
-    let z = c.if-p-ne0.false in
-    let judged = judged-for _ _ (c.requires.0.0 z) (sym c.in-No.is ∙ c.requires.1 z) in
-    (λ bytes d. out-refused _ _ _ _ _ c.standing_refused-in-No.ensures.0 (d.left z _ judged), c.standing_refused-in-No.ensures.1)
+pub returns-in_err-judged-clause-met : goal.returns-in_err-judged-clause-met
+returns-in_err-judged-clause-met c bytes d =
+    let p = err_from_is_err_and c.from_residual.result c.from_residual.ensures.1 in
+    rw (p.1, p.2) (step-refused standing_with _ _ by_refusal c.args.judged _ _ (d.left _ (judged-for _ _ _ c.requires.0 c.requires.1)) c.in_err-judged.was refl)
 
-pub returns-in-Clear : goal.returns-in-Clear
-returns-in-Clear c =
-    let z = c.if-p-ne0.false in
-    let judged = judged-for _ _ (c.requires.0.0 z) (sym c.in-Clear.is ∙ c.requires.1 z) in
-    (λ bytes d. out-entered _ _ _ (d.left z _ judged) (lodge-entered _ _ _ (d.fields z) _ c.enter.ensures.0), c.enter.ensures.1)
+pub returns-clause-met : goal.returns-clause-met
+returns-clause-met c bytes d =
+    step-entered standing_with _ _ by_refusal c.args.judged _ c.enter.result (d.left _ (judged-for _ _ _ c.requires.0 c.requires.1)) c.in_ok-judged.was
+    (lodge-entered _ _ _ d.fields _ c.enter.ensures.entered)

@@ -16,7 +16,7 @@ overflow_add-sums c =
 pub loop-h-preserved : goal.loop-h-preserved
 loop-h-preserved c =
     let s = c.loop-h in
-    (omega arith, (simp length-set) ∙ s.invariant.1, adding-next _ _ _ _ s.h s.invariant.2 _ _ (omega arith) (omega arith) c.requires.2 c.wide.ensures.0 c.wide.ensures.1 refl)
+    (omega arith, (simp length-set) ∙ s.invariant.1, adding-next _ _ _ _ s.h s.invariant.2 _ _ (omega arith) (omega arith) c.requires.2 c.from.ensures (omega (arith, c.from.ensures, c.loop-h-test.element_fits.fits)) refl)
 
 pub returns : goal.returns
 returns c =

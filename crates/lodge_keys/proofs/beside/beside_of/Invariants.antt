@@ -1,4 +1,4 @@
-use Prim.Native.Nat.{ℕ, ◌≤◌, ◌<◌, ◌-◌}
+use Prim.Native.Nat.{ℕ, ◌≤◌, ◌<◌}
 use mathlib.Core.Path.{◌≡◌}
 use lib.ListN.{take, length, get_or}
 use Rattle.rules.specs.Lists.{from}
@@ -8,7 +8,4 @@ use Rattle.lodge_keys.proofs.beside.beside_of.Given as goal
 
 abbrev pub invariant-loop-i : goal.invariant-loop-i
 invariant-loop-i l =
-    (l.i ≤ l.n) × (l.count ≤ l.i) × (length l.at ≡ 128) × (take l.count l.at ≡ marked (beside_marks (take l.n l.lodgements) l.key) (from 0 l.i)) × ((j : ℕ) → j < l.count → get_or l.at j 0 < l.n)
-
-abbrev pub decreases-loop-i : goal.decreases-loop-i
-decreases-loop-i l = l.n - l.i
+    (l.i ≤ length l.lodgements) × (l.count ≤ l.i) × (length l.at ≡ 128) × (take l.count l.at ≡ marked (beside_marks l.lodgements l.key) (from 0 l.i)) × ((j : ℕ) → j < l.count → get_or l.at j 0 < length l.lodgements)

@@ -1,6 +1,0 @@
-use native.Mathlib.Omega.{arith}
-use Rattle.answer.proofs.SignedLaws.{as_is}
-use Rattle.answer.proofs.number.Goals as goal
-
-pub returns : goal.returns
-returns c = rw (as_is c.args.n (omega arith))

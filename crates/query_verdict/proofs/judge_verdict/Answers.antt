@@ -1,0 +1,20 @@
+use mathlib.Core.Path.{sym, ◌∙◌}
+use Rattle.session.proofs.ImageLaws.{guarded}
+use Rattle.query_verdict.proofs.VerdictLaws.{verdict-unsound, verdict-2, verdict-found, found-fits}
+use Rattle.query_verdict.proofs.judge_verdict.Goals as goal
+use Rattle.query_verdict.proofs.judge_verdict.Goals.{then-not-sound-via-then-not-sound, then-not-sound-via-else-not-sound+then-not-s}
+
+pub returns-then-not-sound-clause-judges : goal.returns-then-not-sound-clause-judges
+returns-then-not-sound-clause-judges c =
+    elim c.then-not-sound.branch [
+      | then-not-sound-via-then-not-sound w ↦ verdict-unsound _ _ (sym c.sound.ensures ∙ w.if-not-sound.true)
+      | then-not-sound-via-else-not-sound+then-not-s w ↦ verdict-2 _ _ w.if-not-s.true
+    ]
+
+pub returns-clause-judges : goal.returns-clause-judges
+returns-clause-judges c = rw c.ok_or.ensures.value (verdict-found _ _ c.if-not-s.false _ c.lodged_at.ensures.found)
+
+pub returns-clause-found : goal.returns-clause-found
+returns-clause-found c =
+    rw c.ok_or.ensures.value
+    (found-fits _ _ (guarded _ (sym c.sound.ensures ∙ c.if-not-sound.false)) c.if-not-s.false _ c.lodged_at.ensures.inside c.lodged_at.ensures.found)

@@ -1,4 +1,0 @@
-use Rattle.register.proofs.register.Goals as goal
-
-pub returns : goal.returns
-returns c = rw c.with_registry.ensures c.register_change-t.ensures.0
