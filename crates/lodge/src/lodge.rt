@@ -17,30 +17,30 @@ use session_changes::{StandingChange, Step, effect};
 
 // What lodging a message that is read changes, by its judgement.
 pub fn lodge_change(
-    s: Session,
-    p: Pending,
+    s: &Session,
+    p: &Pending,
     judged: Result<(), Refusal>,
 ) -> Result<Step<StandingChange>, Refusal>
-    requires { Awaits s p × (said judged ≡ judged_for s p) }
-    ensures met { (bytes : List ℕ) → Read s bytes p → Met s (lodge bytes) (effect_of standing_with s result) }
+    requires { Awaits s.now p.now × (said judged ≡ judged_for s.now p.now) }
+    ensures met { (bytes : List ℕ) → Read s.now bytes p.now → Met s.now (lodge bytes) (effect_of standing_with s.now result) }
     ensures indexed { IfOk result (λ t. Indexed t.change) }
 {
     judged?;
-    Ok(enter(s, p.fields, p.replaces))
+    Ok(enter(s, &p.fields, p.replaces))
 }
 
 // What lodging a message changes.
-fn lodge_step(s: Session, message: &[u8]) -> Result<Step<StandingChange>, Refusal>
-    ensures met { Met s (lodge message.now) (effect_of standing_with s result) }
+fn lodge_step(s: &Session, message: &[u8]) -> Result<Step<StandingChange>, Refusal>
+    ensures met { Met s.now (lodge message.now) (effect_of standing_with s.now result) }
     ensures indexed { IfOk result (λ t. Indexed t.change) }
 {
     let p = pend(s, message)?;
-    lodge_change(s, p, judge(s, p))
+    lodge_change(s, &p, judge(s, &p))
 }
 
 // Lodges a message: 2, 3, 4, 5, 6, 9, 10, 11, 12.
 pub fn lodge(s: Session, message: &[u8]) -> Effect
     ensures { Met s (lodge message.now) result }
 {
-    effect(s, lodge_step(s, message))
+    effect(s, lodge_step(&s, message))
 }

@@ -1,6 +1,6 @@
-use mathlib.Core.Path.{refl, sym, ap, ◌∙◌}
+use mathlib.Core.Path.{refl}
 use Rattle.std.proofs.lemmas.Result.{err_from_is_err_and}
-use Rattle.session.specs.Parts.{by_refusal, said}
+use Rattle.session.specs.Parts.{by_refusal}
 use Rattle.session_changes.specs.Changes.{standing_with}
 use Rattle.session_changes.proofs.StepLaws.{step-refused, step-entered}
 use Rattle.lodge_limits.proofs.JudgeLaws.{judged-for}
