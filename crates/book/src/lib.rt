@@ -111,7 +111,9 @@ fn head_of(log: &[u8]) -> Option<Head>
     if rest.len() < size {
         return None;
     }
-    let kind = Kind::of(*number, size)?;
+    let Some(kind) = Kind::of(*number, size) else {
+        return None;
+    };
     Some(Head { kind, size })
 }
 

@@ -1,6 +1,6 @@
 -- The refusal of clearing by the session's stage.
 use mathlib.Core.Path.{◌≡◌}
-use mathlib.Core.Bool.{true, false, not, ◌||◌}
+use mathlib.Core.Bool.{true, false}
 use Rattle.std.specs.Prelude.{Ok, Err}
 use Rattle.std.specs.declared.result.Result.{Result}
 use Rattle.rules.specs.Refusals.{row, first_row}
@@ -15,11 +15,16 @@ module _ (s : Session) where
   abbrev Judged : Result (Unit {0}) Code.Row → Type 0
   Judged j = JudgesRow s D.clear j
 
-  -- "clearing [..] before closing", "clearing twice"
-  pub clear-2 : (not s.closed || s.cleared) ≡ true → Judged (Err Gate)
+  -- "clearing [..] before closing"
+  pub clear-early : s.closed ≡ false → Judged (Err Gate)
   unfolding D.rows_of D.gate_row D.call_rows row first_row given_by
-  clear-2 h b e = rw (closed-as s b e, cleared-as s b e, h)
+  clear-early h b e = rw (closed-as s b e, h)
 
-  pub clear-0 : (not s.closed || s.cleared) ≡ false → Judged (Ok tt)
+  -- "clearing twice"
+  pub clear-twice : s.closed ≡ true → s.cleared ≡ true → Judged (Err Gate)
   unfolding D.rows_of D.gate_row D.call_rows row first_row given_by
-  clear-0 h b e = rw (closed-as s b e, cleared-as s b e, h)
+  clear-twice h k b e = rw (closed-as s b e, h, cleared-as s b e, k)
+
+  pub clear-0 : s.closed ≡ true → s.cleared ≡ false → Judged (Ok tt)
+  unfolding D.rows_of D.gate_row D.call_rows row first_row given_by
+  clear-0 h k b e = rw (closed-as s b e, h, cleared-as s b e, k)

@@ -72,7 +72,10 @@ fn clear_hours(s: &Session) -> DayEnd
 fn judge_clear(s: &Session) -> Result<(), Row>
     ensures { JudgesRow s.now clear result }
 {
-    if !s.closed || s.cleared {
+    if !s.closed {
+        return Err(Row::Gate);
+    }
+    if s.cleared {
         return Err(Row::Gate);
     }
     Ok(())
@@ -84,10 +87,9 @@ fn enter_clear(s: &Session) -> Step<ClearingChange>
     ensures { Entered s.now clear (done cleared_with s.now result) }
 {
     let day = clear_hours(s);
+    let figures = day.figures;
     Step {
-        change: ClearingChange {
-            figures: day.figures,
-        },
+        change: ClearingChange { figures },
         answer: Response::steps(day.steps),
     }
 }
