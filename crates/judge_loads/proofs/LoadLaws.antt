@@ -7,8 +7,8 @@ use mathlib.Core.List.{List, [], ◌∷◌, ◌++◌, append-nil}
 use native.Mathlib.Nat.{eq-or-lt_of_le}
 use native.Mathlib.Numerals.{add-one}
 use native.Mathlib.Omega.{arith}
-use lib.ListN.{length, get_or, take, drop, set, drop_of_length-le}
-use lib.Seq.{drop-cons, get_or-take, length-take-le, take-suc-set, get_or-set_same, get_or-set_other}
+use lib.ListN.{length, get_or, take, set}
+use lib.Seq.{get_or-take, length-take-le, take-suc-set, get_or-set_same, get_or-set_other}
 use lib.Dec.{eqb}
 use borrow.Author.Tests.{lt-ltb, le-ltb, eq-eqb, ne_eqb}
 use Rattle.rules.specs.Lists.{sum, sum_of, from, hourly, lowest}
@@ -26,27 +26,39 @@ use Rattle.judge_loads.specs.Loads.{marked, RowAt, PutAt, LoadsOf, IndicesIn, en
 below : (j i : ℕ) → j < i + 1 → j ≤ i
 below j i k = omega arith
 
--- the energy in an hour at the indices from the l-th on
-unfoldable pub rest_at : ℕ → List Energies → List ℕ → ℕ → ℕ
-rest_at h es ps l = sum_of (energy_at_index es h) (drop l ps)
+-- of an hour's load the energies at these indices are left to add
+pub record Left (es : List Energies) (h all : ℕ) (indices : List ℕ) (load : ℕ) : Type 0 where
+  pub few : length indices ≤ 128
+  pub below : (l : ℕ) → l < length indices → get_or indices l 0 < length es
+  pub small : load + 4294967295 * length indices ≤ 4294967295 * 129
+  pub rest : load + sum_of (energy_at_index es h) indices ≡ all
 
-module _ (h : ℕ) (es : List Energies) (ps : List ℕ) (l : ℕ) where
-  rest-next : l < length ps → rest_at (suc h) es ps l ≡ get_or (get_or es (get_or ps l 0) bare_energies).energies h 0 + rest_at (suc h) es ps (l + 1)
-  unfolding rest_at sum_of sum
-  rest-next i = rw (add-one, drop-cons ps l 0 i, hourly-suc (get_or es (get_or ps l 0) bare_energies).energies h)
+module _ (es : List Energies) (h : ℕ) where
+  pub left-start : (own ps : List ℕ) (n : ℕ) → IndicesIn es ps → n ≡ get_or own h 0 → n ≤ 4294967295 → Left es (suc h) (load_by own es ps (suc h)) ps n
+  unfolding load_by
+  left-start own ps n p e small = record { few = p.few; below = p.below; small = omega (arith, p.few); rest = rw (hourly-suc own h, e) refl }
 
   -- one more index
-  pub rest-again : (s : ℕ) {r t : ℕ} → l < length ps → r ≡ s + get_or (get_or es (get_or ps l 0) bare_energies).energies h 0
-      → s + rest_at (suc h) es ps l ≡ t → r + rest_at (suc h) es ps (l + 1) ≡ t
-  rest-again s i e f = omega (arith, rest-next i, e, f)
+  pub left-next : (all n r : ℕ) (i : ℕ) {ps qs : List ℕ} → ps ≡ i ∷ qs → Left es (suc h) all ps n → r ≡ get_or (get_or es i bare_energies).energies h 0 → r ≤ 4294967295 → Left es (suc h) all qs (n + r)
+  unfolding sum_of sum
+  left-next all n r i {ps} {qs} q p e small = go (rw q at p)
+    where
+      go : Left es (suc h) all (i ∷ qs) n → Left es (suc h) all qs (n + r)
+      go p = record {
+        few = omega (arith, p.few);
+        below = λ l k. p.below (suc l) (omega arith);
+        small = omega (arith, p.small);
+        rest = omega (arith, p.rest, e, hourly-suc (get_or es i bare_energies).energies h);
+      }
 
-  pub rest_end : length ps ≤ l → rest_at h es ps l ≡ 0
-  unfolding rest_at sum_of sum
-  rest_end i = rw (drop_of_length-le ps {i = l} i)
+  pub left-end : (all n : ℕ) (ps : List ℕ) → length ps ≡ 0 → Left es (suc h) all ps n → n ≡ all
+  unfolding sum_of sum
+  left-end all n [] e p = omega (arith, p.rest)
+  left-end all n (i ∷ ps) e p = absurd (omega arith)
 
-pub rest-start : (own : List ℕ) (es : List Energies) (ps : List ℕ) (h : ℕ) → get_or own h 0 + rest_at (suc h) es ps 0 ≡ load_by own es ps (suc h)
-unfolding rest_at load_by
-rest-start own es ps h = rw (hourly-suc own h)
+  -- what is added is no more than all
+  pub left-some : (all n : ℕ) (ps : List ℕ) → Left es h all ps n → n ≤ all
+  left-some all n ps p = omega (arith, p.rest)
 
 -- Indices
 

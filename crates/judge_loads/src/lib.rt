@@ -34,19 +34,8 @@ pub fn loads_of(n: usize, energies: [Energies; LODGEMENTS]) -> [u32; LODGEMENTS 
     loads
 }
 
-// A lodgement's own energy in an hour, counted from 0, plus that of others, at their indices: of so few the sum never wraps.
-fn load_at(own: &[u32; HOURS], energies: &[Energies], others: &[usize], h: usize) -> u64
-    requires { (h < 25) × IndicesIn energies.now others.now }
-    ensures { result ≡ load_by own.now energies.now others.now (h + 1) }
-{
-    let mut load = u64::from(own[h]);
-    for i in others {
-        load += u64::from(energies[*i].energies[h]);
-    }
-    load
-}
-
-// "the lowest hour in which that limit is passed": in an hour that is named, by a lodgement's own energy with that of the others.
+// "the lowest hour in which that limit is passed": in an hour that is named, by a lodgement's own energy with that of others, at their
+// indices. The sum only grows, so all is left where it first passes; of so few numbers it never wraps.
 pub fn lowest_hour(
     own: &[u32; HOURS],
     energies: &[Energies],
@@ -57,10 +46,24 @@ pub fn lowest_hour(
     requires { (hours ≤ 25) × IndicesIn energies.now others.now }
     ensures { result ≡ hour_at (lowest (passed_at own.now (load_by own.now energies.now others.now) (laid limit.now)) hours) }
 {
-    for h in 0..hours {
-        if own[h] != 0 && limit[h] < load_at(own, energies, others, h) {
-            return Some(h as u32 + 1);
+    let mut passed = None;
+    'hours: for h in 0..hours {
+        if own[h] == 0 {
+            continue;
+        }
+        let mut load = u64::from(own[h]);
+        let mut left = others;
+        loop {
+            if limit[h] < load {
+                passed = Some(h as u32 + 1);
+                break 'hours;
+            }
+            let Some((next, behind)) = left.split_first() else {
+                continue 'hours;
+            };
+            load += u64::from(energies[*next].energies[h]);
+            left = behind;
         }
     }
-    None
+    passed
 }
