@@ -18,7 +18,7 @@ use Rattle.rules.specs.Match.{Holder, Offer}
 use Rattle.rules.specs.Borders.{Directed, Execution}
 use Rattle.rules.specs.Clearing as R
 use Rattle.rules.proofs.ListLaws.{hourly-suc, get_or-pad}
-use Rattle.arrays.proofs.IndexLaws.{from_all}
+use Rattle.rules.proofs.IndexLaws.{from_all}
 use Rattle.hour_offers.specs.declared.Holder.{Holder as Own}
 use Rattle.hour_offers.specs.View.{execution_in}
 use Rattle.hour.specs.declared.Hour.{Hour}

@@ -12,7 +12,7 @@ use Rattle.rules.specs.Lists.{All, none, more, keep, sum, sum_of, from}
 use Rattle.rules.specs.Units.{max_energy}
 use Rattle.rules.specs.Borders.{Directed}
 use Rattle.rules.proofs.ElementLaws.{all-every}
-use Rattle.arrays.proofs.IndexLaws.{map-all}
+use Rattle.rules.proofs.IndexLaws.{map-all}
 use Rattle.hour_offers.specs.declared.Offer.{Offer}
 use Rattle.hour_offers.specs.declared.Execution.{Execution}
 use Rattle.rules.proofs.BoolLaws.{by_bool}

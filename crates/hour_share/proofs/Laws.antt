@@ -9,10 +9,10 @@ use Rattle.std.proofs.lemmas.List.Recursion.{is_sum_by}
 use Rattle.rules.specs.Lists.{All, none, more, sum, add_each, from}
 use Rattle.rules.specs.Units.{max_energy}
 use Rattle.rules.proofs.ShareLaws.{pro-rata-le, share-le, share-length}
-use Rattle.arrays.proofs.SliceLaws.{map-small}
+use Rattle.rules.proofs.IndexLaws.{map-small}
 use Rattle.rules.specs.Share.{pro_rata, hand_out, share}
 use Rattle.rules.proofs.SumLaws.{cond-le}
-use Rattle.arrays.proofs.IndexLaws.{from_next}
+use Rattle.rules.proofs.IndexLaws.{from_next}
 use borrow.Author.Tests.{lt-ltb, le-ltb}
 use Rattle.hour_share.specs.declared.Amount.{Amount}
 use Rattle.hour_share.specs.Deductions.{Ranged, AmountInRange, energy_in, deductions_in, deductions_over, deductions_from}

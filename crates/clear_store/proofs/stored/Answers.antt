@@ -2,7 +2,7 @@ use Rattle.std.proofs.Common.{rules, ℕ, map, eqb, sym, unwrap_or}
 use mathlib.Core.Path.{ap, ◌∙◌}
 use Rattle.rules.specs.Lists.{keep, sum_of}
 use Rattle.rules.proofs.ElementLaws.{all-every}
-use Rattle.arrays.proofs.IndexLaws.{map-all}
+use Rattle.rules.proofs.IndexLaws.{map-all}
 use Rattle.hour_offers.specs.declared.Offer.{Offer}
 use Rattle.hour_offers.specs.declared.Execution.{Execution}
 use Rattle.hour_offers.specs.View.{offer_in, execution_in}
