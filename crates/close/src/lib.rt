@@ -3,7 +3,7 @@
 
 ghost use Rattle.rules.specs.DayBook.{close};
 ghost use Rattle.session.specs.Steps.{Met};
-ghost use Rattle.session.specs.Parts.{Within, Entered};
+ghost use Rattle.session.specs.Parts.{Within, JudgesRow, Entered};
 ghost use Rattle.session_changes.specs.Changes.{closed_with};
 ghost use Rattle.session_changes.specs.Effects.{effect_of};
 ghost use Rattle.close.specs.Closed.{closed_effect};
@@ -47,16 +47,24 @@ fn verdicts(s: Session) -> [Verdict; LODGEMENTS]
     )
 }
 
-// What closing changes: 2.
+// The row that refuses closing: 2.
+fn judge_close(s: &Session) -> Result<(), Row>
+    ensures { JudgesRow s.now close result }
+{
+    if s.closed {
+        return Err(Row::Gate);
+    }
+    Ok(())
+}
+
+// What closing changes.
 pub fn close_change(s: Session) -> Result<Step<ClosingChange>, Refusal>
     ensures { Met s close (effect_of closed_with s result) }
 {
     if !s.sound() {
         return Err(Refusal::from(Row::Gate));
     }
-    if s.closed {
-        return Err(Refusal::from(Row::Gate));
-    }
+    judge_close(&s)?;
     Ok(Step {
         change: ClosingChange {
             verdicts: verdicts(s),
