@@ -34,7 +34,8 @@ use Rattle.session.specs.Image as I
 use Rattle.session.proofs.IndexLaws.{get_or-map}
 use Rattle.session.proofs.ImageLaws.{capacities-as}
 use Rattle.clear_gather.specs.Built.{Holders, energy_on, price_on, offer_on, execution_on, capacity_on, Built}
-use Rattle.clear_gather.proofs.ListLaws.{flat, kept-flat, eight, ten-at}
+use Rattle.clear_gather.proofs.ListLaws.{flat, kept-flat, eight}
+use Rattle.hour.proofs.LaidLaws.{ten-at}
 use Rattle.clear_gather.proofs.DayLaws.{standing, chosen_in, energies-at, holder-at, holders-long, gathered, named-offers, named-executions}
 
 -- equal parts make equal records
