@@ -1,21 +1,20 @@
--- What a caller needs: energies laid in one array, and the indices of those that are counted, make the load by marks.
-use Prim.Native.Nat.{ℕ, suc, ◌+◌, ◌-◌, ◌≤◌, ◌<◌}
-use mathlib.Core.Path.{◌≡◌, refl, ap, ◌∙◌}
+-- What a caller needs: the indices of those that are counted make the load by marks.
+use Prim.Native.Nat.{ℕ, suc, ◌+◌, ◌≤◌, ◌<◌}
+use mathlib.Core.Path.{◌≡◌, refl, sym, ap, ◌∙◌}
 use mathlib.Core.Bool.{Bool, true, false}
 use mathlib.Core.List.{List, [], ◌∷◌}
 use native.Mathlib.Omega.{arith}
 use lib.ListN.{length, get_or, take}
-use lib.Seq.{length-take-le}
+use lib.Seq.{length-take-le, get_or-take}
 use Rattle.rules.specs.Lists.{sum, sum_of, from, hourly}
 use Rattle.rules.specs.Refusals.{first_row}
 use Rattle.rules.specs.Lodging.{judged_by}
-use Rattle.arrays.specs.declared.Indices.{Indices}
 use Rattle.session.specs.Bare.{bare_energies}
 use Rattle.session.specs.Parts.{given_by}
 use Rattle.session.specs.declared.Energies.{Energies}
 use Rattle.session.specs.declared.Unit.{Unit}
 use Rattle.session.specs.declared.Notice.{Notice}
-use Rattle.judge_loads.specs.Loads.{marked, IndicesOf, energy_in, load_in, RowAt, LoadsOf, RowsAt, energy_at_index, load_by}
+use Rattle.judge_loads.specs.Loads.{marked, energy_in, load_in, energy_at_index, load_by}
 use Rattle.judge_limits.specs.Limits.{registered_in, lines_in, judged_in}
 use Rattle.judge_limits.proofs.NoticeLaws.{rows-load, rows-own}
 
@@ -31,15 +30,13 @@ sums-indices h f i (true ∷ bs) (x ∷ es) e =
     omega (arith, rw z at (e 0 (omega arith) refl), sums-indices h f (suc i) bs es (λ j k t. let q : i + suc j ≡ suc i + j = omega arith in rw q at (e (suc j) (omega arith) t)))
 sums-indices h f i (false ∷ bs) (x ∷ es) e = sums-indices h f (suc i) bs es (λ j k t. let q : i + suc j ≡ suc i + j = omega arith in rw q at (e (suc j) (omega arith) t))
 
-module _ (loads : List ℕ) (h : ℕ) where
-  pub load-indices : (own : List ℕ) (bs : List Bool) (es : List Energies) → 1 ≤ h → h ≤ 25 → LoadsOf es loads → load_by own loads (marked bs (from 0 (length es))) h ≡ load_in own bs es h
-  unfolding load_by load_in LoadsOf RowAt hourly
-  load-indices own bs es a b f = ap (λ n. hourly own h + n) (sums-indices h (energy_at_index loads h) 0 bs es (λ j k t. let z : 0 + j ≡ j = omega arith in rw z (f j k (h - 1) (omega arith))))
-
--- what judging asks of the indices
-pub indices-asked : (counted : List Bool) (n hours : ℕ) (r : Indices) (loads : List ℕ) → IndicesOf counted n r → n ≤ 128 → hours ≤ 25 → length loads ≡ 3200
-    → (r.count ≤ 128) × (hours ≤ 25) × RowsAt r.at r.count loads
-indices-asked counted n hours r loads p b c d = (omega (arith, p.most), c, (omega (arith, p.most, p.long), λ l i. (omega (arith, p.below l i), omega (arith, p.below l i))))
+pub load-indices : (own : List ℕ) (bs : List Bool) (n : ℕ) (es : List Energies) (h : ℕ) → n ≤ length es → load_by own es (marked bs (from 0 n)) h ≡ load_in own bs (take n es) h
+unfolding load_by load_in
+load-indices own bs n es h b =
+    let m : length (take n es) ≡ n = length-take-le n es b in
+    ap (λ k. hourly own h + k)
+    (ap (λ k. sum_of (energy_at_index es h) (marked bs (from 0 k))) (sym m)
+    ∙ sums-indices h (energy_at_index es h) 0 bs (take n es) (λ j k t. let z : 0 + j ≡ j = omega arith in rw (z, get_or-take n es j bare_energies (omega (arith, m)))))
 
 -- energies and loads that are the same in every hour are judged as the same
 pub judged-same : (u : Unit) (notice : Notice) (cs : List Notice) (only : Bool) (H : ℕ) (own like : List ℕ) (f g : ℕ → ℕ)
@@ -51,15 +48,7 @@ judged-same u notice cs only H own like f g e k =
     ap (λ rows. given_by (first_row rows)) (rows-own H own like f e ls ∙ rows-load H like f g k ls)
 
 -- the judgement by indices is that by marks
-module _ (u : Unit) (notice : Notice) (cs : List Notice) (only : Bool) (H : ℕ) (own loads ps : List ℕ) (bs : List Bool) (n : ℕ) (es : List Energies) where
-  pub judged-indices : H ≤ 25 → n ≤ length es → LoadsOf (take n es) loads → ps ≡ marked bs (from 0 n)
-      → judged_in u notice cs only H own (load_by own loads ps) ≡ judged_in u notice cs only H own (load_in own bs (take n es))
-  unfolding judged_in
-  judged-indices most b f e =
-      ap (λ rows. given_by (first_row rows))
-      (rows-load H own (load_by own loads ps) (load_in own bs (take n es))
-      (λ h i k. ap (λ (qs : List ℕ). load_by own loads qs h) (e ∙ ap (λ m. marked bs (from 0 m)) (sym-length b)) ∙ load-indices loads h own bs (take n es) i (omega arith) f)
-      (judged_by (lines_in cs) (registered_in u notice) only))
-    where
-      sym-length : n ≤ length es → n ≡ length (take n es)
-      sym-length b = omega (arith, length-take-le n es b)
+module _ (u : Unit) (notice : Notice) (cs : List Notice) (only : Bool) (H : ℕ) (own ps : List ℕ) (bs : List Bool) (n : ℕ) (es : List Energies) where
+  pub judged-indices : n ≤ length es → ps ≡ marked bs (from 0 n)
+      → judged_in u notice cs only H own (load_by own es ps) ≡ judged_in u notice cs only H own (load_in own bs (take n es))
+  judged-indices b e = judged-same u notice cs only H own own (load_by own es ps) (load_in own bs (take n es)) (λ h i k. refl) (λ h i k. rw e (load-indices own bs n es h b))

@@ -1,5 +1,5 @@
 -- What a unit, its notice and the capacities of a session say, and the judgement by their limits.
-use Rattle.std.specs.Prelude.{ℕ, Bool, false, cond, not, List, [], ◌∷◌, map, eqb}
+use Rattle.std.specs.Prelude.{ℕ, Bool, true, false, cond, List, [], ◌∷◌, map, Some, None}
 use Rattle.std.proofs.Math.Option.{Option, some, none}
 use Rattle.rules.specs.Lists.{hourly}
 use Rattle.rules.specs.Refusals.{Row, first_row}
@@ -27,12 +27,15 @@ lines_in cs = record { capacities = map notice_in cs }
 unfoldable pub judged_in : Unit → Notice → List Notice → Bool → ℕ → List ℕ → (ℕ → ℕ) → Option (ℕ × ℕ)
 judged_in u n cs only H own load = given_by (first_row (limit_rows H own load (judged_by (lines_in cs) (registered_in u n) only)))
 
--- the row of a limit by its hour, 0 where it is passed in none
-abbrev pub row_at : ℕ → ℕ → Row
-row_at n h = record { number = n; hour = h; applies = not (eqb h 0) }
+-- the row of a limit by the hour in which it is passed, if it is
+abbrev pub row_at : ℕ → O.Option ℕ → Row
+row_at n = elim [
+  | None ↦ record { number = n; hour = 0; applies = false }
+  | Some h ↦ record { number = n; hour = h; applies = true }
+]
 
 -- the row that is given, by the lowest hours in which 10, 11 and 12 are passed
-unfoldable pub lowest_row : ℕ → ℕ → ℕ → Option (ℕ × ℕ)
+unfoldable pub lowest_row : O.Option ℕ → O.Option ℕ → O.Option ℕ → Option (ℕ × ℕ)
 lowest_row ten eleven twelve = given_by (first_row (row_at 10 ten ∷ row_at 11 eleven ∷ row_at 12 twelve ∷ []))
 
 -- limit 12 in an hour, none where it does not apply

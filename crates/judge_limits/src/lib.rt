@@ -1,9 +1,9 @@
 // The energy of a lodgement by hour, with that of others that are counted, against limits 10, 11 and 12.
 #![tactic(auto)]
 
-ghost use Rattle.std.specs.Prelude.{◌≡◌, cond, map, ℕ, ◌+◌, ◌*◌, ◌<◌, ◌≤◌, take, replicate, get_or, length};
+ghost use Rattle.std.specs.Prelude.{◌≡◌, cond, map, ℕ, ◌+◌, ◌<◌, ◌≤◌, replicate, get_or, length};
 ghost use Rattle.rules.specs.Units.{border_sum};
-ghost use Rattle.judge_loads.specs.Loads.{RowsAt, load_by};
+ghost use Rattle.judge_loads.specs.Loads.{IndicesIn, load_by};
 ghost use Rattle.session.specs.Parts.{said};
 ghost use Rattle.judge_limits.specs.Limits.{notice_in, lowest_row, judged_in, border_at};
 
@@ -11,7 +11,7 @@ use answer::Refusal;
 use judge_loads::lowest_hour;
 use rules::row::Row;
 use rules::{DIRECTIONS, HOURS};
-use session::{Notice, Unit};
+use session::{Energies, Notice, Unit};
 use std::array;
 
 // Limit 10 by hour: the unit's maximum in each.
@@ -22,8 +22,8 @@ pub fn maximum_energies(maximum: u32) -> [u64; HOURS]
 }
 
 // Limit 11 by hour: "without one, the maximum is available".
-pub fn available_energies(maximum: u32, notice: Notice) -> [u64; HOURS]
-    ensures { result ≡ cond notice.given notice.energies (replicate 25 maximum) }
+pub fn available_energies(maximum: u32, notice: &Notice) -> [u64; HOURS]
+    ensures { result ≡ cond notice.now.given notice.now.energies (replicate 25 maximum) }
 {
     if notice.given {
         return notice.energies.map(u64::from);
@@ -32,72 +32,68 @@ pub fn available_energies(maximum: u32, notice: Notice) -> [u64; HOURS]
 }
 
 // "the sum of the two capacities" in each hour.
-fn together(exports: [u32; HOURS], imports: [u32; HOURS]) -> [u64; HOURS]
-    ensures sums { (h : ℕ) → h < 25 → get_or result h 0 ≡ get_or exports h 0 + get_or imports h 0 }
-    ensures long { (length result ≡ 25) × (length exports ≡ 25) × (length imports ≡ 25) }
+fn together(exports: &[u32; HOURS], imports: &[u32; HOURS]) -> [u64; HOURS]
+    ensures sums { (h : ℕ) → h < 25 → get_or result h 0 ≡ get_or exports.now h 0 + get_or imports.now h 0 }
+    ensures long { (length result ≡ 25) × (length exports.now ≡ 25) × (length imports.now ≡ 25) }
 {
     array::from_fn(|h| u64::from(exports[h]) + u64::from(imports[h]))
 }
 
 // Limit 12 by hour: "at a border with both directions published, the sum of the two capacities".
 #[tactic(auto, using(crate::proofs::BorderLaws::border_laws))]
-pub fn border_limit(border: u32, capacities: [Notice; DIRECTIONS]) -> Option<[u64; HOURS]>
-    ensures { (h : ℕ) → border_at result h ≡ border_sum (map notice_in capacities) border h }
+pub fn border_limit(border: u32, capacities: &[Notice; DIRECTIONS]) -> Option<[u64; HOURS]>
+    ensures { (h : ℕ) → border_at result h ≡ border_sum (map notice_in capacities.now) border h }
 {
     if border == 0 || 4 < border {
         return None;
     }
     let index = (border as usize - 1) * 2;
-    let export = capacities[index];
-    let import = capacities[index + 1];
+    let export = &capacities[index];
+    let import = &capacities[index + 1];
     if !export.given || !import.given {
         return None;
     }
-    Some(together(export.energies, import.energies))
+    Some(together(&export.energies, &import.energies))
 }
 
-// "The lowest applicable number is given": the first limit with an hour, 0 being none.
-#[tactic(auto, using(crate::proofs::RowLaws::lowest_row_laws))]
-pub fn lowest_row(ten: u32, eleven: u32, twelve: u32) -> Result<(), Refusal>
+// "The lowest applicable number is given": the first limit that is passed in an hour.
+#[tactic(auto, unfolding(crate::specs::Limits::lowest_row, rules::specs::Refusals::first_row, session::specs::Parts::given_by))]
+pub fn lowest_row(ten: Option<u32>, eleven: Option<u32>, twelve: Option<u32>) -> Result<(), Refusal>
     ensures { said result ≡ lowest_row ten eleven twelve }
 {
-    let (row, hour) = if ten != 0 {
-        (Row::Maximum, ten)
-    } else if eleven != 0 {
-        (Row::Available, eleven)
-    } else if twelve != 0 {
-        (Row::Border, twelve)
-    } else {
-        return Ok(());
+    let (row, hour) = match (ten, eleven, twelve) {
+        (Some(hour), _, _) => (Row::Maximum, hour),
+        (_, Some(hour), _) => (Row::Available, hour),
+        (_, _, Some(hour)) => (Row::Border, hour),
+        _ => return Ok(()),
     };
     Err(Refusal { row, hour })
 }
 
 // The first of a unit's limits that is passed, a default lodgement's "against 10 only", with the lowest hour in which it is.
 pub fn judge_energy(
-    unit: Unit,
-    notice: Notice,
-    capacities: [Notice; DIRECTIONS],
+    unit: &Unit,
+    notice: &Notice,
+    capacities: &[Notice; DIRECTIONS],
     default: bool,
-    own: [u32; HOURS],
-    loads: &[u32],
-    at: &[usize],
-    count: usize,
+    own: &[u32; HOURS],
+    energies: &[Energies],
+    others: &[usize],
     hours: usize,
 ) -> Result<(), Refusal>
-    requires { (count ≤ 128) × (hours ≤ 25) × RowsAt at.now count loads.now }
-    ensures { said result ≡ judged_in unit notice capacities default hours own (load_by own loads.now (take count at.now)) }
+    requires { (hours ≤ 25) × IndicesIn energies.now others.now }
+    ensures { said result ≡ judged_in unit.now notice.now capacities.now default hours own.now (load_by own.now energies.now others.now) }
 {
     let most = maximum_energies(unit.maximum);
-    let ten = lowest_hour(own, loads, at, count, hours, most);
+    let ten = lowest_hour(own, energies, others, hours, &most);
     if default {
-        return lowest_row(ten, 0, 0);
+        return lowest_row(ten, None, None);
     }
     let available = available_energies(unit.maximum, notice);
-    let eleven = lowest_hour(own, loads, at, count, hours, available);
+    let eleven = lowest_hour(own, energies, others, hours, &available);
     let Some(sums) = border_limit(unit.border, capacities) else {
-        return lowest_row(ten, eleven, 0);
+        return lowest_row(ten, eleven, None);
     };
-    let twelve = lowest_hour(own, loads, at, count, hours, sums);
+    let twelve = lowest_hour(own, energies, others, hours, &sums);
     lowest_row(ten, eleven, twelve)
 }

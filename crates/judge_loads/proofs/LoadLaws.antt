@@ -1,5 +1,5 @@
 -- The loops: indices noted, energies laid in one array, sums over indices, the lowest hour passed, arrays written index by index.
-use Prim.Native.Nat.{ℕ, zero, suc, ◌+◌, ◌-◌, ◌*◌, ◌≤◌, ◌<◌}
+use Prim.Native.Nat.{ℕ, zero, suc, ◌+◌, ◌*◌, ◌≤◌, ◌<◌}
 use mathlib.Core.Path.{◌≡◌, refl, ap, sym, subst, ◌∙◌}
 use mathlib.Core.Logic.{⊎_elim}
 use mathlib.Core.Bool.{Bool, true, false, cond, not, ◌&&◌}
@@ -11,43 +11,42 @@ use lib.ListN.{length, get_or, take, drop, set, drop_of_length-le}
 use lib.Seq.{drop-cons, get_or-take, length-take-le, take-suc-set, get_or-set_same, get_or-set_other}
 use lib.Dec.{eqb}
 use borrow.Author.Tests.{lt-ltb, le-ltb, eq-eqb, ne_eqb}
-use Rattle.rules.specs.Lists.{sum, sum_of, from, add_each, hourly, lowest}
+use Rattle.rules.specs.Lists.{sum, sum_of, from, hourly, lowest}
 use Rattle.rules.specs.Units.{passes}
 use Rattle.rules.specs.Lodging.{passed_at}
 use Rattle.rules.proofs.ListLaws.{hourly-suc}
 use Rattle.rules.proofs.LowestLaws.{lowest-is, lowest-none}
 use Rattle.session.specs.Bare.{bare_energies}
 use Rattle.session.specs.declared.Energies.{Energies}
-use Rattle.judge_loads.specs.Loads.{marked, RowAt, PutAt, LoadsOf, energy_at_index, load_by, laid}
+use Rattle.std.specs.Prelude.{Some, None}
+use Rattle.judge_loads.specs.Loads.{marked, RowAt, PutAt, LoadsOf, IndicesIn, energy_at_index, load_by, hour_at, laid}
 
 -- Sums
 
 below : (j i : ℕ) → j < i + 1 → j ≤ i
 below j i k = omega arith
 
--- the energy in an hour at the first n indices, from the l-th on
-unfoldable pub rest_at : ℕ → List ℕ → List ℕ → ℕ → ℕ → ℕ
-rest_at h loads ps n l = sum_of (energy_at_index loads h) (drop l (take n ps))
+-- the energy in an hour at the indices from the l-th on
+unfoldable pub rest_at : ℕ → List Energies → List ℕ → ℕ → ℕ
+rest_at h es ps l = sum_of (energy_at_index es h) (drop l ps)
 
-module _ (h : ℕ) (loads ps : List ℕ) (n l : ℕ) where
-  rest-next : l < n → n ≤ length ps → rest_at (suc h) loads ps n l ≡ get_or loads (get_or ps l 0 * 25 + h) 0 + rest_at (suc h) loads ps n (l + 1)
+module _ (h : ℕ) (es : List Energies) (ps : List ℕ) (l : ℕ) where
+  rest-next : l < length ps → rest_at (suc h) es ps l ≡ get_or (get_or es (get_or ps l 0) bare_energies).energies h 0 + rest_at (suc h) es ps (l + 1)
   unfolding rest_at sum_of sum
-  rest-next i b =
-      let e : suc h - 1 ≡ h = omega arith in
-      rw (add-one, drop-cons (take n ps) l 0 (omega (arith, length-take-le n ps b)), get_or-take n ps l 0 i, e)
+  rest-next i = rw (add-one, drop-cons ps l 0 i, hourly-suc (get_or es (get_or ps l 0) bare_energies).energies h)
 
-  -- one more index: r is the sum s with it
-  pub rest-again : (s : ℕ) {r t k : ℕ} → l < n → n ≤ length ps → k ≡ h → r ≡ s + get_or loads (get_or ps l 0 * 25 + k) 0
-      → s + rest_at (suc h) loads ps n l ≡ t → r + rest_at (suc h) loads ps n (l + 1) ≡ t
-  rest-again s i b q e f = omega (arith, rest-next i b, rw q at e, f)
+  -- one more index
+  pub rest-again : (s : ℕ) {r t : ℕ} → l < length ps → r ≡ s + get_or (get_or es (get_or ps l 0) bare_energies).energies h 0
+      → s + rest_at (suc h) es ps l ≡ t → r + rest_at (suc h) es ps (l + 1) ≡ t
+  rest-again s i e f = omega (arith, rest-next i, e, f)
 
-  pub rest_end : n ≤ l → n ≤ length ps → rest_at h loads ps n l ≡ 0
+  pub rest_end : length ps ≤ l → rest_at h es ps l ≡ 0
   unfolding rest_at sum_of sum
-  rest_end i b = rw (drop_of_length-le (take n ps) {i = l} (omega (arith, length-take-le n ps b)))
+  rest_end i = rw (drop_of_length-le ps {i = l} i)
 
-pub rest-start : (own loads ps : List ℕ) (n h : ℕ) → get_or own h 0 + rest_at (suc h) loads ps n 0 ≡ load_by own loads (take n ps) (suc h)
+pub rest-start : (own : List ℕ) (es : List Energies) (ps : List ℕ) (h : ℕ) → get_or own h 0 + rest_at (suc h) es ps 0 ≡ load_by own es ps (suc h)
 unfolding rest_at load_by
-rest-start own loads ps n h = rw (hourly-suc own h)
+rest-start own es ps h = rw (hourly-suc own h)
 
 -- Indices
 
@@ -85,6 +84,36 @@ module _ (bs : List Bool) (ps : List ℕ) (l count : ℕ) where
   pub index_below : (n : ℕ) → count < length ps → l < n → ((j : ℕ) → j < count → get_or ps j 0 < n) → (j : ℕ) → j < count + 1 → get_or (set ps count l) j 0 < n
   index_below n h k f j i =
       ⊎_elim (λ (q : j ≡ count). rw (q, get_or-set_same ps count l 0 h) k) (λ m. rw (get_or-set_other ps count j l 0 (λ q. absurd (omega arith))) (f j m)) (eq-or-lt_of_le (below j count i))
+
+-- the same of a list that is added to
+module _ (bs : List Bool) (ps : List ℕ) (l : ℕ) where
+  pub index-pushed : get_or bs l false ≡ true → ps ≡ marked bs (from 0 l) → ps ++ (l ∷ []) ≡ marked bs (from 0 (l + 1))
+  index-pushed t e =
+      let z : 0 + l ≡ l = omega arith in
+      rw (add-one, marked-last bs 0 l, t, z) (ap (λ (qs : List ℕ). qs ++ (l ∷ [])) e)
+
+  pub index-left : get_or bs l false ≡ false → ps ≡ marked bs (from 0 l) → ps ≡ marked bs (from 0 (l + 1))
+  index-left t e = rw (add-one, marked-last bs 0 l, t, append-nil (marked bs (from 0 l))) e
+
+-- indices that are marked are of so many at most, and below their number
+pub marked-few : (bs : List Bool) (i n : ℕ) → length (marked bs (from i n)) ≤ n
+unfolding marked from
+marked-few [] i n = omega arith
+marked-few (b ∷ bs) i zero = omega arith
+marked-few (true ∷ bs) i (suc n) = omega (arith, marked-few bs (suc i) n)
+marked-few (false ∷ bs) i (suc n) = omega (arith, marked-few bs (suc i) n)
+
+pub marked-below : (bs : List Bool) (i n l : ℕ) → l < length (marked bs (from i n)) → get_or (marked bs (from i n)) l 0 < i + n
+unfolding marked from
+marked-below [] i n l h = absurd (omega arith)
+marked-below (b ∷ bs) i zero l h = absurd (omega arith)
+marked-below (true ∷ bs) i (suc n) zero h = omega arith
+marked-below (true ∷ bs) i (suc n) (suc l) h = omega (arith, marked-below bs (suc i) n l (omega arith))
+marked-below (false ∷ bs) i (suc n) l h = omega (arith, marked-below bs (suc i) n l h)
+
+-- those of the first n that are marked are indices of n energies and more
+pub indices-in : (bs : List Bool) (n : ℕ) (es : List Energies) (ps : List ℕ) → ps ≡ marked bs (from 0 n) → n ≤ 128 → n ≤ length es → IndicesIn es ps
+indices-in bs n es ps e few room = rw e (record { few = omega (arith, marked-few bs 0 n); below = λ l h. omega (arith, marked-below bs 0 n l h) })
 
 -- Energies in one array
 
@@ -180,22 +209,16 @@ module _ (p : ℕ → Bool) where
   none_found n h k q i f e =
       omega (arith, lowest-is p n (suc h) (omega arith) (omega arith) e (λ k a b. f k a (omega arith)))
 
+  -- the same of the hour that is told
+  pub hour-none : (n h : ℕ) → n ≤ h → NoneTo p h → None ≡ hour_at (lowest p n)
+  hour-none n h i f = rw (← none-all n h i f)
+
+  pub hour-found : (n h : ℕ) → h < n → NoneTo p h → p (suc h) ≡ true → Some (h + 1) ≡ hour_at (lowest p n)
+  hour-found n h i f e = rw (← none_found n h h refl i f e, ne_eqb (h + 1) 0 (λ z. absurd (omega arith)))
+
 -- Arrays written index by index
 
 pub written_next : (g : ℕ → ℕ) (l : List ℕ) (i v : ℕ) → i < length l → v ≡ g i → ((j : ℕ) → j < i → get_or l j 0 ≡ g j)
     → (j : ℕ) → j < i + 1 → get_or (set l i v) j 0 ≡ g j
 written_next g l i v h e f j k =
     ⊎_elim (λ (q : j ≡ i). rw (q, get_or-set_same l i v 0 h) e) (λ m. rw (get_or-set_other l i j v 0 (λ q. absurd (omega arith))) (f j m)) (eq-or-lt_of_le (below j i k))
-
-pub add_at : (ks ls : List ℕ) (j : ℕ) → get_or (add_each ks ls) j 0 ≡ get_or ks j 0 + get_or ls j 0
-unfolding add_each
-add_at [] ls j = omega arith
-add_at (k ∷ ks) [] j = omega arith
-add_at (k ∷ ks) (l ∷ ls) zero = refl
-add_at (k ∷ ks) (l ∷ ls) (suc j) = add_at ks ls j
-
-pub add-length : (ks ls : List ℕ) → length ls ≡ length ks → length (add_each ks ls) ≡ length ks
-unfolding add_each
-add-length [] ls e = e
-add-length (k ∷ ks) [] e = refl
-add-length (k ∷ ks) (l ∷ ls) e = ap suc (add-length ks ls (omega arith))

@@ -1,5 +1,6 @@
 -- A lodgement's energy in an hour, with that of others that are counted.
-use Rattle.std.specs.Prelude.{ℕ, ◌+◌, ◌-◌, ◌*◌, ◌≤◌, ◌<◌, ◌≡◌, Bool, cond, List, [], ◌∷◌, length, get_or, take}
+use Rattle.std.specs.Prelude.{ℕ, ◌+◌, ◌*◌, ◌≤◌, ◌<◌, ◌≡◌, Bool, cond, List, [], ◌∷◌, eqb, length, get_or, take, Some, None}
+use Rattle.std.specs.declared.option.Option as O
 use Rattle.std.proofs.Math.Option.{some}
 use Rattle.rules.specs.Lists.{sum_of, hourly, from}
 use Rattle.rules.specs.Units.{Limit}
@@ -44,17 +45,24 @@ PutAt l es before after =
 unfoldable pub LoadsOf : List Energies → List ℕ → Type 0
 LoadsOf es loads = (l : ℕ) → l < length es → RowAt l (get_or es l bare_energies).energies loads
 
--- the array has 25 numbers at each of the first indices of a list
-abbrev pub RowsAt : List ℕ → ℕ → List ℕ → Type 0
-RowsAt at count loads = (count ≤ length at) × ((l : ℕ) → l < count → (get_or at l 0 < 128) × (get_or at l 0 * 25 + 25 ≤ length loads))
+-- The load by indices
+
+-- each is the index of one of the energies
+pub record IndicesIn (es : List Energies) (indices : List ℕ) : Type 0 where
+  pub few : length indices ≤ 128
+  pub below : (l : ℕ) → l < length indices → get_or indices l 0 < length es
 
 -- the energy in an hour at an index
-abbrev pub energy_at_index : List ℕ → ℕ → ℕ → ℕ
-energy_at_index loads h l = get_or loads (l * 25 + (h - 1)) 0
+abbrev pub energy_at_index : List Energies → ℕ → ℕ → ℕ
+energy_at_index es h i = energy_in h (get_or es i bare_energies)
 
 -- a lodgement's own energy in an hour plus that at the indices of others
-unfoldable pub load_by : List ℕ → List ℕ → List ℕ → ℕ → ℕ
-load_by own loads indices h = hourly own h + sum_of (energy_at_index loads h) indices
+unfoldable pub load_by : List ℕ → List Energies → List ℕ → ℕ → ℕ
+load_by own es indices h = hourly own h + sum_of (energy_at_index es h) indices
+
+-- an hour that is found: 0 is none
+abbrev pub hour_at : ℕ → O.Option ℕ
+hour_at h = cond (eqb h 0) None (Some h)
 
 -- a limit by hour, as an array has it (its number is not looked at here)
 abbrev pub laid : List ℕ → Limit

@@ -1,10 +1,10 @@
-// The energies of the lodgements that are counted beside one, and the lowest hour in which its energy with theirs passes a limit.
+// A lodgement's energy with that of others that are counted, and the lowest hour in which it passes a limit.
 #![tactic(auto)]
 
 ghost use Rattle.std.specs.Prelude.{◌≡◌, ◌+◌, ◌*◌, ◌<◌, ◌≤◌, take, length};
 ghost use Rattle.rules.specs.Lists.{lowest};
 ghost use Rattle.rules.specs.Lodging.{passed_at};
-ghost use Rattle.judge_loads.specs.Loads.{PutAt, LoadsOf, RowsAt, load_by, laid};
+ghost use Rattle.judge_loads.specs.Loads.{PutAt, LoadsOf, IndicesIn, load_by, hour_at, laid};
 
 use rules::{HOURS, LODGEMENTS};
 use session::Energies;
@@ -34,41 +34,33 @@ pub fn loads_of(n: usize, energies: [Energies; LODGEMENTS]) -> [u32; LODGEMENTS 
     loads
 }
 
-// "the lowest hour in which that limit is passed", 0 where there is none: in an hour that is named, by a lodgement's own
-// energy and that of the others that are counted, at `count` indices. The sum only grows, so it is left where it first passes.
-pub fn lowest_hour(
-    own: [u32; HOURS],
-    loads: &[u32],
-    at: &[usize],
-    count: usize,
-    hours: usize,
-    limit: [u64; HOURS],
-) -> u32
-    requires { (count ≤ 128) × (hours ≤ 25) × RowsAt at.now count loads.now }
-    ensures { result ≡ lowest (passed_at own (load_by own loads.now (take count at.now)) (laid limit)) hours }
+// A lodgement's own energy in an hour, counted from 0, plus that of others, at their indices: of so few the sum never wraps.
+fn load_at(own: &[u32; HOURS], energies: &[Energies], others: &[usize], h: usize) -> u64
+    requires { (h < 25) × IndicesIn energies.now others.now }
+    ensures { result ≡ load_by own.now energies.now others.now (h + 1) }
 {
-    let mut passed: u32 = 0;
-    'hours: for h in 0..hours {
-        let named = own[h];
-        if named == 0 {
-            continue 'hours;
-        }
-        let most = limit[h];
-        let mut sum = arrays::wide(named);
-        let mut l: usize = 0;
-        loop {
-            if most < sum {
-                passed = h as u32 + 1;
-                break 'hours;
-            }
-            if l == count {
-                continue 'hours;
-            }
-            let index = at[l];
-            let more = loads[index * HOURS + h];
-            sum += arrays::wide(more);
-            l += 1;
+    let mut load = u64::from(own[h]);
+    for i in others {
+        load += u64::from(energies[*i].energies[h]);
+    }
+    load
+}
+
+// "the lowest hour in which that limit is passed": in an hour that is named, by a lodgement's own energy with that of the others.
+pub fn lowest_hour(
+    own: &[u32; HOURS],
+    energies: &[Energies],
+    others: &[usize],
+    hours: usize,
+    limit: &[u64; HOURS],
+) -> Option<u32>
+    requires { (hours ≤ 25) × IndicesIn energies.now others.now }
+    ensures { result ≡ hour_at (lowest (passed_at own.now (load_by own.now energies.now others.now) (laid limit.now)) hours) }
+{
+    for h in 0..hours {
+        if own[h] != 0 && limit[h] < load_at(own, energies, others, h) {
+            return Some(h as u32 + 1);
         }
     }
-    passed
+    None
 }
