@@ -1,5 +1,5 @@
 -- Limit 12 by border and hour, and ceilings by unit and hour.
-use Rattle.std.specs.Prelude.{ℕ, suc, ◌≤◌, ◌<◌, min, ◌≡◌, Bool, cond, List, [], map, ltb, length, get_or}
+use Rattle.std.specs.Prelude.{ℕ, suc, ◌<◌, min, ◌≡◌, Bool, cond, List, [], map, ltb, length, get_or}
 use Rattle.std.proofs.Math.Option.{Option, some, none}
 use Rattle.rules.specs.Units.{border_sum, ceiling}
 use Rattle.session.specs.Bare.{bare_notice}

@@ -22,7 +22,7 @@ pub type Lines = [[u32; HOURS]; BORDERS + 1];
 fn capped_line(border: u32, capacities: &[Notice; DIRECTIONS]) -> [u32; HOURS]
     ensures { result ≡ map (line_at capacities.now border) (range_with_len 0 25) }
 {
-    border_limit(border, *capacities)
+    border_limit(border, capacities)
         .unwrap_or([MOST; HOURS])
         .map(|sum| sum.min(MOST) as u32)
 }
