@@ -9,42 +9,23 @@ ghost use Rattle.session_changes.specs.Effects.{effect_of};
 ghost use Rattle.close.specs.Closed.{closed_effect};
 
 use answer::{Refusal, Response};
-use close_ceilings::{ceilings_of, lines_of};
-use close_holders::holders_of;
-use close_order::{DEFAULT, NORMAL, OFFERS, pass};
-use judge_loads::loads_of;
+use close_order::{Class, Closing};
 use rules::LODGEMENTS;
 use rules::row::Row;
-use session::{Effect, Session, Verdict, no_verdict};
+use session::{Effect, Session, Verdict};
 use session_changes::{ClosingChange, Step, effect};
 
 // The verdicts of the standing lodgements: "normal executions, default executions, offers". It is all that closing changes
 // beside the mark.
-fn verdicts(s: Session) -> [Verdict; LODGEMENTS]
-    requires { Within s }
-    ensures { Entered s close (closed_effect s result) }
+fn verdicts(s: &Session) -> [Verdict; LODGEMENTS]
+    requires { Within s.now }
+    ensures { Entered s.now close (closed_effect s.now result) }
 {
-    let blank = no_verdict();
-    let none = [blank; LODGEMENTS];
-    let energies = s.energies;
-    let units = s.units;
-    let notices = s.notices;
-    let capacities = s.capacities;
-    let lodgements = s.lodgements;
-    let loads = loads_of(s.standing, energies);
-    let holders = holders_of(units, s.enrolled, lodgements, s.standing);
-    let lines = lines_of(capacities);
-    let mut room = ceilings_of(units, notices, &lines, s.enrolled);
-    let mut marks = [false; LODGEMENTS];
-    let normal = pass(
-        s, &loads, &holders, &lines, &mut room, &mut marks, NORMAL, none,
-    );
-    let executions = pass(
-        s, &loads, &holders, &lines, &mut room, &mut marks, DEFAULT, normal,
-    );
-    pass(
-        s, &loads, &holders, &lines, &mut room, &mut marks, OFFERS, executions,
-    )
+    let mut closing = Closing::of(s);
+    closing.pass(Class::Normal);
+    closing.pass(Class::Default);
+    closing.pass(Class::Offers);
+    closing.verdicts
 }
 
 // The row that refuses closing: 2.
@@ -67,7 +48,7 @@ pub fn close_change(s: Session) -> Result<Step<ClosingChange>, Refusal>
     judge_close(&s)?;
     Ok(Step {
         change: ClosingChange {
-            verdicts: verdicts(s),
+            verdicts: verdicts(&s),
         },
         answer: Response::accepted(),
     })

@@ -1,13 +1,16 @@
 -- The ceilings of the code are those of the rules.
-use Prim.Native.Nat.{ℕ, suc, ◌+◌, ◌*◌, ◌≤◌, ◌<◌, min}
+use Prim.Native.Nat.{ℕ, suc, ◌+◌, ◌≤◌, ◌<◌, min}
 use mathlib.Core.Path.{◌≡◌, refl, ap, sym, ◌∙◌}
 use mathlib.Core.Bool.{Bool, true, false, cond}
-use mathlib.Core.List.{List, [], ◌∷◌, map}
+use mathlib.Core.List.{List, [], ◌∷◌, ◌++◌, map}
+use mathlib.Core.Logic.{⊎_elim}
+use native.Mathlib.Nat.{eq-or-lt_of_le}
 use mathlib.Core.Option.{Option, some, none}
 use native.Mathlib.Omega.{arith}
-use lib.Dec.{ltb}
-use lib.ListN.{length, get_or, replicate, get_or-replicate}
-use borrow.Author.Tests.{ltb-true, ltb-false}
+use lib.Dec.{ltb, eqb}
+use lib.ListN.{length, get_or, set, replicate, get_or-replicate, get_or-append}
+use lib.Seq.{get_or-append_seam, get_or-set_same, get_or-set_other}
+use borrow.Author.Tests.{ltb-true, ltb-false, eqb-true, eqb-false}
 use Rattle.rules.specs.Lists.{hourly}
 use Rattle.rules.specs.Units.{available_at, border_sum, maximum_limit, available_limit, own_limits, border_limit, border_limits, limits, least_of, ceiling}
 use Rattle.rules.proofs.BoolLaws.{by_bool}
@@ -16,25 +19,20 @@ use Rattle.session.specs.Bare.{bare_notice}
 use Rattle.session.specs.Image.{no_unit}
 use Rattle.session.specs.declared.Unit.{Unit}
 use Rattle.session.specs.declared.Notice.{Notice}
-use Rattle.judge_limits.specs.Limits.{notice_in, registered_in, lines_in, border_at}
+use Rattle.judge_limits.specs.Limits.{notice_in, border_at}
 use Rattle.std.specs.Prelude.{Some, None}
 use Rattle.std.specs.Option.{unwrap_or}
 use Rattle.std.specs.declared.option.Option as O
 use Rattle.judge_limits.proofs.BorderLaws.{off-domestic, off-borders}
-use Rattle.close_ceilings.specs.Ceilings.{most, line_in, line_of, line_at, line_row, ceiling_by, ceiling_in, ceiling_at}
+use Rattle.close_ceilings.specs.Ceilings.{most, line_of, line_at, line_row, ceiling_by, ceiling_in, ceiling_of, ceiling_at, CeilingsTo}
 
 -- Limit 12
 
-pub line_as : (cs : List Notice) (b : ℕ) (l : O.Option (List ℕ)) (h : ℕ) → border_at l (suc h) ≡ border_sum (map notice_in cs) b (suc h) → line_in l h ≡ line_at cs b h
-unfolding line_in line_at line_of border_at
-line_as cs b None h e = ap line_of e
-line_as cs b (Some sums) h e = ap (λ n. min n most) (sym (hourly-suc sums h)) ∙ ap line_of e
-
--- a limit that does not apply is as much as any
-pub line-laid : (l : O.Option (List ℕ)) (h : ℕ) → h < 25 → min (get_or (unwrap_or l (replicate 25 most)) h 0) most ≡ line_in l h
-unfolding line_in
-line-laid None h i = ap (λ n. min n most) (get_or-replicate {A = ℕ} 25 h most 0 i)
-line-laid (Some sums) h i = refl
+-- one that does not apply is as much as any
+pub line_as : (cs : List Notice) (b : ℕ) (l : O.Option (List ℕ)) (h : ℕ) → h < 25 → border_at l (suc h) ≡ border_sum (map notice_in cs) b (suc h) → min (get_or (unwrap_or l (replicate 25 most)) h 0) most ≡ line_at cs b h
+unfolding line_at line_of border_at
+line_as cs b None h i e = ap (λ n. min n most) (get_or-replicate {A = ℕ} 25 h most 0 i) ∙ ap line_of e
+line_as cs b (Some sums) h i e = ap (λ n. min n most) (sym (hourly-suc sums h)) ∙ ap line_of e
 
 -- a number that no border has
 row-none : (cs : List Notice) (b h : ℕ) → length cs ≡ 8 → 4 < b → line_at cs 0 h ≡ line_at cs b h
@@ -61,10 +59,10 @@ available-at : (t : Bool) (es : List ℕ) (m h : ℕ) → ◌≡◌ {A = ℕ} (e
 available-at true es m h = hourly-suc es h
 available-at false es m h = refl
 
-pub ceiling-as : (u : Unit) (n : Notice) (cs : List Notice) (lines : List ℕ) (h : ℕ) → u.maximum ≤ most → length cs ≡ 8
-    → get_or lines (line_row u.border * 25 + h) 0 ≡ line_at cs (line_row u.border) h → ceiling_in u n lines h ≡ ceiling (lines_in cs) (registered_in u n) (suc h)
-unfolding ceiling_in line_at ceiling limits own_limits border_limits maximum_limit available_limit border_limit available_at notice_in least_of
-ceiling-as u n cs lines h m l e =
+pub ceiling-as : (u : Unit) (n : Notice) (cs : List Notice) (line : List ℕ) (h : ℕ) → u.maximum ≤ most → length cs ≡ 8
+    → get_or line h 0 ≡ line_at cs (line_row u.border) h → ceiling_in u n line h ≡ ceiling_of u n cs h
+unfolding line_at ceiling limits own_limits border_limits maximum_limit available_limit border_limit available_at notice_in least_of
+ceiling-as u n cs line h m l e =
     rw (e ∙ row_as cs u.border h l)
     (ceiling-by n.given u.maximum (get_or n.energies h 0) (border_sum (map notice_in cs) u.border (suc h)) m
     ∙ ap (λ a. min u.maximum (min a (least_of u.maximum (border_sum (map notice_in cs) u.border (suc h) ∷ [])))) (sym (available-at n.given n.energies u.maximum h)))
@@ -73,11 +71,21 @@ pub row_in : (b : ℕ) → line_row b < 5
 unfolding line_row
 row_in b = by_bool (ltb 4 b) (λ t. rw t (omega arith)) (λ t. rw t (omega (arith, ltb-false 4 b t)))
 
--- by the index of the unit
-unfoldable pub laid_at : List Unit → List Notice → List ℕ → ℕ → ℕ → ℕ
-laid_at us ns lines p h = ceiling_in (get_or us p no_unit) (get_or ns p bare_notice) lines h
+-- a row more
+pub ceilings_more : (us : List Unit) (ns cs : List Notice) (rows : List (List ℕ)) (row : List ℕ) (n : ℕ) (u : Unit) (x : Notice) → length rows ≡ n → u ≡ get_or us n no_unit → x ≡ get_or ns n bare_notice
+    → ((h : ℕ) → h < 25 → get_or row h 0 ≡ ceiling_of u x cs h) → CeilingsTo us ns cs n rows → CeilingsTo us ns cs (n + 1) (rows ++ row ∷ [])
+unfolding ceiling_at
+ceilings_more us ns cs rows row n u x l e d f g p h i k =
+    by_bool (ltb p n)
+    (λ t. rw (get_or-append rows (row ∷ []) [] p (omega (arith, ltb-true p n t))) (g p h (ltb-true p n t) k))
+    (λ t. let q : p ≡ length rows = omega (arith, ltb-false p n t) in rw (q, get_or-append_seam rows row [] [], l, ← e, ← d) (f h k))
 
-pub laid_as : (us : List Unit) (ns cs : List Notice) (lines : List ℕ) (n p h : ℕ) → ((k : ℕ) → k < n → (get_or us k no_unit).maximum ≤ most) → p < n → length cs ≡ 8 → h < 25
-    → ((b h : ℕ) → b < 5 → h < 25 → get_or lines (b * 25 + h) 0 ≡ line_at cs b h) → laid_at us ns lines p h ≡ ceiling_at us ns cs p h
-unfolding laid_at ceiling_at
-laid_as us ns cs lines n p h m i l k e = ceiling-as (get_or us p no_unit) (get_or ns p bare_notice) cs lines h (m p i) l (e (line_row (get_or us p no_unit).border) h (row_in (get_or us p no_unit).border) k)
+-- one more of an array is written
+pub laid_next : {A : Type 0} (d : A) (g : ℕ → A) (l : List A) (i : ℕ) (v : A) → i < length l → v ≡ g i → ((j : ℕ) → j < i → get_or l j d ≡ g j) → (j : ℕ) → j < i + 1 → get_or (set l i v) j d ≡ g j
+laid_next d g l i v h e f j k =
+    by_bool (eqb j i)
+    (λ t. let q = eqb-true j i t in rw (q, get_or-set_same l i v d h) e)
+    (λ t. get_or-set_other l i j v d (eqb-false j i t) ∙ f j (before (eqb-false j i t)))
+  where
+    before : (j ≡ i → ⊥) → j < i
+    before n = ⊎_elim (λ q. absurd (n q)) (λ m. m) (eq-or-lt_of_le (let m : j ≤ i = omega arith in m))

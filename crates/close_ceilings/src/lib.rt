@@ -1,45 +1,48 @@
 // The ceilings of units by hour: "the ceiling of a unit in an hour is the least of" its limits.
 #![tactic(auto)]
 
-ghost use Rattle.std.specs.Prelude.{◌≡◌, List, ℕ, ◌+◌, ◌*◌, ◌<◌, ◌≤◌, get_or, length};
+ghost use Rattle.std.specs.Prelude.{◌≡◌, List, ℕ, ◌<◌, ◌≤◌, length, get_or, map};
+ghost use Rattle.std.specs.List.{range_with_len};
 ghost use Rattle.session.specs.declared.Notice.{Notice};
-ghost use Rattle.close_ceilings.specs.Ceilings.{most, line_in, line_at, LinesOf, line_row, ceiling_by, ceiling_in, ceiling_at, RowAt};
+ghost use Rattle.close_ceilings.specs.Ceilings.{line_at, LinesOf, line_row, ceiling_in, ceiling_of, CeilingsOf};
 
-use arrays::lower;
+use arrayvec::ArrayVec;
 use judge_limits::border_limit;
 use rules::{BORDERS, DIRECTIONS, HOURS, UNITS};
 use session::{Notice, Unit};
+use std::array;
 
 // As much as a maximum can be.
 const MOST: u64 = 4_294_967_295;
 
-// Limit 12 by hour, in its border's row: as much as a maximum can be where it does not apply.
-fn lay_line(lines: &mut [u32; BORDERS * HOURS + HOURS], border: usize, limit: Option<[u64; HOURS]>)
-    requires { (border < 5) × (length lines.old ≡ 125) }
-    ensures { (length lines.new ≡ 125) × RowAt border (line_in limit) 25 lines.old lines.new }
+// Limit 12 by border and hour; row 0 is of domestic units.
+pub type Lines = [[u32; HOURS]; BORDERS + 1];
+
+// Limit 12 of a border by hour, as much as a maximum can be where it does not apply.
+fn capped_line(border: u32, capacities: &[Notice; DIRECTIONS]) -> [u32; HOURS]
+    ensures { result ≡ map (line_at capacities.now border) (range_with_len 0 25) }
 {
-    let sums = limit.unwrap_or([MOST; HOURS]);
-    for h in 0..HOURS {
-        lines[border * HOURS + h] = sums[h].min(MOST) as u32;
-    }
+    border_limit(border, capacities)
+        .unwrap_or([MOST; HOURS])
+        .map(|sum| sum.min(MOST) as u32)
 }
 
-// Limit 12 by border and hour, 25 numbers for each border.
-pub fn lines_of(capacities: [Notice; DIRECTIONS]) -> [u32; BORDERS * HOURS + HOURS]
-    ensures { LinesOf capacities result }
+// Limit 12 by border and hour.
+pub fn lines_of(capacities: &[Notice; DIRECTIONS]) -> Lines
+    ensures { LinesOf capacities.now result }
 {
-    let mut lines = [0u32; BORDERS * HOURS + HOURS];
-    for b in 0..5 {
-        let border = b as usize;
-        let limit = border_limit(b, capacities);
-        lay_line(&mut lines, border, limit);
+    let mut lines = [[0; HOURS]; BORDERS + 1];
+    for (border, line) in lines.iter_mut().enumerate() {
+        *line = capped_line(border as u32, capacities);
     }
     lines
 }
 
 // The row of a border; a number that no border has has no line either, as a domestic unit.
+#[tactic(auto, unfolding(crate::specs::Ceilings::line_row))]
 fn line_row(border: u32) -> usize
-    ensures { (result ≡ line_row border) × (result < 5) }
+    ensures row { result ≡ line_row border }
+    ensures among { result < 5 }
 {
     if 4 < border {
         return 0;
@@ -48,66 +51,48 @@ fn line_row(border: u32) -> usize
 }
 
 // Limit 12 of a border by hour, as it is laid.
-pub fn line_of(lines: &[u32; BORDERS * HOURS + HOURS], border: u32) -> [u64; HOURS]
+pub fn line_of(lines: &Lines, border: u32) -> [u64; HOURS]
     ensures { (cs : List Notice) → LinesOf cs lines.now → (h : ℕ) → h < 25 → get_or result h 0 ≡ line_at cs border h }
 {
-    let row = line_row(border);
-    let mut line = [0u64; HOURS];
-    for h in 0..HOURS {
-        line[h] = arrays::wide(lines[row * HOURS + h]);
-    }
-    line
+    lines[line_row(border)].map(u64::from)
 }
 
-// The least of the limits in an hour: "without one, the maximum is available".
-fn ceiling_at(maximum: u32, given: bool, available: u32, line: u32) -> u32
-    ensures { result ≡ ceiling_by maximum given available line }
+// The least of the limits in the hour at index h: "without one, the maximum is available".
+#[tactic(auto, unfolding(crate::specs::Ceilings::ceiling_by))]
+fn ceiling_at(unit: Unit, notice: &Notice, line: &[u32; HOURS], h: usize) -> u32
+    requires { h < 25 }
+    ensures { result ≡ ceiling_in unit notice.now line.now h }
 {
-    let least = lower(maximum, line);
-    if !given {
-        return least;
+    let least = unit.maximum.min(line[h]);
+    if notice.given {
+        least.min(notice.energies[h])
+    } else {
+        least
     }
-    lower(least, available)
 }
 
-// A unit's ceiling by hour, in its row.
-fn lay_unit(
-    ceilings: &mut [u32; UNITS * HOURS + HOURS],
-    p: usize,
-    u: Unit,
-    notice: Notice,
-    lines: &[u32; BORDERS * HOURS + HOURS],
-)
-    requires { (p < 64) × (length ceilings.old ≡ 1625) }
-    ensures { (length ceilings.new ≡ 1625) × RowAt p (ceiling_in u notice lines.now) 25 ceilings.old ceilings.new × (u.maximum ≤ most) }
+// A unit's ceiling by hour.
+fn ceilings_at(unit: Unit, notice: &Notice, lines: &Lines) -> [u32; HOURS]
+    ensures { (cs : List Notice) → LinesOf cs lines.now → (h : ℕ) → h < 25 → get_or result h 0 ≡ ceiling_of unit notice.now cs h }
 {
-    let row = line_row(u.border);
-    for h in 0..HOURS {
-        ceilings[p * HOURS + h] = ceiling_at(
-            u.maximum,
-            notice.given,
-            notice.energies[h],
-            lines[row * HOURS + h],
-        );
-    }
+    let line = &lines[line_row(unit.border)];
+    array::from_fn(|h| ceiling_at(unit, notice, line, h))
 }
 
-// The ceilings of the first n units, 25 numbers for each and a row more.
+// The ceilings of units by hour.
 pub fn ceilings_of(
-    units: [Unit; UNITS],
-    notices: [Notice; UNITS],
-    lines: &[u32; BORDERS * HOURS + HOURS],
-    n: usize,
-) -> [u32; UNITS * HOURS + HOURS]
-    requires { n ≤ 64 }
-    ensures { (cs : List Notice) → LinesOf cs lines.now
-        → (p h : ℕ) → p < n → h < 25 → get_or result (p * 25 + h) 0 ≡ ceiling_at units notices cs p h }
+    units: &[Unit],
+    notices: &[Notice],
+    lines: &Lines,
+) -> ArrayVec<[u32; HOURS], UNITS>
+    requires few { length units.now ≤ 64 }
+    requires noticed { length notices.now ≡ length units.now }
+    ensures same_length { length result.items ≡ length units.now }
+    ensures ceilings { (cs : List Notice) → LinesOf cs lines.now → CeilingsOf units.now notices.now cs result.items }
 {
-    let mut ceilings = [0u32; UNITS * HOURS + HOURS];
-    for p in 0..n {
-        let u = units[p];
-        let notice = notices[p];
-        lay_unit(&mut ceilings, p, u, notice, lines);
+    let mut ceilings = ArrayVec::new();
+    for (unit, notice) in units.iter().zip(notices) {
+        ceilings.push(ceilings_at(*unit, notice, lines));
     }
     ceilings
 }

@@ -1,20 +1,18 @@
 -- The index of a lodgement's unit.
-use Rattle.std.specs.Prelude.{ℕ, ◌%◌, Bool, List, eqb, get_or, take}
-use Rattle.session.specs.Image.{no_lodgement}
-use Rattle.session.specs.Parts.{index_of, number_is}
+use Rattle.std.specs.Prelude.{ℕ, ◌%◌, ◌<◌, ◌≡◌, Bool, List, None, Option, eqb, length, get_or, position}
+use Rattle.session.specs.Parts.{number_is}
 use Rattle.session.specs.declared.Unit.{Unit}
 use Rattle.session.specs.declared.Lodgement.{Lodgement}
 
-unfoldable pub number_of : Unit → ℕ
-number_of u = u.number
+-- a unit whose number ends in a byte
+abbrev pub ends_in : ℕ → Unit → Bool
+ends_in byte u = eqb (u.number % 256) byte
 
-unfoldable pub is_number : ℕ → ℕ → Bool
-is_number n k = eqb k n
+-- for each byte the first that ends in it
+pub record Firsts (us : List Unit) (firsts : List (Option ℕ)) : Type 0 where
+  pub long : length firsts ≡ 256
+  pub at : (k : ℕ) → k < 256 → get_or firsts k None ≡ position (ends_in k) us
 
--- a number that ends in a byte
-unfoldable pub ends_in : ℕ → ℕ → Bool
-ends_in byte k = eqb (k % 256) byte
-
--- among the first n units
-unfoldable pub holder_at : List Unit → ℕ → List Lodgement → ℕ → ℕ
-holder_at us n ls j = index_of (number_is (get_or ls j no_lodgement).key.unit) (take n us)
+-- the index of a lodgement's unit, if there is one
+unfoldable pub holder_of : List Unit → Lodgement → Option ℕ
+holder_of us l = position (number_is l.key.unit) us

@@ -5,8 +5,7 @@ use mathlib.Core.Bool.{Bool, true, false, cond, ◌&&◌}
 use mathlib.Core.List.{List, [], ◌∷◌, map}
 use native.Mathlib.Omega.{arith}
 use lib.Dec.{eqb}
-use lib.ListN.{length, get_or, set, replicate, length-set, length-replicate, get_or-replicate}
-use lib.Seq.{get_or-set_same, get_or-set_other}
+use lib.ListN.{length, get_or}
 use borrow.Author.Tests.{eqb-true, eqb-false, eq-eqb, ne_eqb}
 use Rattle.rules.specs.Lists.{from}
 use Rattle.rules.specs.Closing as C
@@ -16,8 +15,9 @@ use Rattle.session.specs.Parts.{index_of, number_is}
 use Rattle.session.specs.declared.Unit.{Unit}
 use Rattle.session.specs.declared.Verdict.{Verdict}
 use Rattle.judge_loads.specs.Loads.{marked}
-use Rattle.judge_loads.proofs.LoadLaws.{and-false}
-use Rattle.close_judge.specs.Classes.{Marks, held_at}
+use Rattle.close_judge.specs.Classes.{held_at, is_at}
+use Rattle.std.specs.Prelude.{None}
+use Rattle.std.specs.declared.option.Option as O
 use Rattle.session.proofs.IndexLaws.{get_or-map}
 
 -- Numbers in a row
@@ -55,24 +55,6 @@ counted-as false C.accepted false = refl
 counted-as false C.hidden unit = refl
 counted-as false (C.limit n h) unit = refl
 
--- The marks of the verdicts that accept
-
--- none is accepted at the start
-pub marks-start : (v : Verdict) → v ≡ no_verdict → Marks (replicate 128 v) (replicate 128 false)
-marks-start v e = record {
-  long = length-replicate 128 false;
-  at = λ j l. get_or-replicate 128 j false false l ∙ sym (ap (λ (x : Verdict). x.accepted) (get_or-replicate 128 j v no_verdict l ∙ e));
-}
-
--- a verdict is given
-pub marks-set : (vs : List Verdict) (ms : List Bool) (i : ℕ) (v : Verdict) (t : Bool) → i < length vs → i < length ms → t ≡ v.accepted → Marks vs ms → Marks (set vs i v) (set ms i t)
-marks-set vs ms i v t h k e m = record {
-  long = (simp length-set) ∙ m.long;
-  at = λ j l. by_bool (eqb j i)
-      (λ y. let q = eqb-true j i y in rw (q, get_or-set_same ms i t false k, get_or-set_same vs i v no_verdict h) e)
-      (λ y. let q = eqb-false j i y in rw (get_or-set_other ms i j t false q, get_or-set_other vs i j v no_verdict q) (m.at j l));
-}
-
 -- Indices of units
 
 index-passes : {A : Type 0} (q : A → Bool) (d : A) (xs : List A) → index_of q xs < length xs → q (get_or xs (index_of q xs) d) ≡ true
@@ -103,19 +85,7 @@ marked-same (c ∷ cs) (b ∷ bs) (x ∷ xs) l f =
     let q : c ≡ b = f 0 (omega arith) in
     rw (q, marked-same cs bs xs (omega arith) (λ j k. f (suc j) (omega arith)))
 
--- one is held if it is marked and of the unit
-module _ (p : ℕ) (marks : List Bool) (holders : List ℕ) (l : ℕ) (h : l < 128) where
-  held-is : get_or (map (held_at p marks holders) (from 0 128)) l false ≡ held_at p marks holders l
-  held-is = indices-at (held_at p marks holders) 128 false l h
-
-  pub not-marked : get_or marks l false ≡ false → get_or (map (held_at p marks holders) (from 0 128)) l false ≡ false
-  unfolding held_at
-  not-marked e = held-is ∙ rw e
-
-  pub not-holder : (get_or holders l 0 ≡ p → ⊥) → get_or (map (held_at p marks holders) (from 0 128)) l false ≡ false
-  unfolding held_at
-  not-holder n = held-is ∙ rw (ne_eqb (get_or holders l 0) p n) (and-false (get_or marks l false) false refl)
-
-  pub held_on : get_or marks l false ≡ true → get_or holders l 0 ≡ p → get_or (map (held_at p marks holders) (from 0 128)) l false ≡ true
-  unfolding held_at
-  held_on e q = held-is ∙ rw (e, eq-eqb (get_or holders l 0) p q)
+-- whether an index is held
+pub held-is : (p : ℕ) (vs : List Verdict) (holders : List (O.Option ℕ)) (l : ℕ) → l < 128 → get_or (map (held_at p vs holders) (from 0 128)) l false ≡ ((get_or vs l no_verdict).accepted && is_at p (get_or holders l None))
+unfolding held_at
+held-is p vs holders l h = indices-at (held_at p vs holders) 128 false l h

@@ -1,5 +1,7 @@
 -- The verdict of the lodgement at an index is the book's.
-use Prim.Native.Nat.{ℕ, ◌+◌, ◌-◌, ◌*◌, ◌≤◌, ◌<◌}
+use Prim.Native.Nat.{ℕ, ◌+◌, ◌<◌}
+use Rattle.std.specs.Prelude.{Some, None}
+use Rattle.std.specs.declared.option.Option as O
 use mathlib.Core.Path.{◌≡◌, refl, sym, ap, fun_ext, ◌∙◌}
 use mathlib.Core.Bool.{Bool, true, false, not, ◌&&◌}
 use mathlib.Core.List.{List, map}
@@ -7,7 +9,7 @@ use mathlib.Core.Option.{Option, some, none}
 use native.Mathlib.Omega.{arith}
 use lib.Dec.{eqb}
 use lib.ListN.{length, get_or, take, length-map, length-take}
-use lib.Seq.{ext_get_or, get_or-take}
+use lib.Seq.{ext_get_or, get_or-take, take-take}
 use borrow.Author.Tests.{not-true}
 use Rattle.rules.specs.Lists.{keep, any, sum_of, from, hourly}
 use Rattle.rules.specs.Refusals.{Row, first_row}
@@ -20,7 +22,7 @@ use Rattle.rules.proofs.BoolLaws.{both}
 use Rattle.rules.proofs.ListLaws.{all-at, keep-keep}
 use Rattle.rules.proofs.ClosingLaws.{verdict-with}
 use Rattle.session.specs.Bare.{bare_notice, bare_energies}
-use Rattle.session.specs.Image.{image, Sound, unit_of, unit_as, notice_as, verdict_as, no_unit, no_lodgement}
+use Rattle.session.specs.Image.{image, Sound, unit_of, unit_as, notice_as, verdict_as, lodgement_as, energies_as, no_unit, no_lodgement}
 use Rattle.session.specs.Parts.{Within, given_by, number_is, index_of}
 use Rattle.session.specs.declared.Session.{Session}
 use Rattle.session.specs.declared.Unit.{Unit}
@@ -28,19 +30,19 @@ use Rattle.session.specs.declared.Notice.{Notice}
 use Rattle.session.specs.declared.Lodgement.{Lodgement}
 use Rattle.session.specs.declared.Energies.{Energies}
 use Rattle.session.specs.declared.Verdict.{Verdict}
-use Rattle.session.proofs.ImageLaws.{standing-as, hours-as, enrolled-as, units-as, capacities-as, energies-as, registered-as, unit-as, notice-as}
+use Rattle.session.proofs.ImageLaws.{standing-as, hours-as, enrolled-as, units-as, capacities-as, lodgements-as, energies-as, registered-as, unit-as, notice-as}
 use Rattle.session.proofs.IndexLaws.{indexed, get_or-map}
-use Rattle.judge_loads.specs.Loads.{marked, energy_in, load_in, load_by}
-use Rattle.close_holders.specs.Holders.{holder_at}
+use Rattle.judge_loads.specs.Loads.{marked, load_in, load_by}
+use Rattle.close_holders.specs.Holders.{holder_of}
 use Rattle.judge_limits.specs.Limits.{judged_in}
 use Rattle.judge_limits.proofs.NoticeLaws.{judged-as}
 use Rattle.judge_loads.proofs.MarkLaws.{load-keep}
-use Rattle.judge_limits.proofs.IndexLaws.{judged-indices, judged-same}
-use Rattle.close_judge.specs.Classes.{beyond, standing_at, verdict_at, class_at, is_taken, Reached, Loaded, Held, UnitAt, Marks, JudgesAt, counts_on, counts_at, held_at, verdict_by}
+use Rattle.judge_limits.proofs.IndexLaws.{judged-indices}
+use Rattle.close_judge.specs.Classes.{beyond, standing_at, verdict_at, class_at, is_taken, Reached, HoldersOf, JudgesAt, counts_on, counts_at, held_at, verdict_by}
 use Rattle.close_judge.proofs.CountLaws.{length_from, indices-at, counted-as, indices-tell, marked-same}
 use Rattle.close_judge.proofs.IndexLaws.{verdict_so_far, so_far}
 use Rattle.close_judge.proofs.ClassLaws.{closing-before, taken-class, verdict-at}
-use Rattle.close_judge.proofs.StandingLaws.{stands, lodgement-at, energies-at, loaded_at}
+use Rattle.close_judge.proofs.StandingLaws.{stands, lodgement-at, energies-at, holder-at}
 
 -- a judgement by the limits, as a verdict
 told-verdict : (o : Option Row) → verdict_by (given_by o) ≡ verdict_as (C.verdict_of_row o)
@@ -111,17 +113,12 @@ module _ (s : Session) (b : Book) (sound : Sound b) (e : s ≡ image b) (vs : Li
 
 -- The code's ways out
 
--- the index of its unit
-pub held-index : (s : Session) (hs : List ℕ) (i : ℕ) → i < s.standing → Held s hs → get_or hs i 0 ≡ index_of (number_is (get_or s.lodgements i no_lodgement).key.unit) (take s.enrolled s.units)
-unfolding holder_at
-held-index s hs i h held = held.at i h
-
-module _ (s : Session) (vs : List Verdict) (i : ℕ) (h : i < s.standing) (dl : Lodgement) where
+module _ (s : Session) (i : ℕ) (h : i < s.standing) where
   abbrev unit_here : ℕ
-  unit_here = (get_or s.lodgements i dl).key.unit
+  unit_here = (get_or s.lodgements i no_lodgement).key.unit
 
   unit-here : (b : Book) → s ≡ image b → unit_here ≡ (standing_at b i).key.unit
-  unit-here b e = ap (λ (l : Lodgement). l.key.unit) (lodgement-at s b e i h dl)
+  unit-here b e = ap (λ (l : Lodgement). l.key.unit) (lodgement-at s b e i h no_lodgement)
 
   -- no call leaves a lodgement without its unit
   pub unit-indexed : (b : Book) → Sound b → s ≡ image b → index_of (number_is unit_here) (take s.enrolled s.units) < s.enrolled
@@ -129,65 +126,66 @@ module _ (s : Session) (vs : List Verdict) (i : ℕ) (h : i < s.standing) (dl : 
       let m : any (number_is unit_here) (take s.enrolled s.units) ≡ true = sym (registered-as s b e unit_here) ∙ ap (U.is_registered b.units) (unit-here b e) ∙ (all-at i beyond sound.ranges.standing.holders (stands s b e i h)).registered in
       omega (arith, indexed (number_is unit_here) (take s.enrolled s.units) m, length-take s.enrolled s.units)
 
-  module _ (p : ℕ) (at : p ≡ index_of (number_is unit_here) (take s.enrolled s.units)) where
-    pub judge-given : (de : Energies) (du : Unit) (dn : Notice) (ms : List Bool) (j : Option (ℕ × ℕ)) (v : Verdict) → p < s.enrolled
-        → ms ≡ map (counts_at unit_here vs s.lodgements) (from 0 128)
-        → j ≡ judged_in (get_or s.units p du) (get_or s.notices p dn) s.capacities false s.hours (get_or s.energies i de).energies (load_in (get_or s.energies i de).energies ms (take s.standing s.energies))
-        → v ≡ verdict_by j → JudgesAt s vs i v
-    judge-given de du dn ms j v k em ej ev b class sound e r t =
-        let q = unit-here b e in
-        let here : p ≡ index_of (number_is (standing_at b i).key.unit) (take s.enrolled s.units) = rw q at at in
-        ev ∙ ap verdict_by ej ∙ rw (em, q)
-        (judged-is s b sound e vs class i h r t (get_or s.units p du) (get_or s.notices p dn) (get_or s.energies i de).energies
-        (unit-as s b e (standing_at b i).key.unit p here k du) (notice-as s b e (standing_at b i).key.unit p here k dn) (ap (λ (x : Energies). x.energies) (energies-at s b e i h de)))
+pub units-full : (s : Session) (b : Book) → s ≡ image b → length (take s.enrolled s.units) ≡ s.enrolled
+units-full s b e = ap length (units-as s b e) ∙ length-map b.units unit_of ∙ enrolled-as s b e
 
-    -- and with the energies lent, by the indices of those that are counted
-    judge-lent : (du : Unit) (dn : Notice) (own : List ℕ) (ms : List Bool) (loads ps : List ℕ) (j : Option (ℕ × ℕ)) (v : Verdict) → p < s.enrolled
-        → Within s → ((x : ℕ) → x < 25 → get_or own x 0 ≡ get_or loads (i * 25 + x) 0) → Loaded s loads
-        → ms ≡ map (counts_at unit_here vs s.lodgements) (from 0 128) → ps ≡ marked ms (from 0 s.standing)
-        → j ≡ judged_in (get_or s.units p du) (get_or s.notices p dn) s.capacities false s.hours own (load_by own loads ps)
-        → v ≡ verdict_by j → JudgesAt s vs i v
-    unfolding hourly load_in
-    judge-lent du dn own ms loads ps j v k w eo lent em ep ej ev =
-        judge-given bare_energies du dn ms j v k em
-        (ej
-        ∙ judged-indices (get_or s.units p du) (get_or s.notices p dn) s.capacities false s.hours own loads ps ms s.standing s.energies w.hours lent.room lent.energies ep
-        ∙ judged-same (get_or s.units p du) (get_or s.notices p dn) s.capacities false s.hours own here (load_in own ms (take s.standing s.energies)) (load_in here ms (take s.standing s.energies)) same (λ x a b. load_same x (same x a b)))
-        ev
-      where
-        here : List ℕ
-        here = (get_or s.energies i bare_energies).energies
+-- the index of a lodgement's unit
+pub unit-found : (s : Session) (hs : List (O.Option ℕ)) → HoldersOf s hs → (b : Book) → Sound b → s ≡ image b → (i : ℕ) → i < s.standing
+    → get_or hs i None ≡ Some (index_of (number_is (get_or s.lodgements i no_lodgement).key.unit) (take s.enrolled s.units))
+unit-found s hs held b sound e i h = holder-at s hs held i b e h (omega (arith, unit-indexed s i h b sound e, units-full s b e))
 
-        same : (x : ℕ) → 1 ≤ x → x ≤ s.hours → hourly own x ≡ hourly here x
-        same x a b = eo (x - 1) (omega (arith, w.hours)) ∙ loaded_at s loads i (x - 1) h w.standing lent (omega (arith, w.hours))
+module _ (s : Session) (vs : List Verdict) (i : ℕ) (h : i < s.standing) (p : ℕ) (at : p ≡ index_of (number_is (get_or s.lodgements i no_lodgement).key.unit) (take s.enrolled s.units)) where
+  abbrev number_here : ℕ
+  number_here = (get_or s.lodgements i no_lodgement).key.unit
 
-        load_same : (x : ℕ) → hourly own x ≡ hourly here x → load_in own ms (take s.standing s.energies) x ≡ load_in here ms (take s.standing s.energies) x
-        load_same x e = ap (λ n. n + sum_of (energy_in x) (marked ms (take s.standing s.energies))) e
+  abbrev own_here : List ℕ
+  own_here = (get_or s.energies i bare_energies).energies
 
-    -- one counts by the index of its unit as by the unit's number
-    held-counts : (ms : List Bool) (hs : List ℕ) → Within s → Held s hs → Marks vs ms → p < length (take s.enrolled s.units)
-        → (x : ℕ) → x < s.standing → held_at p ms hs x ≡ counts_at unit_here vs s.lodgements x
-    unfolding held_at counts_at counts_on holder_at
-    held-counts ms hs w held em k x l =
-        rw (em.at x (omega (arith, w.standing)), held.at x l, at, indices-tell (take s.enrolled s.units) unit_here (get_or s.lodgements x no_lodgement).key.unit (omega (arith, at)))
+  pub judge-given : (ms : List Bool) (j : Option (ℕ × ℕ)) (v : Verdict) → p < s.enrolled
+      → ms ≡ map (counts_at number_here vs s.lodgements) (from 0 128)
+      → j ≡ judged_in (get_or s.units p no_unit) (get_or s.notices p bare_notice) s.capacities false s.hours own_here (load_in own_here ms (take s.standing s.energies))
+      → v ≡ verdict_by j → JudgesAt s vs i v
+  judge-given ms j v k em ej ev b class sound e r t =
+      let q = unit-here s i h b e in
+      let here : p ≡ index_of (number_is (standing_at b i).key.unit) (take s.enrolled s.units) = rw q at at in
+      ev ∙ ap verdict_by ej ∙ rw (em, q)
+      (judged-is s b sound e vs class i h r t (get_or s.units p no_unit) (get_or s.notices p bare_notice) own_here
+      (unit-as s b e (standing_at b i).key.unit p here k no_unit) (notice-as s b e (standing_at b i).key.unit p here k bare_notice) (ap (λ (x : Energies). x.energies) (energies-at s b e i h bare_energies)))
 
-    -- with the indices of the units and the marks of those accepted lent
-    pub judge-held : (u : Unit) (n : Notice) (own : List ℕ) (ms : List Bool) (hs loads ps : List ℕ) (j : Option (ℕ × ℕ)) (v : Verdict) → UnitAt s p u n
-        → Within s → ((x : ℕ) → x < 25 → get_or own x 0 ≡ get_or loads (i * 25 + x) 0) → Loaded s loads → Held s hs → Marks vs ms
-        → ps ≡ marked (map (held_at p ms hs) (from 0 128)) (from 0 s.standing)
-        → j ≡ judged_in u n s.capacities false s.hours own (load_by own loads ps)
-        → v ≡ verdict_by j → JudgesAt s vs i v
-    judge-held u n own ms hs loads ps j v un w eo lent held em ep ej ev b class sound e r t =
-        judge-lent no_unit bare_notice own (map (counts_at unit_here vs s.lodgements) (from 0 128)) loads ps j v indexed w eo lent refl (ep ∙ same) (ej ∙ rw (un.unit, un.notice)) ev b class sound e r t
-      where
-        indexed : p < s.enrolled
-        indexed = omega (arith, at, unit-indexed b sound e)
+  -- one counts by the index of its unit as by the unit's number
+  held-counts : (hs : List (O.Option ℕ)) → Within s → HoldersOf s hs → (b : Book) → Sound b → s ≡ image b → (x : ℕ) → x < s.standing → held_at p vs hs x ≡ counts_at number_here vs s.lodgements x
+  unfolding held_at counts_at counts_on
+  held-counts hs w held b sound e x l =
+      rw (unit-found s hs held b sound e x l, at, indices-tell (take s.enrolled s.units) number_here (get_or s.lodgements x no_lodgement).key.unit (omega (arith, at, unit-indexed s i h b sound e, units-full s b e)))
 
-        full : length (take s.enrolled s.units) ≡ s.enrolled
-        full = ap length (units-as s b e) ∙ length-map b.units unit_of ∙ enrolled-as s b e
+  -- by the indices of those that are accepted on the unit
+  pub judge-held : (hs : List (O.Option ℕ)) (ps : List ℕ) (es : List Energies) (j : Option (ℕ × ℕ)) (v : Verdict) → Within s → HoldersOf s hs
+      → ps ≡ marked (map (held_at p vs hs) (from 0 128)) (from 0 (length hs))
+      → es ≡ take s.standing s.energies
+      → j ≡ judged_in (get_or s.units p no_unit) (get_or s.notices p bare_notice) s.capacities false s.hours (get_or es i bare_energies).energies (load_by (get_or es i bare_energies).energies es ps)
+      → v ≡ verdict_by j → JudgesAt s vs i v
+  judge-held hs ps es j v w held ep ee ej ev b class sound e r t =
+      judge-given counts j v indexed refl
+      ((rw (ee, get_or-take s.standing s.energies i bare_energies h) at ej)
+      ∙ judged-indices (get_or s.units p no_unit) (get_or s.notices p bare_notice) s.capacities false s.hours own_here ps counts s.standing (take s.standing s.energies) (omega (arith, energies-full)) (ep ∙ same)
+      ∙ ap (λ es. judged_in (get_or s.units p no_unit) (get_or s.notices p bare_notice) s.capacities false s.hours own_here (load_in own_here counts es)) (take-take s.standing s.standing s.energies (omega arith)))
+      ev b class sound e r t
+    where
+      counts : List Bool
+      counts = map (counts_at number_here vs s.lodgements) (from 0 128)
 
-        same : marked (map (held_at p ms hs) (from 0 128)) (from 0 s.standing) ≡ marked (map (counts_at unit_here vs s.lodgements) (from 0 128)) (from 0 s.standing)
-        same = marked-same (map (held_at p ms hs) (from 0 128)) (map (counts_at unit_here vs s.lodgements) (from 0 128)) (from 0 s.standing)
-            (length-map (from 0 128) (held_at p ms hs) ∙ sym (length-map (from 0 128) (counts_at unit_here vs s.lodgements)))
-            (λ x l. let m : x < s.standing = omega (arith, length_from 0 s.standing) in
-            indices-at (held_at p ms hs) 128 false x (omega (arith, w.standing)) ∙ held-counts ms hs w held em (omega (arith, full, indexed)) x m ∙ sym (indices-at (counts_at unit_here vs s.lodgements) 128 false x (omega (arith, w.standing))))
+      indexed : p < s.enrolled
+      indexed = omega (arith, at, unit-indexed s i h b sound e)
+
+      energies-full : length (take s.standing s.energies) ≡ s.standing
+      energies-full = ap length (energies-as s b e) ∙ length-map b.standing energies_as ∙ standing-as s b e
+
+      lodgements-full : length hs ≡ s.standing
+      lodgements-full =
+          ap length held ∙ length-map (take s.standing s.lodgements) (holder_of (take s.enrolled s.units)) ∙ ap length (lodgements-as s b e) ∙ length-map b.standing lodgement_as ∙ standing-as s b e
+
+      same : marked (map (held_at p vs hs) (from 0 128)) (from 0 (length hs)) ≡ marked counts (from 0 s.standing)
+      same = rw lodgements-full (marked-same (map (held_at p vs hs) (from 0 128)) counts (from 0 s.standing)
+          (length-map (from 0 128) (held_at p vs hs) ∙ sym (length-map (from 0 128) (counts_at number_here vs s.lodgements)))
+          (λ x l. let m : x < s.standing = omega (arith, length_from 0 s.standing) in
+          indices-at (held_at p vs hs) 128 false x (omega (arith, w.standing)) ∙ held-counts hs w held b sound e x m ∙ sym (indices-at (counts_at number_here vs s.lodgements) 128 false x (omega (arith, w.standing)))))

@@ -1,16 +1,12 @@
 -- How far a closing has come, and what the session's verdicts are there.
-use Rattle.std.specs.Prelude.{ℕ, ◌+◌, ◌≤◌, ◌<◌, ◌≡◌, Bool, true, false, not, ◌&&◌, ◌||◌, List, [], ltb, leb, eqb, length, get_or, take}
+use Rattle.std.specs.Prelude.{ℕ, ◌+◌, ◌≡◌, Bool, true, false, not, ◌&&◌, ◌||◌, List, [], map, ltb, leb, eqb, get_or, take, Some, None}
+use Rattle.std.specs.declared.option.Option as O
 use Rattle.rules.specs.Lodging as L
 use Rattle.rules.specs.Book.{Book}
 use Rattle.rules.specs.Closing as C
 use Rattle.rules.specs.Demands.{class_of}
-use Rattle.session.specs.Bare.{bare_notice}
-use Rattle.session.specs.Image.{image, Sound, verdict_as, no_unit, no_verdict, no_lodgement}
-use Rattle.judge_loads.specs.Loads.{LoadsOf}
-use Rattle.close_ceilings.specs.Ceilings.{LinesOf}
-use Rattle.close_holders.specs.Holders.{holder_at}
-use Rattle.session.specs.declared.Unit.{Unit}
-use Rattle.session.specs.declared.Notice.{Notice}
+use Rattle.session.specs.Image.{image, Sound, verdict_as, no_verdict, no_lodgement}
+use Rattle.close_holders.specs.Holders.{holder_of}
 use Rattle.session.specs.declared.Lodgement.{Lodgement}
 use Rattle.session.specs.declared.Verdict.{Verdict}
 use Rattle.session.specs.declared.Session.{Session}
@@ -55,34 +51,9 @@ class_at b i = class_of (standing_at b i)
 abbrev pub Reached : Book → ℕ → ℕ → List Verdict → Type 0
 Reached b class i vs = ReachedBy (class_at b) (verdict_at b) class i vs
 
--- the array has the energies of every standing lodgement
-pub record Loaded (s : Session) (loads : List ℕ) : Type 0 where
-  pub room : s.standing ≤ length s.energies
-  pub energies : LoadsOf (take s.standing s.energies) loads
-
--- the array has the index of each standing one's unit
-pub record Held (s : Session) (holders : List ℕ) : Type 0 where
-  pub at : (j : ℕ) → j < s.standing → get_or holders j 0 ≡ holder_at s.units s.enrolled s.lodgements j
-  pub most : (j : ℕ) → get_or holders j 0 ≤ s.enrolled
-
--- The arrays that are lent to a judgement.
-pub record Prepared (s : Session) (loads holders sums : List ℕ) : Type 0 where
-  -- each standing lodgement's energies by hour
-  pub energies : Loaded s loads
-  -- the index of each one's unit
-  pub units : Held s holders
-  -- limit 12 by border and hour
-  pub lines : LinesOf s.capacities sums
-
--- the unit at an index, and its notice
-pub record UnitAt (s : Session) (p : ℕ) (u : Unit) (n : Notice) : Type 0 where
-  pub unit : u ≡ get_or s.units p no_unit
-  pub notice : n ≡ get_or s.notices p bare_notice
-
--- the marks of the verdicts that accept
-pub record Marks (vs : List Verdict) (marks : List Bool) : Type 0 where
-  pub long : length marks ≡ 128
-  pub at : (j : ℕ) → j < 128 → get_or marks j false ≡ (get_or vs j no_verdict).accepted
+-- the index of each standing one's unit
+abbrev pub HoldersOf : Session → List (O.Option ℕ) → Type 0
+HoldersOf s holders = holders ≡ map (holder_of (take s.enrolled s.units)) (take s.standing s.lodgements)
 
 -- What judging a lodgement promises
 
@@ -100,9 +71,16 @@ counts_on unit v l = v.accepted && eqb l.key.unit unit
 unfoldable pub counts_at : ℕ → List Verdict → List Lodgement → ℕ → Bool
 counts_at unit vs ls j = counts_on unit (get_or vs j no_verdict) (get_or ls j no_lodgement)
 
--- the same by the index of the unit, and by marks
-unfoldable pub held_at : ℕ → List Bool → List ℕ → ℕ → Bool
-held_at p marks holders j = get_or marks j false && eqb (get_or holders j 0) p
+-- whether a unit is found at an index
+abbrev pub is_at : ℕ → O.Option ℕ → Bool
+is_at p = elim [
+  | None ↦ false
+  | Some q ↦ eqb q p
+]
+
+-- the same by the index of the unit
+unfoldable pub held_at : ℕ → List Verdict → List (O.Option ℕ) → ℕ → Bool
+held_at p vs holders j = (get_or vs j no_verdict).accepted && is_at p (get_or holders j None)
 
 -- a judgement by the limits as a verdict
 unfoldable pub verdict_by : Option (ℕ × ℕ) → Verdict

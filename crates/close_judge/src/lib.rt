@@ -1,79 +1,39 @@
 // One lodgement's verdict at closing (document 01, "Closing").
 #![tactic(auto)]
 
-ghost use Rattle.std.specs.Prelude.{◌≡◌, false, List, map, ℕ, ◌+◌, ◌*◌, ◌<◌, ◌≤◌, get_or, take, length};
+ghost use Rattle.std.specs.Prelude.{◌≡◌, false, ◌&&◌, map, ℕ, ◌<◌, ◌≤◌, get_or, take, length, Some, None};
 ghost use Rattle.rules.specs.Lists.{from};
-ghost use Rattle.judge_loads.specs.Loads.{IndicesOf, RowsAt, load_by};
+ghost use Rattle.judge_loads.specs.Loads.{IndicesIn, marked, load_by};
 ghost use Rattle.judge_limits.specs.Limits.{judged_in};
 ghost use Rattle.close_ceilings.specs.Ceilings.{LinesOf};
+ghost use Rattle.session.specs.Bare.{bare_notice, bare_energies};
+ghost use Rattle.session.specs.Image.{no_unit};
 ghost use Rattle.session.specs.Parts.{Within, said};
-ghost use Rattle.session.specs.declared.Notice.{Notice};
-ghost use Rattle.session.specs.declared.Verdict.{Verdict};
-ghost use Rattle.close_judge.specs.Classes.{Prepared, UnitAt, Marks, held_at, verdict_by, accepting, JudgesAt};
+ghost use Rattle.close_judge.specs.Classes.{HoldersOf, is_at, held_at, verdict_by, accepting, JudgesAt};
 
 use answer::Refusal;
-use close_ceilings::line_of;
+use arrayvec::ArrayVec;
+use close_ceilings::{Lines, line_of, lines_of};
+use close_holders::holders_of;
 use judge_limits::{available_energies, lowest_row, maximum_energies};
 use judge_loads::lowest_hour;
-use rules::{BORDERS, HOURS, LODGEMENTS};
-use session::{Notice, Session, Unit, Verdict};
+use rules::LODGEMENTS;
+use session::{Energies, Session, Verdict};
 
-// "those accepted before it on its unit": how many of the first n are marked and of the unit at index p, their indices in front of `at`.
-fn accepted_on(
-    marks: &[bool; LODGEMENTS],
-    holders: &[usize; LODGEMENTS],
-    p: usize,
-    n: usize,
-    at: &mut [usize; LODGEMENTS],
-) -> usize
-    requires { (n ≤ 128) × (length at.old ≡ 128) }
-    ensures { IndicesOf (map (held_at p marks.now holders.now) (from 0 128)) n (record { count = result; at = at.new }) }
-{
-    let mut count = 0usize;
-    for l in 0..n {
-        let is_accepted = marks[l];
-        if !is_accepted {
-            continue;
-        }
-        let holder = holders[l];
-        if holder != p {
-            continue;
-        }
-        at[count] = l;
-        count += 1;
-    }
-    count
-}
-
-// The first of a unit's limits that is passed, with the lowest hour in which it is. One is looked at only where those before it are
-// not passed. Limit 12 is read as it is laid for the border, cut at what a maximum can be: what passes that passes limit 10.
-fn judge_limits(
-    unit: Unit,
-    notice: Notice,
-    lines: &[u32; BORDERS * HOURS + HOURS],
-    own: [u32; HOURS],
-    loads: &[u32],
-    at: &[usize],
-    count: usize,
-    hours: usize,
-) -> Result<(), Refusal>
-    requires { (count ≤ 128) × (hours ≤ 25) × RowsAt at.now count loads.now }
-    ensures { (cs : List Notice) → LinesOf cs lines.now
-        → said result ≡ judged_in unit notice cs false hours own (load_by own loads.now (take count at.now)) }
-{
-    let most = maximum_energies(unit.maximum);
-    let ten = lowest_hour(own, loads, at, count, hours, most);
-    if ten != 0 {
-        return lowest_row(ten, 0, 0);
-    }
-    let available = available_energies(unit.maximum, notice);
-    let eleven = lowest_hour(own, loads, at, count, hours, available);
-    if eleven != 0 {
-        return lowest_row(ten, eleven, 0);
-    }
-    let line = line_of(lines, unit.border);
-    let twelve = lowest_hour(own, loads, at, count, hours, line);
-    lowest_row(ten, eleven, twelve)
+// What judging reads at closing: the session, and what is found once for all its standing lodgements.
+#[derive(Drop)]
+pub struct Standing<'a> {
+    pub session: &'a Session,
+    pub energies: &'a [Energies],
+    // The index of each one's unit.
+    pub holders: ArrayVec<Option<usize>, LODGEMENTS>,
+    // Limit 12 by border and hour.
+    pub lines: Lines,
+    pub ghost within: { Within session.now },
+    pub ghost loads: { energies.now ≡ take session.now.standing session.now.energies },
+    pub ghost long: { length energies.now ≡ session.now.standing },
+    pub ghost units: { HoldersOf session.now holders.items },
+    pub ghost borders: { LinesOf session.now.capacities lines },
 }
 
 // Accepted, or "refused whole" by the first limit passed in its lowest hour.
@@ -99,18 +59,6 @@ fn verdict_by(judged: Result<(), Refusal>) -> Verdict
     }
 }
 
-// The energies by hour at an index.
-fn energies_at(loads: &[u32; LODGEMENTS * HOURS], at: usize) -> [u32; HOURS]
-    requires { at < 128 }
-    ensures { (length result ≡ 25) × ((h : ℕ) → h < 25 → get_or result h 0 ≡ get_or loads.now (at * 25 + h) 0) }
-{
-    let mut energies = [0u32; HOURS];
-    for h in 0..HOURS {
-        energies[h] = loads[at * HOURS + h];
-    }
-    energies
-}
-
 // The verdict of one that no limit refuses.
 pub fn accepted() -> Verdict
     ensures { result ≡ accepting }
@@ -118,29 +66,92 @@ pub fn accepted() -> Verdict
     verdict_by(Ok(()))
 }
 
-// The verdict of the lodgement at an index: "its energy, plus that of those accepted before it on its unit", against the limits of
-// its unit. What is read of all is lent: their energies, the indices of their units, the marks of those accepted. The indices of those
-// counted are put into `others`, so that no judgement clears an array.
-pub fn judge_index(
-    s: Session,
-    u: Unit,
-    notice: Notice,
-    lines: &[u32; BORDERS * HOURS + HOURS],
-    loads: &[u32; LODGEMENTS * HOURS],
-    holders: &[usize; LODGEMENTS],
-    marks: &[bool; LODGEMENTS],
-    others: &mut [usize; LODGEMENTS],
-    at: usize,
-) -> Verdict
-    requires { Within s × (at < s.standing) × Prepared s loads.now holders.now lines.now
-        × UnitAt s (get_or holders.now at 0) u notice × (length others.old ≡ 128) }
-    ensures judges_at { (vs : List Verdict) → Marks vs marks.now → JudgesAt s vs at result }
-    ensures others_len { length others.new ≡ 128 }
+// Whether a lodgement, by its verdict and the index of its unit, is accepted and of the unit at index p.
+fn is_held(verdict: &Verdict, holder: Option<usize>, p: usize) -> bool
+    ensures { result ≡ (verdict.now.accepted && is_at p holder) }
 {
-    let p = holders[at];
-    let own = energies_at(loads, at);
-    let count = accepted_on(marks, holders, p, s.standing, others);
-    let hours = s.hours as usize;
-    let j = judge_limits(u, notice, lines, own, loads, others, count, hours);
-    verdict_by(j)
+    verdict.accepted && holder == Some(p)
+}
+
+impl<'a> Standing<'a> {
+    pub fn of(session: &'a Session) -> Standing<'a>
+        requires { Within session.now }
+        ensures { result.session ≡ session.entry }
+    {
+        let units = &session.units[..session.enrolled];
+        let lodgements = &session.lodgements[..session.standing];
+        Standing {
+            session,
+            energies: &session.energies[..session.standing],
+            holders: holders_of(units, lodgements),
+            lines: lines_of(&session.capacities),
+        }
+    }
+
+    // "those accepted before it on its unit": the indices of those that are accepted and of the unit at index p are put into `others`,
+    // so that no judgement makes a list of its own.
+    fn put_accepted(
+        &self,
+        verdicts: &[Verdict; LODGEMENTS],
+        p: usize,
+        others: &mut ArrayVec<usize, LODGEMENTS>,
+    )
+        ensures { let hs = self.now.holders.items in
+            others.new.items ≡ marked (map (held_at p verdicts.now hs) (from 0 128)) (from 0 (length hs)) }
+    {
+        others.clear();
+        for (i, holder) in self.holders.iter().enumerate() {
+            if !is_held(&verdicts[i], *holder, p) {
+                continue;
+            }
+            others.push(i);
+        }
+    }
+
+    // The first limit of the unit at index p that the lodgement at an index passes together with others, and the lowest hour in which it
+    // does. One is looked at only where those before it are not passed. Limit 12 is read as it is laid for the border, cut at what a
+    // maximum can be: what passes that passes limit 10.
+    fn judge_limits(&self, at: usize, p: usize, others: &[usize]) -> Result<(), Refusal>
+        requires standing { at < length self.now.energies.now }
+        requires unit { p < 64 }
+        requires others { IndicesIn self.now.energies.now others.now }
+        ensures { let s = self.now.session.now in let es = self.now.energies.now in let own = (get_or es at bare_energies).energies in
+            said result ≡ judged_in (get_or s.units p no_unit) (get_or s.notices p bare_notice) s.capacities false s.hours own (load_by own es others.now) }
+    {
+        let session = self.session;
+        let unit = &session.units[p];
+        let own = &self.energies[at].energies;
+        let hours = session.hours as usize;
+        let most = maximum_energies(unit.maximum);
+        let ten = lowest_hour(own, self.energies, others, hours, &most);
+        if ten.is_some() {
+            return lowest_row(ten, None, None);
+        }
+        let available = available_energies(unit.maximum, &session.notices[p]);
+        let eleven = lowest_hour(own, self.energies, others, hours, &available);
+        if eleven.is_some() {
+            return lowest_row(ten, eleven, None);
+        }
+        let line = line_of(&self.lines, unit.border);
+        let twelve = lowest_hour(own, self.energies, others, hours, &line);
+        lowest_row(ten, eleven, twelve)
+    }
+
+    // The verdict of the lodgement at an index, of the unit at index p: "its energy, plus that of those accepted before it on its unit",
+    // against the limits of its unit.
+    pub fn judge(
+        &self,
+        verdicts: &[Verdict; LODGEMENTS],
+        at: usize,
+        p: usize,
+        others: &mut ArrayVec<usize, LODGEMENTS>,
+    ) -> Verdict
+        requires standing { at < self.now.session.now.standing }
+        requires holder { get_or self.now.holders.items at None ≡ Some p }
+        ensures { JudgesAt self.now.session.now verdicts.now at result }
+    {
+        self.put_accepted(verdicts, p, others);
+        let judged = self.judge_limits(at, p, others);
+        verdict_by(judged)
+    }
 }

@@ -1,48 +1,52 @@
 // The order of closing: its three classes, and within each the latest number first.
 #![tactic(auto)]
 
-ghost use Rattle.std.specs.Prelude.{◌≡◌, ℕ, ◌<◌, get_or, length};
+ghost use Rattle.std.specs.Prelude.{◌≡◌, ℕ, ◌+◌, ◌<◌, get_or, length};
 ghost use Rattle.rules.specs.Book.{Book};
 ghost use Rattle.session.specs.Image.{image, Sound, no_lodgement};
 ghost use Rattle.session.specs.Parts.{Within};
-ghost use Rattle.close_judge.specs.Classes.{Prepared, Marks};
-ghost use Rattle.close_order.specs.Passes.{class_in, TakesAt, ClosingAt};
+ghost use Rattle.close_order.specs.Passes.{class_in, number_of, TakesAt, ClosingAt};
 
 pub mod room;
 
 use crate::room::admits;
-use close_judge::{accepted, judge_index};
+use arrayvec::ArrayVec;
+use close_ceilings::ceilings_of;
+use close_judge::{Standing, accepted};
 use lodge_keys::is_hidden;
-use rules::{BORDERS, HOURS, LODGEMENTS, UNITS};
-use session::{Key, Lodgement, Session, Verdict};
+use rules::{HOURS, LODGEMENTS, UNITS};
+use session::{Key, Lodgement, Session, Verdict, no_verdict};
 
-// The classes in which lodgements are taken.
-pub const NORMAL: u32 = 0;
-
-pub const DEFAULT: u32 = 1;
-
-pub const OFFERS: u32 = 2;
-
-// "normal executions, default executions, offers"
-fn class_of(key: Key) -> u32
-    ensures { result ≡ class_in key }
-{
-    if key.execution {
-        if key.default {
-            return DEFAULT;
-        }
-        return NORMAL;
-    }
-    OFFERS
+// The classes in which lodgements are taken: "normal executions, default executions, offers".
+#[derive(Clone, Copy, Debug, PartialEq, Eq)]
+pub enum Class {
+    Normal,
+    Default,
+    Offers,
 }
 
-// Whether a standing lodgement is of this class. "Unhidden lodgements are taken"; a normal one is hidden by none.
-fn takes(s: Session, class: u32, l: Lodgement) -> bool
-    requires { Within s }
-    ensures { (i : ℕ) → i < s.standing → l ≡ get_or s.lodgements i no_lodgement → TakesAt s class i result }
+impl Class {
+    #[tactic(auto, unfolding(crate::specs::Passes::class_in))]
+    fn of(key: Key) -> Class
+        ensures { result ≡ class_in key }
+    {
+        if !key.execution {
+            Class::Offers
+        } else if key.default {
+            Class::Default
+        } else {
+            Class::Normal
+        }
+    }
+}
+
+// Whether a standing lodgement is of a class. "Unhidden lodgements are taken"; a normal one is hidden by none.
+fn takes(s: &Session, class: Class, l: &Lodgement) -> bool
+    requires { Within s.now }
+    ensures { (i : ℕ) → i < s.now.standing → l.now ≡ get_or s.now.lodgements i no_lodgement → TakesAt s.now (number_of class) i result }
 {
     let key = l.key;
-    if class_of(key) != class {
+    if Class::of(key) != class {
         return false;
     }
     if !key.default {
@@ -51,55 +55,68 @@ fn takes(s: Session, class: u32, l: Lodgement) -> bool
     !is_hidden(&s.lodgements[..s.standing], key)
 }
 
-// One class, from its last index to its first: "latest number first", each judged with what was accepted before it. One that the room
-// under its unit's ceiling holds passes no limit; another's limit and hour are looked for. Those accepted are marked.
-pub fn pass(
-    s: Session,
-    loads: &[u32; LODGEMENTS * HOURS],
-    holders: &[usize; LODGEMENTS],
-    lines: &[u32; BORDERS * HOURS + HOURS],
-    room: &mut [u32; UNITS * HOURS + HOURS],
-    marks: &mut [bool; LODGEMENTS],
-    class: u32,
-    verdicts: [Verdict; LODGEMENTS],
-) -> [Verdict; LODGEMENTS]
-    requires { Within s × Prepared s loads.now holders.now lines.now × Marks verdicts marks.old
-        × (length room.old ≡ 1625) }
-    ensures closing_at { (b : Book) → Sound b → s ≡ image b
-        → ClosingAt s b class s.standing verdicts room.old → ClosingAt s b class 0 result room.new }
-    ensures marks { Marks result marks.new × (length room.new ≡ 1625) }
-{
-    let mut given = verdicts;
-    let lodgements = s.lodgements;
-    let units = s.units;
-    let notices = s.notices;
-    let n = s.standing;
-    let hours = s.hours as usize;
-    let mut passed = 0usize;
-    let mut others = [0usize; LODGEMENTS];
-    while passed < n {
-        passed += 1;
-        let at = n - passed;
-        let l = lodgements[at];
-        if !takes(s, class, l) {
-            continue;
+// How far a closing has come: the verdicts given, and the room that they leave under each unit's ceilings by hour.
+#[derive(Drop)]
+pub struct Closing<'a> {
+    pub standing: Standing<'a>,
+    pub room: ArrayVec<[u32; HOURS], UNITS>,
+    pub verdicts: [Verdict; LODGEMENTS],
+    pub ghost full: { length verdicts ≡ 128 },
+    pub ghost rows: { length room.items ≡ standing.session.now.enrolled },
+}
+
+impl<'a> Closing<'a> {
+    // Before the first class: no verdict is given, and all is left.
+    pub fn of(session: &'a Session) -> Closing<'a>
+        requires { Within session.now }
+        ensures session { result.standing.session ≡ session.entry }
+        ensures closing_at { let s = session.entry.now in (b : Book) → Sound b → s ≡ image b → ClosingAt s b 0 s.standing result.verdicts result.room.items }
+    {
+        let standing = Standing::of(session);
+        let units = &session.units[..session.enrolled];
+        let notices = &session.notices[..session.enrolled];
+        let room = ceilings_of(units, notices, &standing.lines);
+        Closing {
+            standing,
+            room,
+            verdicts: [no_verdict(); LODGEMENTS],
         }
-        let p = holders[at];
-        if admits(room, p, loads, at, hours) {
-            let v = accepted();
-            given[at] = v;
-            marks[at] = true;
-            continue;
-        }
-        if s.enrolled <= p {
-            // No call leaves a lodgement without its unit.
-            continue;
-        }
-        let u = units[p];
-        let notice = notices[p];
-        let v = judge_index(s, u, notice, lines, loads, holders, marks, &mut others, at);
-        given[at] = v;
-        marks[at] = v.accepted;
     }
-    given
+
+    // The lodgement at an index, if it is of the class, judged with what was accepted before it. One that the room under its unit's
+    // ceilings holds passes no limit; another's limit and hour are looked for.
+    fn step(&mut self, class: Class, at: usize, others: &mut ArrayVec<usize, LODGEMENTS>)
+        requires { at < self.old.standing.session.now.standing }
+        ensures session { self.new.standing ≡ self.old.standing }
+        ensures closing_at { let s = self.old.standing.session.now in (b : Book) → Sound b → s ≡ image b
+            → ClosingAt s b (number_of class) (at + 1) self.old.verdicts self.old.room.items → ClosingAt s b (number_of class) at self.new.verdicts self.new.room.items }
+    {
+        let session = self.standing.session;
+        if !takes(session, class, &session.lodgements[at]) {
+            return;
+        }
+        let Some(p) = self.standing.holders[at] else {
+            // No call leaves a lodgement without its unit.
+            return;
+        };
+        let own = &self.standing.energies[at].energies[..session.hours as usize];
+        if admits(&mut self.room[p], own) {
+            self.verdicts[at] = accepted();
+            return;
+        }
+        let verdict = self.standing.judge(&self.verdicts, at, p, others);
+        self.verdicts[at] = verdict;
+    }
+
+    // One class, from its last index to its first: "latest number first".
+    pub fn pass(&mut self, class: Class)
+        ensures session { self.new.standing ≡ self.old.standing }
+        ensures closing_at { let s = self.old.standing.session.now in (b : Book) → Sound b → s ≡ image b
+            → ClosingAt s b (number_of class) s.standing self.old.verdicts self.old.room.items → ClosingAt s b (number_of class) 0 self.new.verdicts self.new.room.items }
+    {
+        let mut others = ArrayVec::new();
+        for at in (0..self.standing.session.standing).rev() {
+            self.step(class, at, &mut others);
+        }
+    }
 }

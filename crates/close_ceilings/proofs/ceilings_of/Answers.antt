@@ -1,22 +1,18 @@
-use borrow.Author.Count.{below_more}
-use mathlib.Core.Path.{refl, ◌∙◌}
-use native.Mathlib.Omega.{arith}
-use Rattle.close_ceilings.proofs.RowLaws.{rows_start, rows_next, rows_end}
-use Rattle.close_ceilings.proofs.CeilingLaws.{laid_at, laid_as}
+use Rattle.std.proofs.Common.{rules, ◌+◌, ap, [], ◌∷◌, length}
+use lib.ListN.{length-append}
+use Rattle.std.proofs.lemmas.Slice.Zip.{zip_turn}
+use Rattle.session.specs.Bare.{bare_notice}
+use Rattle.session.specs.Image.{no_unit}
+use Rattle.close_ceilings.proofs.CeilingLaws.{ceilings_more}
 use Rattle.close_ceilings.proofs.ceilings_of.Goals as goal
 
-pub loop-p-init : goal.loop-p-init
-loop-p-init c = (omega arith, refl, rows_start _ _, λ k i. absurd (omega arith))
-
-pub loop-p-preserved : goal.loop-p-preserved
-unfolding laid_at
-loop-p-preserved c =
-    let s = c.loop-p in
+pub loop-unit-preserved : goal.loop-unit-preserved
+loop-unit-preserved c =
+    let l = c.loop-unit in
     let a = c.args in
-    (omega arith, c.lay_unit.ensures.0, rows_next (laid_at a.units a.notices a.lines.now) s.p _ s.ceilings _ c.lay_unit.ensures.1 (λ h. refl) s.invariant.2, below_more _ _ s.invariant.3 c.lay_unit.ensures.2)
-
-pub returns : goal.returns
-returns c =
-    let s = c.loop-p in
-    let a = c.args in
-    λ cs lent p h i k. rows_end _ _ _ _ (omega arith) s.invariant.2 p h i k ∙ laid_as a.units a.notices cs a.lines.now s.p p h s.invariant.3 (omega arith) lent.eight k lent.at
+    let z = zip_turn a.units.now a.notices.now l.yielded c.into_iter-unit-iterator.result l.unit-iterator c.next.new.self c.next.result (search rules) (search rules) l.yielded_by (c.in-Some.unit, c.in-Some.notice) c.in-Some.is c.next.ensures.steps in
+    let m = length-append l.yielded ((c.in-Some.unit, c.in-Some.notice) ∷ []) in
+    record {
+      long = rw (c.push.ensures.items, m, length-append l.ceilings.items (c.ceilings_at.result ∷ [])) (ap (λ n. n + 1) l.invariant.long);
+      ceilings = λ cs lent. rw (c.push.ensures.items, m) (ceilings_more a.units.now a.notices.now cs l.ceilings.items c.ceilings_at.result (length l.yielded) c.in-Some.unit.now c.in-Some.notice.now l.invariant.long (z.2 no_unit) (z.3 bare_notice) (c.ceilings_at.ensures cs lent) (l.invariant.ceilings cs lent));
+    }

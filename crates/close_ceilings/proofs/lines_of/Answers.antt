@@ -1,20 +1,21 @@
-use Prim.Native.Nat.{suc}
-use mathlib.Core.Path.{refl}
-use native.Mathlib.Omega.{arith}
-use Rattle.close_ceilings.specs.Ceilings.{line_in, line_at}
-use Rattle.close_ceilings.proofs.RowLaws.{rows_start, rows_next, rows_end}
-use Rattle.close_ceilings.proofs.CeilingLaws.{line_as}
+use Rattle.std.proofs.Common.{arith, [], map}
+use lib.ListN.{length-set}
+use Rattle.std.specs.List.{range_with_len}
+use Rattle.std.proofs.lemmas.List.FromFn.{get_or-map-range_with_len}
+use Rattle.close_ceilings.specs.Ceilings.{line_at}
+use Rattle.close_ceilings.proofs.CeilingLaws.{laid_next}
 use Rattle.close_ceilings.proofs.lines_of.Goals as goal
 
-pub loop-b-init : goal.loop-b-init
-loop-b-init c = (omega arith, refl, rows_start _ _)
-
-pub loop-b-preserved : goal.loop-b-preserved
-loop-b-preserved c =
-    let s = c.loop-b in
-    let cs = c.args.capacities in
-    let l = c.border_limit-limit in
-    (omega arith, c.lay_line.ensures.0, rows_next (line_at cs) s.b (line_in l.result) s.lines _ c.lay_line.ensures.1 (λ h. line_as cs s.b l.result h (l.ensures (suc h))) s.invariant.2)
+pub loop-border-preserved : goal.loop-border-preserved
+loop-border-preserved c =
+    let l = c.loop-border in
+    record {
+      five = rw (length-set l.line-items l.border c.capped_line.result) l.invariant.five;
+      rows = laid_next [] (λ b. map (line_at c.args.capacities.now b) (range_with_len 0 25)) l.line-items l.border c.capped_line.result (omega arith) c.capped_line.ensures l.invariant.rows;
+    }
 
 pub returns : goal.returns
-returns c = record { eight = omega arith; at = rows_end _ _ _ _ (omega arith) c.loop-b.invariant.2 }
+returns c = record {
+  eight = omega arith;
+  at = λ b h i k. rw (c.loop-border.invariant.rows b (omega arith)) (get_or-map-range_with_len (line_at c.args.capacities.now b) 0 25 h h 0 k (omega arith));
+}

@@ -1,16 +1,16 @@
-use native.Mathlib.Omega.{arith}
-use borrow.Author.Count.{below_more}
+use Rattle.std.proofs.Common.{rules, length, arith}
+use Rattle.std.proofs.lemmas.Slice.Zip.{zip_turn, zip_end}
 use Rattle.close_order.specs.Room.{holds, lacks}
 use Rattle.close_order.proofs.room.fits.Goals as goal
 
-pub loop-h-init : goal.loop-h-init
-loop-h-init c = (omega arith, λ k i. absurd (omega arith))
-
-pub returns-then-room-p : goal.returns-then-room-p
-returns-then-room-p c = lacks c.loop-h.h (omega arith) (omega (arith, c.if-room-p.true))
-
-pub loop-h-preserved : goal.loop-h-preserved
-loop-h-preserved c = (omega arith, below_more _ _ c.loop-h.invariant.1 (omega (arith, c.if-room-p.false)))
+pub returns-then-left-energy : goal.returns-then-left-energy
+returns-then-left-energy c =
+    let l = c.loop-energy in
+    let z = zip_turn c.args.own.now c.args.row.now l.yielded c.into_iter-energy-iterator.result l.energy-iterator c.next.new.self c.next.result (search rules) (search rules) l.yielded_by (c.in-Some.energy, c.in-Some.left) c.in-Some.is c.next.ensures.steps in
+    lacks (length l.yielded) z.0 (omega (arith, z.2 0, z.3 0, c.if-left-energy.true))
 
 pub returns : goal.returns
-returns c = holds (λ h i. c.loop-h.invariant.1 h (omega arith))
+returns c =
+    let l = c.loop-energy in
+    let z = zip_end c.args.own.now c.args.row.now l.yielded c.into_iter-energy-iterator.result l.energy-iterator c.next.new.self c.next.result (search rules) (search rules) l.yielded_by c.in-None.is c.next.ensures.steps in
+    holds (λ h i. l.invariant h (omega (arith, z)))

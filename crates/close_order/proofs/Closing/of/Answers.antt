@@ -1,0 +1,12 @@
+use Rattle.close_ceilings.specs.Ceilings.{LinesOf}
+use Rattle.close_judge.proofs.ClassLaws.{reached-first}
+use Rattle.close_judge.proofs.JudgeLaws.{units-full}
+use Rattle.session.proofs.ImageLaws.{standing-as}
+use Rattle.close_order.proofs.RoomLaws.{closing_at, kept-of}
+use Rattle.close_order.proofs.Closing.of.Goals as goal
+
+pub returns-clause-closing_at : goal.returns-clause-closing_at
+returns-clause-closing_at c = λ b sound e.
+    let s = c.args.session.now in
+    let lines : LinesOf s.capacities c.of-standing.result.lines = rw c.of-standing.ensures at c.of-standing.result.borders in
+    closing_at (rw (c.no_verdict.ensures, ← standing-as s b e) (reached-first b)) (kept-of s _ _ c.requires c.no_verdict.ensures (units-full s b e) (c.ceilings_of-room.ensures.ceilings s.capacities lines))
