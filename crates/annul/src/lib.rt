@@ -28,7 +28,7 @@ fn judge_annul(s: Session, key: Key) -> Result<usize, Row>
     if bad_key(key) {
         return Err(Row::Range);
     }
-    holder_for(s, key)?;
+    holder_for(&s, key)?;
     key_index(&s.lodgements[..s.standing], key).ok_or(Row::Absent)
 }
 

@@ -1,9 +1,7 @@
 -- Which call a record says, by its kind.
 use Prim.Native.Nat.{ℕ}
 use mathlib.Core.Path.{◌≡◌, refl, ap, sym}
-use mathlib.Core.Bool.{false}
 use mathlib.Core.List.{List}
-use lib.Dec.{eqb}
 use Rattle.rules.specs.Units.{TradingUnit, Capacities}
 use Rattle.rules.specs.Message.{Key}
 use Rattle.rules.specs.DayBook as D
@@ -12,13 +10,15 @@ use Rattle.session.specs.Laid.{counted}
 use Rattle.session.specs.Steps.{Met}
 use Rattle.session.specs.declared.Session.{Session}
 use Rattle.session.specs.declared.Effect.{Effect}
+use Rattle.book_log.specs.declared.Kind.{Kind}
+use Rattle.book_log.specs.Kinds.{number_of}
 use Rattle.book_log.specs.Calls.{call_of, unit_of, key_of, directions_of, numbers_at}
 
 pub met-as : (s : Session) (c d : D.Call) (r : Effect) → c ≡ d → Met s c r → Met s d r
 met-as s c d r e m = rw (sym e) m
 
 -- a record's call is that of its kind
-pub of-kind : (s : Session) (k n : ℕ) (p : List ℕ) (r : Effect) → k ≡ n → Met s (call_of n p) r → Met s (call_of k p) r
+pub of-kind : (s : Session) (k n : Kind) (p : List ℕ) (r : Effect) → k ≡ n → Met s (call_of (number_of n) p) r → Met s (call_of (number_of k) p) r
 of-kind s k n p r e m = rw e m
 
 module _ (p : List ℕ) where
@@ -46,6 +46,6 @@ module _ (p : List ℕ) where
   unfolding call_of
   call-6 = refl
 
-  pub call-7 : (k : ℕ) → eqb k 1 ≡ false → eqb k 2 ≡ false → eqb k 3 ≡ false → eqb k 4 ≡ false → eqb k 5 ≡ false → eqb k 6 ≡ false → D.clear ≡ call_of k p
+  pub call-7 : D.clear ≡ call_of 7 p
   unfolding call_of
-  call-7 k h1 h2 h3 h4 h5 h6 = rw (h1, h2, h3, h4, h5, h6)
+  call-7 = refl

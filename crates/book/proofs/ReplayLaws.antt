@@ -1,14 +1,15 @@
 -- A log's records, and the loop that runs their calls.
 use Prim.Native.Nat.{ℕ, zero, suc, ◌+◌, ◌*◌, ◌-◌, ◌≤◌, ◌<◌}
 use mathlib.Core.Path.{◌≡◌, refl, sym, ap, ◌∙◌}
-use mathlib.Core.Bool.{Bool, true, false}
+use mathlib.Core.Bool.{true, false}
 use mathlib.Core.List.{List, [], ◌∷◌, ◌++◌, map, append_assoc}
 use native.Mathlib.Omega.{arith}
 use native.Mathlib.Numerals.{add-one}
 use lib.Dec.{leb, eqb}
-use lib.ListN.{length, get_or, set, take, drop, length-drop, length-take, length-append, length-map}
-use lib.Seq.{get_or-drop, drop-drop, drop-cons}
+use lib.ListN.{length, get_or, set, take, drop, length-drop, length-append, length-map}
+use lib.Seq.{drop-drop, drop-cons}
 use borrow.Author.Tests.{le-leb, lt-leb}
+use Rattle.std.proofs.lemmas.Bool.{leb-true}
 use Rattle.rules.specs.Lists.{from}
 use Rattle.rules.specs.Hours.{Date}
 use Rattle.rules.specs.Book.{Book}
@@ -26,32 +27,26 @@ use Rattle.session.proofs.SoundLaws.{opening-sound, effect-sound}
 use Rattle.session.proofs.LaidLaws.{map_last}
 use Rattle.book_log.specs.Calls.{call_of, directions_of, is_call, starts, size_of, first_call, onward, calls_in, bytes_in, answer_word}
 use Rattle.book.specs.declared.Reached.{Reached}
-use Rattle.book.specs.Replays.{RunsRecord, Reruns, ReplaysOn, Replays, Running, word_of}
+use Rattle.book.specs.Replays.{Reruns, ReplaysOn, Replays, Running, word_of}
 use Rattle.book.proofs.RunLaws.{other, notice-typed}
 use Rattle.book.proofs.CallLaws.{met-as}
 
--- The record at an index
+-- The record that a log starts with
 
-module _ (l : List ℕ) (at : ℕ) where
-  size-at : size_of (drop at l) ≡ get_or l (at + 1) 0 * 256 + get_or l (at + 2) 0
+module _ (l : List ℕ) (high low : ℕ) (x : high ≡ get_or l 1 0) (y : low ≡ get_or l 2 0) where
+  pub size-as : high * 256 + low ≡ size_of l
   unfolding size_of
-  size-at = rw (get_or-drop at l 1 0, get_or-drop at l 2 0)
-
-  pub size_is : (n a b : ℕ) → n ≡ a * 256 + b → a ≡ get_or l (at + 1) 0 → b ≡ get_or l (at + 2) 0 → n ≡ size_of (drop at l)
-  size_is n a b e x y = e ∙ rw (x, y) (sym size-at)
-
-  pub kind_at : get_or (drop at l) 0 0 ≡ get_or l at 0
-  kind_at = let z : at + 0 ≡ at = omega arith in get_or-drop at l 0 0 ∙ ap (λ k. get_or l k 0) z
+  size-as = rw (x, y) refl
 
   -- its head or what follows is cut off
-  pub record-cut : length l - at < 3 + size_of (drop at l) → false ≡ starts (drop at l)
+  pub record-cut : length l < 3 + (high * 256 + low) → starts l ≡ false
   unfolding starts
-  record-cut h = rw (lt-leb (3 + size_of (drop at l)) (length (drop at l)) (omega (arith, length-drop at l)))
+  record-cut h = rw (lt-leb (3 + size_of l) (length l) (omega (arith, size-as))) refl
 
-  pub record-whole : (k n : ℕ) → k ≡ get_or l at 0 → n ≡ size_of (drop at l) → 3 + n ≤ length l - at → is_call k n ≡ starts (drop at l)
+  -- it is all there: its kind and size say whether it is a call's
+  pub record-whole : (k : ℕ) → k ≡ get_or l 0 0 → 3 + (high * 256 + low) ≤ length l → starts l ≡ is_call k (high * 256 + low)
   unfolding starts
-  record-whole k n e f h =
-      rw (le-leb (3 + size_of (drop at l)) (length (drop at l)) (omega (arith, length-drop at l)), kind_at, e, f)
+  record-whole k e h = rw (le-leb (3 + size_of l) (length l) (omega (arith, size-as)), e, size-as) refl
 
 -- Calls of a log are the types' calls
 
@@ -185,30 +180,24 @@ running-next b log N old s at n words k size word p r w less same whole ek es ep
     let e : call_of k p ≡ first_call (drop at log) = rw (ep, ek, es) in
     rw es (running-one b log N old s at n words word r w less same whole (rw es at fits) (met-as s _ _ r e met) ew)
 
--- a whole record is that of a call
-record-known : (log : List ℕ) (at k size : ℕ) (p : List ℕ) → starts (drop at log) ≡ true → k ≡ get_or (drop at log) 0 0 → size ≡ size_of (drop at log)
-    → p ≡ take size (drop 3 (drop at log)) → at + (3 + size) ≤ length log → is_call k (length p) ≡ true
+-- all of a record is there
+pub record-fits : (l : List ℕ) → starts l ≡ true → 3 + size_of l ≤ length l
 unfolding starts
-record-known log at k size p whole ek es ep fits =
-    let l1 = length-take size (drop 3 (drop at log)) in
-    let l2 = length-drop 3 (drop at log) in
-    let l3 = length-drop at log in
-    let many : length p ≡ size = ap length ep ∙ omega arith in
-    rw (many, ek, es) (both (leb (3 + size_of (drop at log)) (length (drop at log))) _ whole).1
+record-fits l h = leb-true (3 + size_of l) (length l) (both (leb (3 + size_of l) (length l)) _ h).0
 
--- the same as the code has it: the record's bytes stand from `at + 3` to `to`
-pub running-on : (b : Book) (log : List ℕ) (old : List ℕ) (s : Session) (at n : ℕ) (words : List ℕ) (whole : Bool) (k size to word : ℕ) (p : List ℕ) (r : Effect)
-    → Running b log (length old) old s at n words → n < length old → whole ≡ true → whole ≡ starts (drop at log)
-    → (k ≡ get_or (drop at log) 0 0) × (size ≡ size_of (drop at log)) × (at + (3 + size) ≤ length log)
-    → to ≡ at + 3 + size → p ≡ take (to - (at + 3)) (drop (at + 3) log)
-    → RunsRecord s k p r → word ≡ answer_word r.answer
-    → Running b log (length old) old r.session to (n + 1) (set words n word)
-running-on b log old s at n words whole k size to word p r w less is same head et ep runs ew =
+-- the same as the code has it: the record's bytes stand from `at + 3` on
+pub running-on : (b : Book) (log : List ℕ) (old : List ℕ) (s : Session) (at n : ℕ) (words : List ℕ) (k size word : ℕ) (p : List ℕ) (r : Effect)
+    → Running b log (length old) old s at n words → n < length old
+    → (starts (drop at log) ≡ true) × (k ≡ get_or (drop at log) 0 0) × (size ≡ size_of (drop at log))
+    → p ≡ take (at + 3 + size - (at + 3)) (drop (at + 3) log)
+    → Met s (call_of k p) r → word ≡ answer_word r.answer
+    → Running b log (length old) old r.session (at + 3 + size) (n + 1) (set words n word)
+running-on b log old s at n words k size word p r w less head ep met ew =
     let e : at + 3 + size ≡ at + (3 + size) = omega arith in
-    let z : to - (at + 3) ≡ size = omega arith in
-    let q : p ≡ take size (drop 3 (drop at log)) = ep ∙ rw (z, drop-drop 3 at log) in
-    let known = record-known log at k size p (sym same ∙ is) head.0 head.1 q head.2 in
-    rw (et, e) (running-next b log (length old) old s at n words k size word p r w less refl (sym same ∙ is) head.0 head.1 q head.2 (runs.call known) ew)
+    let z : at + 3 + size - (at + 3) ≡ size = omega arith in
+    let q : p ≡ take size (drop 3 (drop at log)) = ep ∙ rw (z, drop-drop 3 at log) refl in
+    let f : at + (3 + size) ≤ length log = omega (arith, record-fits (drop at log) head.0, head.2, length-drop at log, w.far) in
+    rw e (running-next b log (length old) old s at n words k size word p r w less refl head.0 head.1 head.2 q f met ew)
 
 -- The end
 

@@ -1,6 +1,6 @@
 -- What `run`, `replay_on` and `replay` promise: of the calls of a log, every answer and the session at their end are the day book's. What
 -- demand 3 says of that book is specs/Demand3.antt.
-use Rattle.std.specs.Prelude.{ℕ, ◌+◌, ◌-◌, ◌≤◌, ◌≡◌, true, false, List, ◌++◌, map, length, drop}
+use Rattle.std.specs.Prelude.{ℕ, ◌+◌, ◌-◌, ◌≤◌, ◌≡◌, true, false, List, ◌++◌, map, length, drop, get_or, Option, MatchOption}
 use Rattle.rules.specs.Hours.{Date}
 use Rattle.rules.specs.Book.{Book}
 use Rattle.rules.specs.DayBook as D
@@ -10,7 +10,11 @@ use Rattle.session.specs.Steps.{Met}
 use Rattle.session.specs.Parts.{refused_with}
 use Rattle.session.specs.declared.Effect.{Effect}
 use Rattle.session.specs.declared.Session.{Session}
-use Rattle.book_log.specs.Calls.{is_call, call_of, calls_in, bytes_in, answer_word}
+use Rattle.rules.specs.declared.row.Row.TheVariants.{Form}
+use Rattle.answer.specs.Refused.{of_row}
+use Rattle.book_log.specs.Calls.{is_call, call_of, starts, size_of, calls_in, bytes_in, answer_word}
+use Rattle.book_log.specs.Kinds.{number_of}
+use Rattle.book.specs.declared.Head.{Head}
 use Rattle.book.specs.declared.Reached.{Reached}
 use Rattle.book.specs.declared.Replayed.{Replayed}
 
@@ -18,10 +22,15 @@ use Rattle.book.specs.declared.Replayed.{Replayed}
 unfoldable pub word_of : D.Answer → ℕ
 word_of a = answer_word (told a)
 
+-- what a log starts with: the head of a call's whole record, or no such record
+abbrev pub StartsWith : List ℕ → Option Head → Type 0
+StartsWith log head =
+    MatchOption head (starts log ≡ false) (λ h. (starts log ≡ true) × (number_of h.kind ≡ get_or log 0 0) × (h.size ≡ size_of log))
+
 -- of one record: the call's own promise, or a refusal
 pub record RunsRecord (s : Session) (kind : ℕ) (p : List ℕ) (r : Effect) : Type 0 where
   pub call : is_call kind (length p) ≡ true → Met s (call_of kind p) r
-  pub none : is_call kind (length p) ≡ false → r ≡ refused_with s 3 0
+  pub none : is_call kind (length p) ≡ false → r ≡ refused_with s (of_row Form)
 
 -- of a book, a log, room for N answers, what stood there and what stands there now
 pub record Reruns (b : Book) (log : List ℕ) (N : ℕ) (old words : List ℕ) (r : Reached) : Type 0 where

@@ -3,19 +3,19 @@
 // rehearsal can run on it.
 #![tactic(auto)]
 
-ghost use Rattle.std.specs.Prelude.{◌≡◌, true, ◌+◌, ◌*◌, ◌≤◌, length, drop, get_or};
+ghost use Rattle.std.specs.Prelude.{◌≡◌, length};
 ghost use Rattle.calendar.specs.View.{date_in};
 ghost use Rattle.session.specs.Steps.{Met};
-ghost use Rattle.book_log.specs.Calls.{call_of, starts, size_of};
-ghost use Rattle.book.specs.Replays.{RunsRecord, ReplaysOn, Replays};
+ghost use Rattle.book_log.specs.Calls.{call_of};
+ghost use Rattle.book_log.specs.Kinds.{number_of};
+ghost use Rattle.book.specs.Replays.{StartsWith, RunsRecord, ReplaysOn, Replays};
 
-use answer::Response;
-use book_log::{ANNUL, AVAILABLE, CAPACITY, CLOSE, LODGE, REGISTER};
+use answer::{Refusal, Response};
+use book_log::{Kind, answer_word};
 use calendar::Date;
-use message_bits::byte_at;
 use notify_capacity::Capacities;
 use notify_unavailability::Availability;
-use rules::row::FORM;
+use rules::row::Row;
 use session::{Effect, Session};
 
 // A log run: the session at its end, how many calls were run and the bytes of their records. Fewer bytes than the log has: there
@@ -36,11 +36,10 @@ pub struct Replayed {
     pub read: usize,
 }
 
-// The head of a record: whether all of a call's record is there, its kind and the bytes that follow.
+// The head of a call's record: its kind, and how many bytes follow.
 #[derive(Clone, Copy)]
 struct Head {
-    whole: bool,
-    kind: u8,
+    kind: Kind,
     size: usize,
 }
 
@@ -49,28 +48,23 @@ struct Head {
 fn run_register(s: Session, p: &[u8]) -> Effect
     ensures { Met s (call_of 1 p.now) result }
 {
-    let u = book_log::unit_of(p);
-    register::register(s, u)
+    register::register(s, book_log::unit_of(p))
 }
 
 fn run_capacity(s: Session, p: &[u8]) -> Effect
     ensures { Met s (call_of 2 p.now) result }
 {
     let directions = book_log::directions_of(p);
-    let notice = Capacities { directions };
-    notify_capacity::capacity(s, notice)
+    notify_capacity::capacity(s, Capacities { directions })
 }
 
 fn run_available(s: Session, p: &[u8]) -> Effect
     ensures { Met s (call_of 3 p.now) result }
 {
-    let unit = book_log::number_at(p, 0);
-    let count = book_log::number_at(p, 4) as usize;
-    let energies = book_log::numbers_at(p, 8);
     let notice = Availability {
-        count,
-        unit,
-        energies,
+        count: book_log::number_at(p, 4) as usize,
+        unit: book_log::number_at(p, 0),
+        energies: book_log::numbers_at(p, 8),
     };
     notify_unavailability::available(s, notice)
 }
@@ -78,22 +72,21 @@ fn run_available(s: Session, p: &[u8]) -> Effect
 fn run_annul(s: Session, p: &[u8]) -> Effect
     ensures { Met s (call_of 5 p.now) result }
 {
-    let key = book_log::key_of(p);
-    annul::annul(s, key)
+    annul::annul(s, book_log::key_of(p))
 }
 
 // The call of a record whose count of bytes is that of its kind.
-fn run_call(s: Session, kind: u8, p: &[u8]) -> Effect
-    ensures { Met s (call_of kind p.now) result }
+fn run_call(s: Session, kind: Kind, p: &[u8]) -> Effect
+    ensures { Met s (call_of (number_of kind) p.now) result }
 {
     match kind {
-        REGISTER => run_register(s, p),
-        CAPACITY => run_capacity(s, p),
-        AVAILABLE => run_available(s, p),
-        LODGE => lodge::lodge::lodge(s, p),
-        ANNUL => run_annul(s, p),
-        CLOSE => close::close(s),
-        _ => clear::clear(s),
+        Kind::Register => run_register(s, p),
+        Kind::Capacity => run_capacity(s, p),
+        Kind::Available => run_available(s, p),
+        Kind::Lodge => lodge::lodge::lodge(s, p),
+        Kind::Annul => run_annul(s, p),
+        Kind::Close => close::close(s),
+        Kind::Clear => clear::clear(s),
     }
 }
 
@@ -101,75 +94,54 @@ fn run_call(s: Session, kind: u8, p: &[u8]) -> Effect
 pub fn run(s: Session, kind: u8, p: &[u8]) -> Effect
     ensures { RunsRecord s kind p.now result }
 {
-    if book_log::is_call(kind, p.len()) {
-        return run_call(s, kind, p);
+    match Kind::of(kind, p.len()) {
+        Some(kind) => run_call(s, kind, p),
+        None => s.refused(Refusal::from(Row::Form)),
     }
-    s.refused(FORM, 0)
 }
 
-// Two bytes as one number, the first higher.
-fn joined(high: u8, low: u8) -> usize
-    ensures { (result ≡ high * 256 + low) × (result ≤ 65535) }
+// The head of the record that a log starts with: none where that is no call's, or is not all there.
+fn head_of(log: &[u8]) -> Option<Head>
+    ensures { StartsWith log.now result }
 {
-    high as usize * 256 + low as usize
-}
-
-// The record at an index of a log.
-fn record_at(log: &[u8], at: usize) -> Head
-    requires { at ≤ length log.now }
-    ensures { (result.whole ≡ starts (drop at log.now))
-        × (result.whole ≡ true → (result.kind ≡ get_or (drop at log.now) 0 0) × (result.size ≡ size_of (drop at log.now)) × (at + (3 + result.size) ≤ length log.now)) }
-{
-    let left = log.len() - at;
-    if left < 3 {
-        return Head {
-            whole: false,
-            kind: 0,
-            size: 0,
-        };
+    let [number, high, low, rest @ ..] = log else {
+        return None;
+    };
+    let size = usize::from(*high) * 256 + usize::from(*low);
+    if rest.len() < size {
+        return None;
     }
-    let kind = byte_at(log, at);
-    let high = byte_at(log, at + 1);
-    let low = byte_at(log, at + 2);
-    let size = joined(high, low);
-    if left - 3 < size {
-        return Head {
-            whole: false,
-            kind,
-            size,
-        };
-    }
-    let whole = book_log::is_call(kind, size);
-    Head { whole, kind, size }
+    let Some(kind) = Kind::of(*number, size) else {
+        return None;
+    };
+    Some(Head { kind, size })
 }
 
 // Runs the calls of a log from a session, one after the other, and writes down each answer.
 pub fn replay_on(start: Session, log: &[u8], answers: &mut [u64]) -> Reached
     ensures { ReplaysOn start log.now (length answers.old) answers.old answers.new result }
 {
-    let mut s = start;
-    let mut at: usize = 0;
-    let mut calls: usize = 0;
-    while calls < answers.len() {
-        let h = record_at(log, at);
-        if !h.whole {
-            break;
-        }
-        let from = at + 3;
-        let to = from + h.size;
-        let t = run(s, h.kind, &log[from..to]);
-        let next = t.session;
-        s = next;
-        let a = t.answer;
-        let word = book_log::answer_word(a);
-        answers[calls] = word;
-        calls += 1;
-        at = to;
+    let mut session = start;
+    let mut read = 0;
+    for (calls, answer) in answers.iter_mut().enumerate() {
+        let Some(head) = head_of(&log[read..]) else {
+            return Reached {
+                session,
+                calls,
+                read,
+            };
+        };
+        let from = read + 3;
+        let to = from + head.size;
+        let effect = run_call(session, head.kind, &log[from..to]);
+        session = effect.session;
+        *answer = answer_word(effect.answer);
+        read = to;
     }
     Reached {
-        session: s,
-        calls,
-        read: at,
+        session,
+        calls: answers.len(),
+        read,
     }
 }
 
@@ -177,14 +149,11 @@ pub fn replay_on(start: Session, log: &[u8], answers: &mut [u64]) -> Reached
 pub fn replay(date: Date, log: &[u8], answers: &mut [u64]) -> Replayed
     ensures { Replays (date_in date) log.now (length answers.old) answers.old answers.new result }
 {
-    let opening = session::open(date);
-    let opened = opening.answer;
-    let start = opening.session;
-    let run = replay_on(start, log, answers);
-    let session = run.session;
+    let opened = session::open(date);
+    let run = replay_on(opened.session, log, answers);
     Replayed {
-        opened,
-        session,
+        opened: opened.answer,
+        session: run.session,
         calls: run.calls,
         read: run.read,
     }

@@ -2,12 +2,12 @@
 // document 01's; docs/LOG.md says it byte by byte).
 #![tactic(auto)]
 
-ghost use Rattle.std.specs.Prelude.{◌≡◌, ◌≤◌};
+ghost use Rattle.std.specs.Prelude.{◌≡◌, ◌≤◌, true, false, MatchOption};
 ghost use Rattle.rules.specs.Borders.{positive};
 ghost use Rattle.message_bits.specs.Bits.{word_at};
 ghost use Rattle.session.specs.Image.{unit_in, key_in, published_in, capacities_in};
 ghost use Rattle.book_log.specs.Calls.{mark_at, numbers_at, unit_of, key_of, direction_at, directions_of, is_call, answer_word};
-ghost use Rattle.book_log.specs.Kinds.{Decodes, has_size};
+ghost use Rattle.book_log.specs.Kinds.{Decodes, has_size, number_of};
 
 use answer::Response;
 use message_bits::{byte_at, word_at};
@@ -65,6 +65,15 @@ impl TryFrom<u8> for Kind {
 }
 
 impl Kind {
+    // The kind with this number, where a record of it has so many bytes.
+    #[tactic(auto, unfolding(crate::specs::Calls::is_call))]
+    pub fn of(number: u8, size: usize) -> Option<Kind>
+        ensures { MatchOption result (is_call number size ≡ false) (λ kind. (number_of kind ≡ number) × (is_call number size ≡ true)) }
+    {
+        let kind = Kind::try_from(number).ok()?;
+        kind.has_size(size).then_some(kind)
+    }
+
     // Whether a record of this kind has so many bytes; a message may have any.
     pub fn has_size(self, size: usize) -> bool
         ensures { result ≡ has_size self size }
@@ -81,14 +90,10 @@ impl Kind {
 }
 
 // Whether a record's count of bytes is that of its kind.
-#[tactic(auto, unfolding(crate::specs::Calls::is_call))]
 pub fn is_call(kind: u8, size: usize) -> bool
     ensures { result ≡ is_call kind size }
 {
-    match Kind::try_from(kind) {
-        Ok(kind) => kind.has_size(size),
-        Err(_) => false,
-    }
+    Kind::of(kind, size).is_some()
 }
 
 // What the numbers of answers of one kind are counted from.

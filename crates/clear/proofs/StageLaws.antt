@@ -1,25 +1,30 @@
 -- The refusal of clearing by the session's stage.
 use mathlib.Core.Path.{◌≡◌}
 use mathlib.Core.Bool.{true, false}
+use Rattle.std.specs.Prelude.{Ok, Err}
+use Rattle.std.specs.declared.result.Result.{Result}
 use Rattle.rules.specs.Refusals.{row, first_row}
 use Rattle.rules.specs.DayBook as D
-use Rattle.rules.proofs.BoolLaws.{by_bool}
+use Rattle.rules.specs.declared.row.Row as Code
+use Rattle.rules.specs.declared.row.Row.TheVariants.{Gate}
 use Rattle.session.specs.declared.Session.{Session}
-use Rattle.session.specs.declared.Ruling.TheVariants.{No, Clear}
-use Rattle.session.specs.Parts.{Judges}
+use Rattle.session.specs.Parts.{JudgesRow, given_by}
 use Rattle.session.proofs.ImageLaws.{closed-as, cleared-as}
 
 module _ (s : Session) where
-  -- "clearing twice"
-  pub clear-twice : s.cleared ≡ true → Judges s D.clear (No 2 0)
-  unfolding D.rows_of D.gate_row D.call_rows row first_row
-  clear-twice h b e = by_bool b.closed (λ t. rw (t, cleared-as s b e, h)) (λ t. rw t)
+  abbrev Judged : Result (Unit {0}) Code.Row → Type 0
+  Judged j = JudgesRow s D.clear j
 
   -- "clearing [..] before closing"
-  pub clear-early : s.closed ≡ false → Judges s D.clear (No 2 0)
-  unfolding D.rows_of D.gate_row D.call_rows row first_row
+  pub clear-early : s.closed ≡ false → Judged (Err Gate)
+  unfolding D.rows_of D.gate_row D.call_rows row first_row given_by
   clear-early h b e = rw (closed-as s b e, h)
 
-  pub clear-0 : s.closed ≡ true → s.cleared ≡ false → Judges s D.clear Clear
-  unfolding D.rows_of D.gate_row D.call_rows row first_row
+  -- "clearing twice"
+  pub clear-twice : s.closed ≡ true → s.cleared ≡ true → Judged (Err Gate)
+  unfolding D.rows_of D.gate_row D.call_rows row first_row given_by
+  clear-twice h k b e = rw (closed-as s b e, h, cleared-as s b e, k)
+
+  pub clear-0 : s.closed ≡ true → s.cleared ≡ false → Judged (Ok tt)
+  unfolding D.rows_of D.gate_row D.call_rows row first_row given_by
   clear-0 h k b e = rw (closed-as s b e, h, cleared-as s b e, k)

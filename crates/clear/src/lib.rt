@@ -4,20 +4,18 @@
 ghost use Rattle.std.specs.Prelude.{◌<◌, ◌≤◌, length};
 ghost use Rattle.rules.specs.DayBook.{clear};
 ghost use Rattle.session.specs.Steps.{Met};
-ghost use Rattle.session.specs.Parts.{Within, Entered};
-ghost use Rattle.session_changes.specs.Changes.{clearing_effect};
+ghost use Rattle.session.specs.Parts.{Within, JudgesRow, Entered};
+ghost use Rattle.session_changes.specs.Changes.{cleared_with};
+ghost use Rattle.session_changes.specs.Effects.{effect_of, done};
 ghost use Rattle.clear_gather.specs.Built.{Holders};
 ghost use Rattle.clear.specs.Hours.{HourAs, HoursAs};
 
-pub mod stages;
-
-use crate::stages::judge_clear;
-use answer::steps;
+use answer::{Refusal, Response};
 use hour_offers::Holder;
 use rules::HOURS;
-use rules::row::GATE;
-use session::{Effect, HourFigures, Ruling, Session};
-use session_changes::{ClearingChange, ClearingEffect, clearing_refused, with_clearing};
+use rules::row::Row;
+use session::{Effect, HourFigures, Session};
+use session_changes::{ClearingChange, Step, effect};
 
 // An hour's withdrawal steps and figures.
 #[derive(Clone, Copy)]
@@ -70,39 +68,46 @@ fn clear_hours(s: &Session) -> DayEnd
     DayEnd { steps, figures }
 }
 
-// "clearing gives the figures of Queries by the rules above and answers the step count"
-fn enter_clear(s: Session) -> ClearingEffect
-    requires { Within s }
-    ensures { Entered s clear (clearing_effect s result) }
+// The row that refuses clearing: 2, "clearing [..] before closing", "closing or clearing twice".
+fn judge_clear(s: &Session) -> Result<(), Row>
+    ensures { JudgesRow s.now clear result }
 {
-    let d = clear_hours(&s);
-    let figures = d.figures;
-    let change = ClearingChange {
-        figures: figures,
-        changed: true,
-    };
-    let answer = steps(d.steps);
-    ClearingEffect { change, answer }
+    if !s.closed {
+        return Err(Row::Gate);
+    }
+    if s.cleared {
+        return Err(Row::Gate);
+    }
+    Ok(())
+}
+
+// "clearing gives the figures of Queries by the rules above and answers the step count"
+fn enter_clear(s: &Session) -> Step<ClearingChange>
+    requires { Within s.now }
+    ensures { Entered s.now clear (done cleared_with s.now result) }
+{
+    let day = clear_hours(s);
+    let figures = day.figures;
+    Step {
+        change: ClearingChange { figures },
+        answer: Response::steps(day.steps),
+    }
 }
 
 // What clearing changes: 2.
-pub fn clear_change(s: Session) -> ClearingEffect
-    ensures { Met s clear (clearing_effect s result) }
+pub fn clear_change(s: &Session) -> Result<Step<ClearingChange>, Refusal>
+    ensures { Met s.now clear (effect_of cleared_with s.now result) }
 {
     if !s.sound() {
-        return clearing_refused(s, GATE, 0);
+        return Err(Refusal::from(Row::Gate));
     }
-    let j = judge_clear(s);
-    match j {
-        Ruling::No(number, hour) => clearing_refused(s, number, hour),
-        Ruling::Clear => enter_clear(s),
-    }
+    judge_clear(s)?;
+    Ok(enter_clear(s))
 }
 
 // Clears the day: 2.
 pub fn clear(s: Session) -> Effect
     ensures { Met s clear result }
 {
-    let t = clear_change(s);
-    with_clearing(s, t)
+    effect(s, clear_change(&s))
 }

@@ -1,5 +1,5 @@
 // What is written of an answer about a date or a message.
-use answer::{ClockName, REFUSED, Response};
+use answer::{ClockName, Kind, Response};
 use message::{Fields, Reading};
 use rules::row::Row;
 use std::fmt;
@@ -11,7 +11,7 @@ pub struct Counted(pub Response);
 impl fmt::Display for Counted {
     fn fmt<W: fmt::Write>(&self, f: &mut fmt::Formatter<W>) -> fmt::Result {
         let Response { row, value, .. } = self.0;
-        if self.0.kind == REFUSED {
+        if self.0.kind() == Some(Kind::Refused) {
             return write!(f, "refused {row}");
         }
         write!(f, "{value}")

@@ -1,6 +1,6 @@
-// The C interface (include/gate.h). "The session is lent to each call and changed in place": thin entries that apply the
-// by-value steps of the calls (lodging first that of `lodge_pending`), store what these change (`gate_store`), and apply those of the queries. The numbers at
-// each are the rows of the refusal table that it can answer with.
+// The C interface (include/gate.h). "The session is lent to each call and changed in place": thin entries that apply the steps of the
+// calls, store what these change (`session_changes::settle`), and hand on the queries. The numbers at each are the rows of the refusal
+// table that it can answer with.
 #![tactic(auto)]
 
 ghost use Rattle.std.specs.Prelude.{◌≡◌, length};
@@ -17,15 +17,13 @@ ghost use Rattle.notify_unavailability.specs.Notices.{available_in};
 ghost use Rattle.notify_capacity.specs.Capacities.{capacity_in};
 ghost use Rattle.query.specs.Replies.{Answered};
 
-use answer::{ClockName, Response};
+use answer::{ClockName, Refusal, Response};
 use calendar::{Clock, Date};
-use gate_store::{
-    settle_capacities, settle_clearing, settle_closing, settle_registry, settle_standing,
-};
 use message::{Fields, Reading, Written};
 use notify_capacity::Capacities;
 use notify_unavailability::Availability;
 use session::{Key, Opened, Session, Unit};
+use session_changes::settle;
 
 // What the archive is: a program asks before its first call whether it was compiled with the header of this archive.
 
@@ -105,8 +103,8 @@ pub extern "C" fn gate_write(fields: Fields, buffer: &mut [u8]) -> Written
 pub extern "C" fn gate_register(s: &mut Session, unit: Unit) -> Response
     ensures { Met s.old (register (unit_in unit)) (record { session = s.new; answer = result }) }
 {
-    let t = register::register_change(*s, unit);
-    settle_registry(s, t)
+    let step = register::register_change(*s, unit);
+    settle(s, step)
 }
 
 // Takes an unavailability notice of a unit: 2, 4, 5, 6.
@@ -114,8 +112,8 @@ pub extern "C" fn gate_register(s: &mut Session, unit: Unit) -> Response
 pub extern "C" fn gate_unavailability(s: &mut Session, notice: Availability) -> Response
     ensures { Met s.old (available_in notice) (record { session = s.new; answer = result }) }
 {
-    let t = notify_unavailability::available_change(*s, notice);
-    settle_registry(s, t)
+    let step = notify_unavailability::available_change(*s, notice);
+    settle(s, step)
 }
 
 // Takes a capacity notice, export and import of border 1, of 2, of 3, of 4: 2, 4, 5.
@@ -123,8 +121,8 @@ pub extern "C" fn gate_unavailability(s: &mut Session, notice: Availability) -> 
 pub extern "C" fn gate_capacity(s: &mut Session, notice: Capacities) -> Response
     ensures { Met s.old (capacity_in notice) (record { session = s.new; answer = result }) }
 {
-    let t = notify_capacity::capacity_change(*s, notice);
-    settle_capacities(s, t)
+    let step = notify_capacity::capacity_change(*s, notice);
+    settle(s, step)
 }
 
 // Lodges a message: 2, 3, 4, 5, 6, 9, 10, 11, 12. The energies that it is judged with are read through the reference: a step by
@@ -133,10 +131,14 @@ pub extern "C" fn gate_capacity(s: &mut Session, notice: Capacities) -> Response
 pub extern "C" fn gate_lodge(s: &mut Session, message: &[u8]) -> Response
     ensures { Met s.old (lodge message.now) (record { session = s.new; answer = result }) }
 {
-    let p = lodge_pending::pend(*s, message);
-    let j = gate_store::judge(s, p);
-    let t = lodge::lodge::lodge_change(*s, p, j);
-    settle_standing(s, t)
+    match lodge_pending::pend(*s, message) {
+        Ok(p) => {
+            let judged = gate_store::judge(s, p);
+            let step = lodge::lodge::lodge_change(*s, p, judged);
+            settle(s, step)
+        }
+        Err(row) => Response::from(Refusal::from(row)),
+    }
 }
 
 // Annuls the lodgement of a key: 2, 5, 6, 13.
@@ -144,8 +146,8 @@ pub extern "C" fn gate_lodge(s: &mut Session, message: &[u8]) -> Response
 pub extern "C" fn gate_annul(s: &mut Session, key: Key) -> Response
     ensures { Met s.old (annul (key_in key)) (record { session = s.new; answer = result }) }
 {
-    let t = annul::annul_change(*s, key);
-    settle_standing(s, t)
+    let step = annul::annul_change(*s, key);
+    settle(s, step)
 }
 
 // Closes the gate: 2.
@@ -153,8 +155,8 @@ pub extern "C" fn gate_annul(s: &mut Session, key: Key) -> Response
 pub extern "C" fn gate_close(s: &mut Session) -> Response
     ensures { Met s.old close (record { session = s.new; answer = result }) }
 {
-    let t = close::close_change(*s);
-    settle_closing(s, t)
+    let step = close::close_change(*s);
+    settle(s, step)
 }
 
 // Clears the day: 2.
@@ -162,20 +164,18 @@ pub extern "C" fn gate_close(s: &mut Session) -> Response
 pub extern "C" fn gate_clear(s: &mut Session) -> Response
     ensures { Met s.old clear (record { session = s.new; answer = result }) }
 {
-    let t = clear::clear_change(*s);
-    settle_clearing(s, t)
+    let step = clear::clear_change(s);
+    settle(s, step)
 }
 
-// Queries. A step by value would copy an array whole to read one of its elements, so that is read here, through the reference.
+// Queries
 
 // "a lodging number's verdict", after closing: 2, 13.
 #[unsafe(no_mangle)]
 pub extern "C" fn gate_verdict(s: &Session, number: u32) -> Response
     ensures { Answered s.now (Q.verdict number) result }
 {
-    let at = gate_store::lodged_at(s, number);
-    let of = query_verdict::verdict_index(at);
-    query_verdict::verdict_from(*s, at, s.verdicts[of], number)
+    query_verdict::verdict(s, number)
 }
 
 // A unit's matched energy in an hour: 2, 4, 5, 6.
@@ -183,9 +183,7 @@ pub extern "C" fn gate_verdict(s: &Session, number: u32) -> Response
 pub extern "C" fn gate_matched(s: &Session, unit: u32, hour: u32) -> Response
     ensures { Answered s.now (Q.matched unit hour) result }
 {
-    let of = gate_store::unit_at(s, unit);
-    let at = query::index_of(hour);
-    query_unit::matched_from(*s, s.figures[at], of, unit, hour)
+    query_unit::matched(s, unit, hour)
 }
 
 // A unit's executed energy in an hour: 2, 4, 5, 6.
@@ -193,9 +191,7 @@ pub extern "C" fn gate_matched(s: &Session, unit: u32, hour: u32) -> Response
 pub extern "C" fn gate_executed(s: &Session, unit: u32, hour: u32) -> Response
     ensures { Answered s.now (Q.executed unit hour) result }
 {
-    let of = gate_store::unit_at(s, unit);
-    let at = query::index_of(hour);
-    query_unit::executed_from(*s, s.figures[at], of, unit, hour)
+    query_unit::executed(s, unit, hour)
 }
 
 // The final market balance of a border: 2, 4, 5.
@@ -203,8 +199,7 @@ pub extern "C" fn gate_executed(s: &Session, unit: u32, hour: u32) -> Response
 pub extern "C" fn gate_market_balance(s: &Session, border: u32, hour: u32) -> Response
     ensures { Answered s.now (Q.market border hour) result }
 {
-    let at = query::index_of(hour);
-    query_balance::market_from(*s, s.figures[at], border, hour)
+    query_balance::market(s, border, hour)
 }
 
 // The final balance of its executions: 2, 4, 5.
@@ -212,8 +207,7 @@ pub extern "C" fn gate_market_balance(s: &Session, border: u32, hour: u32) -> Re
 pub extern "C" fn gate_bilateral_balance(s: &Session, border: u32, hour: u32) -> Response
     ensures { Answered s.now (Q.bilateral border hour) result }
 {
-    let at = query::index_of(hour);
-    query_balance::bilateral_from(*s, s.figures[at], border, hour)
+    query_balance::bilateral(s, border, hour)
 }
 
 // The market maximum of a border's direction, "absent without capacity": 2, 4, 5.
@@ -221,15 +215,7 @@ pub extern "C" fn gate_bilateral_balance(s: &Session, border: u32, hour: u32) ->
 pub extern "C" fn gate_market_maximum(s: &Session, border: u32, export: bool, hour: u32) -> Response
     ensures { Answered s.now (Q.market_max border export hour) result }
 {
-    let p = query_maximum::judge_direction(*s, border, export, hour);
-    let at = p.at;
-    let of = p.of;
-    query_maximum::market_maximum_from(
-        p,
-        s.figures[at],
-        s.capacities[of].given,
-        s.capacities[of].energies[at],
-    )
+    query_maximum::market_maximum(s, border, export, hour)
 }
 
 // Its bilateral maximum, which may be below zero: 2, 4, 5.
@@ -242,15 +228,7 @@ pub extern "C" fn gate_bilateral_maximum(
 ) -> Response
     ensures { Answered s.now (Q.bilateral_max border export hour) result }
 {
-    let p = query_maximum::judge_direction(*s, border, export, hour);
-    let at = p.at;
-    let of = p.of;
-    query_maximum::bilateral_maximum_from(
-        p,
-        s.figures[at],
-        s.capacities[of].given,
-        s.capacities[of].energies[at],
-    )
+    query_maximum::bilateral_maximum(s, border, export, hour)
 }
 
 // The hour's price: 2, 4.
@@ -258,6 +236,5 @@ pub extern "C" fn gate_bilateral_maximum(
 pub extern "C" fn gate_price(s: &Session, hour: u32) -> Response
     ensures { Answered s.now (Q.price hour) result }
 {
-    let at = query::index_of(hour);
-    query::price_from(*s, s.figures[at], hour)
+    query::price(s, hour)
 }

@@ -1,14 +1,13 @@
--- The loops: indices noted, energies laid in one array, sums over indices, the lowest hour passed, arrays written index by index.
+-- The loops: the energies at indices added up, the indices of those that are counted, the lowest hour passed.
 use Prim.Native.Nat.{ℕ, zero, suc, ◌+◌, ◌*◌, ◌≤◌, ◌<◌}
-use mathlib.Core.Path.{◌≡◌, refl, ap, sym, subst, ◌∙◌}
+use mathlib.Core.Path.{◌≡◌, refl, ap, sym, subst}
 use mathlib.Core.Logic.{⊎_elim}
 use mathlib.Core.Bool.{Bool, true, false, cond, not, ◌&&◌}
 use mathlib.Core.List.{List, [], ◌∷◌, ◌++◌, append-nil}
 use native.Mathlib.Nat.{eq-or-lt_of_le}
 use native.Mathlib.Numerals.{add-one}
 use native.Mathlib.Omega.{arith}
-use lib.ListN.{length, get_or, take, drop, set, drop_of_length-le}
-use lib.Seq.{drop-cons, get_or-take, length-take-le, take-suc-set, get_or-set_same, get_or-set_other}
+use lib.ListN.{length, get_or}
 use lib.Dec.{eqb}
 use borrow.Author.Tests.{lt-ltb, le-ltb, eq-eqb, ne_eqb}
 use Rattle.rules.specs.Lists.{sum, sum_of, from, hourly, lowest}
@@ -19,34 +18,43 @@ use Rattle.rules.proofs.LowestLaws.{lowest-is, lowest-none}
 use Rattle.session.specs.Bare.{bare_energies}
 use Rattle.session.specs.declared.Energies.{Energies}
 use Rattle.std.specs.Prelude.{Some, None}
-use Rattle.judge_loads.specs.Loads.{marked, RowAt, PutAt, LoadsOf, IndicesIn, energy_at_index, load_by, hour_at, laid}
+use Rattle.judge_loads.specs.Loads.{marked, IndicesIn, energy_at_index, load_by, hour_at, laid}
 
 -- Sums
 
-below : (j i : ℕ) → j < i + 1 → j ≤ i
-below j i k = omega arith
+-- of an hour's load the energies at these indices are left to add
+pub record Left (es : List Energies) (h all : ℕ) (indices : List ℕ) (load : ℕ) : Type 0 where
+  pub few : length indices ≤ 128
+  pub below : (l : ℕ) → l < length indices → get_or indices l 0 < length es
+  pub small : load + 4294967295 * length indices ≤ 4294967295 * 129
+  pub rest : load + sum_of (energy_at_index es h) indices ≡ all
 
--- the energy in an hour at the indices from the l-th on
-unfoldable pub rest_at : ℕ → List Energies → List ℕ → ℕ → ℕ
-rest_at h es ps l = sum_of (energy_at_index es h) (drop l ps)
-
-module _ (h : ℕ) (es : List Energies) (ps : List ℕ) (l : ℕ) where
-  rest-next : l < length ps → rest_at (suc h) es ps l ≡ get_or (get_or es (get_or ps l 0) bare_energies).energies h 0 + rest_at (suc h) es ps (l + 1)
-  unfolding rest_at sum_of sum
-  rest-next i = rw (add-one, drop-cons ps l 0 i, hourly-suc (get_or es (get_or ps l 0) bare_energies).energies h)
+module _ (es : List Energies) (h : ℕ) where
+  pub left-start : (own ps : List ℕ) (n : ℕ) → IndicesIn es ps → n ≡ get_or own h 0 → n ≤ 4294967295 → Left es (suc h) (load_by own es ps (suc h)) ps n
+  unfolding load_by
+  left-start own ps n p e small = record { few = p.few; below = p.below; small = omega (arith, p.few); rest = rw (hourly-suc own h, e) refl }
 
   -- one more index
-  pub rest-again : (s : ℕ) {r t : ℕ} → l < length ps → r ≡ s + get_or (get_or es (get_or ps l 0) bare_energies).energies h 0
-      → s + rest_at (suc h) es ps l ≡ t → r + rest_at (suc h) es ps (l + 1) ≡ t
-  rest-again s i e f = omega (arith, rest-next i, e, f)
+  pub left-next : (all n r : ℕ) (i : ℕ) {ps qs : List ℕ} → ps ≡ i ∷ qs → Left es (suc h) all ps n → r ≡ get_or (get_or es i bare_energies).energies h 0 → r ≤ 4294967295 → Left es (suc h) all qs (n + r)
+  unfolding sum_of sum
+  left-next all n r i {ps} {qs} q p e small = go (rw q at p)
+    where
+      go : Left es (suc h) all (i ∷ qs) n → Left es (suc h) all qs (n + r)
+      go p = record {
+        few = omega (arith, p.few);
+        below = λ l k. p.below (suc l) (omega arith);
+        small = omega (arith, p.small);
+        rest = omega (arith, p.rest, e, hourly-suc (get_or es i bare_energies).energies h);
+      }
 
-  pub rest_end : length ps ≤ l → rest_at h es ps l ≡ 0
-  unfolding rest_at sum_of sum
-  rest_end i = rw (drop_of_length-le ps {i = l} i)
+  pub left-end : (all n : ℕ) (ps : List ℕ) → length ps ≡ 0 → Left es (suc h) all ps n → n ≡ all
+  unfolding sum_of sum
+  left-end all n [] e p = omega (arith, p.rest)
+  left-end all n (i ∷ ps) e p = absurd (omega arith)
 
-pub rest-start : (own : List ℕ) (es : List Energies) (ps : List ℕ) (h : ℕ) → get_or own h 0 + rest_at (suc h) es ps 0 ≡ load_by own es ps (suc h)
-unfolding rest_at load_by
-rest-start own es ps h = rw (hourly-suc own h)
+  -- what is added is no more than all
+  pub left-some : (all n : ℕ) (ps : List ℕ) → Left es h all ps n → n ≤ all
+  left-some all n ps p = omega (arith, p.rest)
 
 -- Indices
 
@@ -67,25 +75,7 @@ pub index-start : (bs : List Bool) → [] ≡ marked bs (from 0 0)
 unfolding from
 index-start bs = sym (marked-none {A = ℕ} bs)
 
-module _ (bs : List Bool) (ps : List ℕ) (l count : ℕ) where
-  -- one that is counted is noted, another is passed
-  pub index-noted : count < length ps → get_or bs l false ≡ true → take count ps ≡ marked bs (from 0 l) → take (count + 1) (set ps count l) ≡ marked bs (from 0 (l + 1))
-  index-noted h t e =
-      let f : suc count ≡ count + 1 = omega arith in
-      let g : suc l ≡ l + 1 = omega arith in
-      rw (f, g) at (take-suc-set ps count l h ∙ ap (λ (qs : List ℕ). qs ++ (l ∷ [])) e ∙ last t)
-    where
-      last : get_or bs l false ≡ true → marked bs (from 0 l) ++ (l ∷ []) ≡ marked bs (from 0 (suc l))
-      last t = let z : 0 + l ≡ l = omega arith in rw (marked-last bs 0 l, t, z)
-
-  pub index-passed : get_or bs l false ≡ false → take count ps ≡ marked bs (from 0 l) → take count ps ≡ marked bs (from 0 (l + 1))
-  index-passed t e = rw (add-one, marked-last bs 0 l, t, append-nil (marked bs (from 0 l))) e
-
-  pub index_below : (n : ℕ) → count < length ps → l < n → ((j : ℕ) → j < count → get_or ps j 0 < n) → (j : ℕ) → j < count + 1 → get_or (set ps count l) j 0 < n
-  index_below n h k f j i =
-      ⊎_elim (λ (q : j ≡ count). rw (q, get_or-set_same ps count l 0 h) k) (λ m. rw (get_or-set_other ps count j l 0 (λ q. absurd (omega arith))) (f j m)) (eq-or-lt_of_le (below j count i))
-
--- the same of a list that is added to
+-- one that is counted is added, another is left
 module _ (bs : List Bool) (ps : List ℕ) (l : ℕ) where
   pub index-pushed : get_or bs l false ≡ true → ps ≡ marked bs (from 0 l) → ps ++ (l ∷ []) ≡ marked bs (from 0 (l + 1))
   index-pushed t e =
@@ -114,59 +104,6 @@ marked-below (false ∷ bs) i (suc n) l h = omega (arith, marked-below bs (suc i
 -- those of the first n that are marked are indices of n energies and more
 pub indices-in : (bs : List Bool) (n : ℕ) (es : List Energies) (ps : List ℕ) → ps ≡ marked bs (from 0 n) → n ≤ 128 → n ≤ length es → IndicesIn es ps
 indices-in bs n es ps e few room = rw e (record { few = omega (arith, marked-few bs 0 n); below = λ l h. omega (arith, marked-below bs 0 n l h) })
-
--- Energies in one array
-
--- the first h of an index's 25 numbers are written
-unfoldable pub PutTo : ℕ → List ℕ → List ℕ → List ℕ → ℕ → Type 0
-PutTo l es before after h =
-    ((k : ℕ) → k < h → get_or after (l * 25 + k) 0 ≡ get_or es k 0)
-    × ((i : ℕ) → i < l * 25 → get_or after i 0 ≡ get_or before i 0)
-    × ((i : ℕ) → l * 25 + h ≤ i → get_or after i 0 ≡ get_or before i 0)
-
-module _ (l : ℕ) (es before after : List ℕ) (h : ℕ) where
-  pub put_next : l * 25 + h < length after → PutTo l es before after h → PutTo l es before (set after (l * 25 + h) (get_or es h 0)) (h + 1)
-  unfolding PutTo
-  put_next i p = (
-    λ k m. ⊎_elim (λ (q : k ≡ h). rw (q, get_or-set_same after (l * 25 + h) (get_or es h 0) 0 i)) (λ n. other (l * 25 + k) (λ q. absurd (omega arith)) ∙ p.0 k n) (eq-or-lt_of_le (below k h m)),
-    λ j m. other j (λ q. absurd (omega arith)) ∙ p.1 j m,
-    λ j m. other j (λ q. absurd (omega arith)) ∙ p.2 j (omega arith),
-  )
-    where
-      other : (j : ℕ) → (j ≡ l * 25 + h → ⊥) → get_or (set after (l * 25 + h) (get_or es h 0)) j 0 ≡ get_or after j 0
-      other j q = get_or-set_other after (l * 25 + h) j (get_or es h 0) 0 q
-
-pub put-start : (l : ℕ) (es before : List ℕ) → PutTo l es before before 0
-unfolding PutTo
-put-start l es before = (λ k i. absurd (omega arith), λ i k. refl, λ i k. refl)
-
-pub put-end : (l h : ℕ) (es before after : List ℕ) → h ≡ 25 → PutTo l es before after h → PutAt l es before after
-unfolding PutTo PutAt RowAt
-put-end l h es before after e p = rw e at p
-
-module _ (es : List Energies) (l : ℕ) (in_List : l < length es) where
-  -- an index of one more
-  among : (k : ℕ) → k < length (take (l + 1) es) → k ≤ l
-  among k i = omega (arith, length-take-le (l + 1) es (omega arith))
-
-  shorter : (k : ℕ) → k < l → k < length (take l es)
-  shorter k i = omega (arith, length-take-le l es (omega arith))
-
-  at-shorter : (k : ℕ) → k < l → get_or (take l es) k bare_energies ≡ get_or (take (l + 1) es) k bare_energies
-  at-shorter k i = get_or-take l es k bare_energies i ∙ sym (get_or-take (l + 1) es k bare_energies (omega arith))
-
-  pub loads-put : (before after : List ℕ) → PutAt l (get_or es l bare_energies).energies before after → LoadsOf (take l es) before → LoadsOf (take (l + 1) es) after
-  unfolding LoadsOf PutAt RowAt
-  loads-put before after p f k i h m =
-      ⊎_elim (λ (q : k ≡ l). rw (q, get_or-take (l + 1) es l bare_energies (omega arith)) (p.0 h m))
-      (λ n. rw (← at-shorter k n) (p.1 (k * 25 + h) (inside k h n m) ∙ f k (shorter k n) h m)) (eq-or-lt_of_le (among k i))
-    where
-      inside : (k h : ℕ) → k < l → h < 25 → k * 25 + h < l * 25
-      inside k h n m = omega arith
-
-pub loads-start : (loads : List ℕ) → LoadsOf [] loads
-unfolding LoadsOf
-loads-start loads l i = absurd (omega arith)
 
 -- Hours
 
@@ -215,10 +152,3 @@ module _ (p : ℕ → Bool) where
 
   pub hour-found : (n h : ℕ) → h < n → NoneTo p h → p (suc h) ≡ true → Some (h + 1) ≡ hour_at (lowest p n)
   hour-found n h i f e = rw (← none_found n h h refl i f e, ne_eqb (h + 1) 0 (λ z. absurd (omega arith)))
-
--- Arrays written index by index
-
-pub written_next : (g : ℕ → ℕ) (l : List ℕ) (i v : ℕ) → i < length l → v ≡ g i → ((j : ℕ) → j < i → get_or l j 0 ≡ g j)
-    → (j : ℕ) → j < i + 1 → get_or (set l i v) j 0 ≡ g j
-written_next g l i v h e f j k =
-    ⊎_elim (λ (q : j ≡ i). rw (q, get_or-set_same l i v 0 h) e) (λ m. rw (get_or-set_other l i j v 0 (λ q. absurd (omega arith))) (f j m)) (eq-or-lt_of_le (below j i k))

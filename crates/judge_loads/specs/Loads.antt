@@ -1,10 +1,9 @@
 -- A lodgement's energy in an hour, with that of others that are counted.
-use Rattle.std.specs.Prelude.{ℕ, ◌+◌, ◌*◌, ◌≤◌, ◌<◌, ◌≡◌, Bool, cond, List, [], ◌∷◌, eqb, length, get_or, take, Some, None}
+use Rattle.std.specs.Prelude.{ℕ, ◌+◌, ◌≤◌, ◌<◌, Bool, cond, List, [], ◌∷◌, eqb, length, get_or, Some, None}
 use Rattle.std.specs.declared.option.Option as O
 use Rattle.std.proofs.Math.Option.{some}
-use Rattle.rules.specs.Lists.{sum_of, hourly, from}
+use Rattle.rules.specs.Lists.{sum_of, hourly}
 use Rattle.rules.specs.Units.{Limit}
-use Rattle.arrays.specs.declared.Indices.{Indices}
 use Rattle.session.specs.Bare.{bare_energies}
 use Rattle.session.specs.declared.Energies.{Energies}
 
@@ -14,36 +13,12 @@ marked [] xs = []
 marked (b ∷ bs) [] = []
 marked (b ∷ bs) (x ∷ xs) = cond b (x ∷ marked bs xs) (marked bs xs)
 
--- the indices of those of the first n at which the mark is true
-pub record IndicesOf (counted : List Bool) (n : ℕ) (r : Indices) : Type 0 where
-  pub most : r.count ≤ n
-  pub indices : take r.count r.at ≡ marked counted (from 0 n)
-  pub long : length r.at ≡ 128
-  pub below : (l : ℕ) → l < r.count → get_or r.at l 0 < n
-
 abbrev pub energy_in : ℕ → Energies → ℕ
 energy_in h e = hourly e.energies h
 
 -- a lodgement's own energy in an hour plus that of the others that are marked
 unfoldable pub load_in : List ℕ → List Bool → List Energies → ℕ → ℕ
 load_in own counted es h = hourly own h + sum_of (energy_in h) (marked counted es)
-
--- The same by indices, the energies in one array, 25 for each index
-
--- the 25 numbers of an index are these
-unfoldable pub RowAt : ℕ → List ℕ → List ℕ → Type 0
-RowAt l es loads = (h : ℕ) → h < 25 → get_or loads (l * 25 + h) 0 ≡ get_or es h 0
-
--- the 25 numbers of an index are these, and the others as before
-unfoldable pub PutAt : ℕ → List ℕ → List ℕ → List ℕ → Type 0
-PutAt l es before after =
-    RowAt l es after
-    × ((i : ℕ) → i < l * 25 → get_or after i 0 ≡ get_or before i 0)
-    × ((i : ℕ) → l * 25 + 25 ≤ i → get_or after i 0 ≡ get_or before i 0)
-
--- the array has the energies of all
-unfoldable pub LoadsOf : List Energies → List ℕ → Type 0
-LoadsOf es loads = (l : ℕ) → l < length es → RowAt l (get_or es l bare_energies).energies loads
 
 -- The load by indices
 

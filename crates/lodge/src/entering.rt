@@ -14,9 +14,9 @@ use session_changes::{StandingChange, Step};
 
 // "A lodgement replaces the one with its key, and takes and answers the next lodging number": those after the replaced one
 // go forward, and the new one stands at the end.
-pub fn enter(s: Session, m: Fields, replaces: Option<usize>) -> Step<StandingChange>
-    requires { Room s (key_for m) × (replaces ≡ key_index s (key_for m)) }
-    ensures entered { EnteredFields s m (done standing_with s result) }
+pub fn enter(s: &Session, m: &Fields, replaces: Option<usize>) -> Step<StandingChange>
+    requires { Room s.now (key_for m.now) × (replaces ≡ key_index s.now (key_for m.now)) }
+    ensures entered { EnteredFields s.now m.now (done standing_with s.now result) }
     ensures indexed { Indexed result.change }
 {
     let number = s.last + 1;
@@ -27,7 +27,7 @@ pub fn enter(s: Session, m: Fields, replaces: Option<usize>) -> Step<StandingCha
             to: left,
             at: left,
             lodgement: Lodgement {
-                key: key_of(&m),
+                key: key_of(m),
                 number,
             },
             energies: Energies {

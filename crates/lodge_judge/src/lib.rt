@@ -42,15 +42,15 @@ fn is_full(n: usize, last: u32, at: Option<usize>) -> bool
 
 // The unit of a message, or the row that refuses its fields, in the table's order. What it replaces has the index `replaces`.
 pub fn judge_fields(
-    s: Session,
+    s: &Session,
     m: &Fields,
     top: u32,
     replaces: Option<usize>,
 ) -> Result<Holder, Row>
-    requires { Within s × (replaces ≡ key_index s (key_for m.now)) }
-    ensures rows { GivesRow s top m.now result }
-    ensures held { IfOk result (λ h. Holding s (key_for m.now) h) }
-    ensures room { OnOk result (Room s (key_for m.now)) }
+    requires { Within s.now × (replaces ≡ key_index s.now (key_for m.now)) }
+    ensures rows { GivesRow s.now top m.now result }
+    ensures held { IfOk result (λ h. Holding s.now (key_for m.now) h) }
+    ensures room { OnOk result (Room s.now (key_for m.now)) }
 {
     if bad_hours(s.hours, m.map) {
         return Err(Row::Hour);

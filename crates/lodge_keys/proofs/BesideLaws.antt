@@ -7,8 +7,7 @@ use native.Mathlib.Omega.{arith}
 use lib.Dec.{eqb}
 use lib.ListN.{take, length, get_or, replicate, length-map, get_or-append}
 use lib.Seq.{length-take-le, get_or-take}
-use borrow.Author.Tests.{eq-eqb, ne_eqb, not-true}
-use Rattle.rules.specs.Lists.{keep, any, sum, sum_of, from}
+use Rattle.rules.specs.Lists.{keep, sum, sum_of, from}
 use Rattle.rules.specs.Lodging as L
 use Rattle.rules.specs.Book.{Book}
 use Rattle.rules.proofs.BoolLaws.{by_bool}

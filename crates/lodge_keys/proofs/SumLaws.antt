@@ -7,7 +7,7 @@ use native.Mathlib.Nat.{eq-or-lt_of_le}
 use native.Mathlib.Numerals.{add-one}
 use native.Mathlib.Omega.{arith}
 use lib.ListN.{length, get_or, take, set, replicate, get_or-replicate}
-use lib.Seq.{take-suc, get_or-set_same, get_or-set_other}
+use lib.Seq.{take-suc, take_all, get_or-set_same, get_or-set_other}
 use Rattle.rules.specs.Lists.{sum, sum_of}
 use Rattle.session.specs.Bare.{bare_energies}
 use Rattle.session.specs.declared.Energies.{Energies}
@@ -16,27 +16,26 @@ use Rattle.lodge_keys.specs.Sums.{Below, Added, energy_of, SumsAt}
 -- The loop that adds a row
 
 -- the first h hours are added, and the others as before
-pub record Adding (i : ℕ) (before row after : List ℕ) (h : ℕ) : Type 0 where
+pub record Adding (before row after : List ℕ) (h : ℕ) : Type 0 where
   pub added : (k : ℕ) → k < h → get_or after k 0 ≡ get_or before k 0 + get_or row k 0
-  pub below : (k : ℕ) → k < h → get_or after k 0 ≤ (i + 1) * 4294967295
+  pub below : (i : ℕ) → Below i before → (k : ℕ) → k < h → k < 25 → get_or after k 0 ≤ (i + 1) * 4294967295
   pub kept : (k : ℕ) → h ≤ k → get_or after k 0 ≡ get_or before k 0
 
-pub adding-start : (i : ℕ) (before row : List ℕ) → Adding i before row before 0
-adding-start i before row = record { added = λ k m. absurd (omega arith); below = λ k m. absurd (omega arith); kept = λ k m. refl }
+pub adding-start : (before row : List ℕ) → Adding before row before 0
+adding-start before row = record { added = λ k m. absurd (omega arith); below = λ i b k m. absurd (omega arith); kept = λ k m. refl }
 
-module _ (i : ℕ) (before row after : List ℕ) (h : ℕ) (p : Adding i before row after h) where
+module _ (before row after : List ℕ) (h : ℕ) (p : Adding before row after h) where
   -- the next hour's sum is not added to yet
-  pub adding-low : h < 25 → Below i before → get_or after h 0 ≤ i * 4294967295
+  pub adding-low : (i : ℕ) → h < 25 → Below i before → get_or after h 0 ≤ i * 4294967295
   unfolding Below
-  adding-low l b = rw (p.kept h (omega arith)) (b h l)
+  adding-low i l b = rw (p.kept h (omega arith)) (b h l)
 
-  pub adding-next : (v r : ℕ) → h < length after → h < 25 → Below i before → r ≡ get_or row h 0 → r < 4294967296 → v ≡ get_or after h 0 + r → Adding i before row (set after h v) (h + 1)
-  adding-next v r l m b e low q =
+  pub adding-next : (v r : ℕ) → h < length after → r ≡ get_or row h 0 → r < 4294967296 → v ≡ get_or after h 0 + r → Adding before row (set after h v) (h + 1)
+  adding-next v r l e low q =
       let was = p.kept h (omega arith) in
-      let old = adding-low m b in
       record {
         added = λ k n. ⊎_elim (λ (x : k ≡ h). rw (x, get_or-set_same after h v 0 l) (omega (arith, was))) (λ n. other k (λ x. absurd (omega arith)) ∙ p.added k n) (eq-or-lt_of_le (last k n));
-        below = λ k n. ⊎_elim (λ (x : k ≡ h). rw (x, get_or-set_same after h v 0 l) (omega arith)) (λ n. rw (other k (λ x. absurd (omega arith))) (p.below k n)) (eq-or-lt_of_le (last k n));
+        below = λ i b k n m. ⊎_elim (λ (x : k ≡ h). rw (x, get_or-set_same after h v 0 l) (omega (arith, adding-low i (omega arith) b))) (λ n. rw (other k (λ x. absurd (omega arith))) (p.below i b k n m)) (eq-or-lt_of_le (last k n));
         kept = λ k n. other k (λ x. absurd (omega arith)) ∙ p.kept k (omega arith);
       }
     where
@@ -46,9 +45,13 @@ module _ (i : ℕ) (before row after : List ℕ) (h : ℕ) (p : Adding i before 
       other : (k : ℕ) → (k ≡ h → ⊥) → get_or (set after h v) k 0 ≡ get_or after k 0
       other k x = get_or-set_other after h k v 0 x
 
-  pub adding-end : h ≡ 25 → Below (i + 1) after × Added before row after
-  unfolding Below Added
-  adding-end e = (λ k m. p.below k (omega arith), λ k m. p.added k (omega arith))
+  pub adding-end : 25 ≤ h → Added before row after
+  unfolding Added
+  adding-end e k m = p.added k (omega arith)
+
+  pub adding-below : 25 ≤ h → (i : ℕ) → Below i before → Below (i + 1) after
+  unfolding Below
+  adding-below e i b k m = p.below i b k (omega arith) m
 
 -- Bounds
 
@@ -73,8 +76,12 @@ module _ (es : List Energies) (ls : List ℕ) where
   sums-start h i = get_or-replicate {A = ℕ} 25 h 0 0 i
 
   -- the row of the next index is added
-  pub sums_next : (i : ℕ) (before row after : List ℕ) → i < length ls → row ≡ (get_or es (get_or ls i 0) bare_energies).energies
-      → SumsAt es (take i ls) before → Added before row after → SumsAt es (take (i + 1) ls) after
+  pub sums_next : (i : ℕ) (before after : List ℕ) → i < length ls → SumsAt es (take i ls) before → Added before (get_or es (get_or ls i 0) bare_energies).energies after
+      → SumsAt es (take (i + 1) ls) after
   unfolding SumsAt Added
-  sums_next i before row after m e s a h k =
-      a h k ∙ (ap (λ n. n + get_or row h 0) (s h k) ∙ ap (λ (r : List ℕ). sum_of (energy_of es h) (take i ls) + get_or r h 0) e ∙ sym (sum-last (energy_of es h) (take i ls) (get_or ls i 0)) ∙ sym (ap (sum_of (energy_of es h)) (rw add-one (take-suc ls i 0 m))))
+  sums_next i before after m s a h k =
+      a h k ∙ (ap (λ n. n + energy_of es h (get_or ls i 0)) (s h k) ∙ sym (sum-last (energy_of es h) (take i ls) (get_or ls i 0)) ∙ sym (ap (sum_of (energy_of es h)) (rw add-one (take-suc ls i 0 m))))
+
+  -- all are
+  pub sums-all : (i : ℕ) (sums : List ℕ) → length ls ≤ i → SumsAt es (take i ls) sums → SumsAt es ls sums
+  sums-all i sums m s = rw (take_all i ls m) at s

@@ -1,10 +1,8 @@
 -- Energies by hour, added up, the hours counted from 0.
-use Rattle.std.specs.Prelude.{ℕ, ◌+◌, ◌*◌, ◌≤◌, ◌<◌, ◌≡◌, List, get_or, take}
+use Rattle.std.specs.Prelude.{ℕ, ◌+◌, ◌*◌, ◌≤◌, ◌<◌, ◌≡◌, List, get_or}
 use Rattle.rules.specs.Lists.{sum_of, hourly}
 use Rattle.session.specs.Bare.{bare_energies}
 use Rattle.session.specs.declared.Energies.{Energies}
-use Rattle.judge_loads.specs.Loads.{RowAt}
-use Rattle.lodge_keys.specs.declared.beside.Counted.{Counted}
 
 -- each is at most a sum of so many numbers
 unfoldable pub Below : ℕ → List ℕ → Type 0
@@ -21,14 +19,6 @@ energy_of es h l = get_or (get_or es l bare_energies).energies h 0
 -- the energies of the lodgements at some indices, added up
 unfoldable pub SumsAt : List Energies → List ℕ → List ℕ → Type 0
 SumsAt es ls sums = (h : ℕ) → h < 25 → get_or sums h 0 ≡ sum_of (energy_of es h) ls
-
--- those of the ones that are counted
-abbrev pub SumsOf : List Energies → Counted → List ℕ → Type 0
-SumsOf es c sums = SumsAt es (take c.count c.at) sums
-
--- their rows, one after the other
-unfoldable pub RowsOf : List Energies → Counted → List ℕ → Type 0
-RowsOf es c rows = (j : ℕ) → j < c.count → RowAt j (get_or es (get_or c.at j 0) bare_energies).energies rows
 
 -- a lodgement's own energy in an hour plus such a sum, hours counted from 1
 unfoldable pub load_on : List ℕ → List ℕ → ℕ → ℕ

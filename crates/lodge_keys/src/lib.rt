@@ -86,9 +86,9 @@ pub fn bad_key(key: Key) -> bool
 }
 
 // The unit of a key, or row 6: "unregistered, or domestic for an execution".
-pub fn holder_for(s: Session, key: Key) -> Result<Holder, Row>
-    requires { Within s }
-    ensures { HolderFor s key result }
+pub fn holder_for(s: &Session, key: Key) -> Result<Holder, Row>
+    requires { Within s.now }
+    ensures { HolderFor s.now key result }
 {
     let Some(holder) = holder_of(&s.units[..s.enrolled], key.unit) else {
         return Err(Row::Unit);

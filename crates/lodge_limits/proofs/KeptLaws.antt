@@ -1,12 +1,12 @@
 -- Limits that are kept in every hour, and a judgement that is clear exactly where all are: each way out.
-use Prim.Native.Nat.{ℕ, suc, ◌+◌, ◌≤◌, ◌<◌}
+use Prim.Native.Nat.{ℕ, suc, ◌+◌, ◌-◌, ◌≤◌, ◌<◌}
 use mathlib.Core.Path.{◌≡◌, refl, ap, sym, ◌∙◌}
-use mathlib.Core.Bool.{Bool, true, false, cond, not, ◌&&◌, false≢true}
+use mathlib.Core.Bool.{Bool, true, false, cond, ◌&&◌, false≢true}
 use mathlib.Core.List.{List, map}
 use native.Mathlib.Omega.{arith}
 use lib.Dec.{eqb}
 use lib.ListN.{get_or, replicate}
-use borrow.Author.Tests.{eq-eqb, ne_eqb, not-true}
+use borrow.Author.Tests.{eq-eqb, ne_eqb, eqb-true, eqb-false}
 use Rattle.rules.specs.Lists.{lowest}
 use Rattle.rules.specs.Refusals.{first_row}
 use Rattle.rules.specs.Units.{border_sum}
@@ -16,14 +16,14 @@ use Rattle.rules.proofs.ListLaws.{hourly-suc}
 use Rattle.session.specs.declared.Unit.{Unit}
 use Rattle.session.specs.declared.Notice.{Notice}
 use Rattle.session.specs.Parts.{given_by}
-use Rattle.judge_loads.specs.Loads.{laid}
-use Rattle.judge_loads.proofs.LoadLaws.{over, within, NoneTo, none-all, none_found}
+use Rattle.judge_loads.specs.Loads.{hour_at, laid}
+use Rattle.judge_loads.proofs.LoadLaws.{unnamed, over, within, NoneTo, none-all, none_found}
 use Rattle.judge_limits.specs.Limits.{notice_in, lowest_row, judged_in, border_at}
 use mathlib.Core.Option.{Option, some, none}
 use Rattle.std.specs.Prelude.{Some, None}
 use Rattle.std.specs.declared.option.Option as O
-use Rattle.judge_limits.proofs.RowLaws.{ten, eleven, l11, l12, ten-as, eleven-as, twelve-off, twelve-on, judged-default, judged-normal}
-use Rattle.lodge_keys.specs.Sums.{Below, load_on}
+use Rattle.judge_limits.proofs.RowLaws.{ten, eleven, l12, twelve-off, twelve-on, judged-default, judged-normal}
+use Rattle.lodge_keys.specs.Sums.{load_on}
 use Rattle.lodge_limits.specs.Judging.{kept, is_clear}
 
 -- Hour by hour
@@ -33,17 +33,14 @@ load_at : (own sums : List ℕ) (h : ℕ) → load_on own sums (suc h) ≡ get_o
 unfolding load_on
 load_at own sums h = rw (hourly-suc own h, hourly-suc sums h)
 
--- it does not wrap
-pub load_fits : (sums : List ℕ) (h : ℕ) → h < 25 → Below 128 sums → get_or sums h 0 ≤ 549755813760
-unfolding Below
-load_fits sums h i b = omega (arith, b h i)
+module _ (own sums limit : List ℕ) (h : ℕ) where
+  -- what the others leave of the limit is less than the own energy
+  pub over-load : get_or limit h 0 - get_or sums h 0 < get_or own h 0 → passed_at own (load_on own sums) (laid limit) (suc h) ≡ true
+  over-load i = over own (load_on own sums) limit h (λ z. absurd (omega arith)) (omega (arith, load_at own sums h))
 
-module _ (own sums limit : List ℕ) (h : ℕ) {n r : ℕ} (e : n ≡ get_or own h 0) (q : r ≡ n + get_or sums h 0) where
-  pub over-load : (get_or own h 0 ≡ 0 → ⊥) → get_or limit h 0 < r → passed_at own (load_on own sums) (laid limit) (suc h) ≡ true
-  over-load z i = over own (load_on own sums) limit h z (omega (arith, load_at own sums h))
-
-  pub within-load : r ≤ get_or limit h 0 → passed_at own (load_on own sums) (laid limit) (suc h) ≡ false
-  within-load i = within own (load_on own sums) limit h (omega (arith, load_at own sums h))
+  pub within-load : get_or own h 0 ≤ get_or limit h 0 - get_or sums h 0 → passed_at own (load_on own sums) (laid limit) (suc h) ≡ false
+  within-load i = by_bool (eqb (get_or own h 0) 0) (λ e. unnamed own (load_on own sums) limit h (omega (arith, eqb-true)))
+      (λ e. let z : get_or own h 0 ≡ 0 → ⊥ = λ q. absurd (omega (arith, eqb-false)) in within own (load_on own sums) limit h (omega (arith, load_at own sums h, z)))
 
 module _ (own : List ℕ) (load : ℕ → ℕ) (limit : List ℕ) (n h : ℕ) where
   pub passed-one : h < n → NoneTo (passed_at own load (laid limit)) h → passed_at own load (laid limit) (suc h) ≡ true → false ≡ kept own load n limit
@@ -54,17 +51,12 @@ module _ (own : List ℕ) (load : ℕ → ℕ) (limit : List ℕ) (n h : ℕ) wh
   unfolding kept
   passed_none i f = sym (eq-eqb (lowest (passed_at own load (laid limit)) n) 0 (sym (none-all (passed_at own load (laid limit)) n h i f)))
 
--- without a notice limit 11 is limit 10
-pub kept_same : (own : List ℕ) (load : ℕ → ℕ) (n m : ℕ) (x : Notice) → not x.given ≡ true → kept own load n (replicate 25 m) ≡ true
-    → true ≡ kept own load n (cond x.given x.energies (replicate 25 m))
-kept_same own load n m x t e = rw (not-true x.given t) (sym e)
-
 -- All limits
 
-clear-row : (x y z : ℕ) → is_clear (lowest_row x y z) ≡ (eqb x 0 && (eqb y 0 && eqb z 0))
+clear-row : (x y z : ℕ) → is_clear (lowest_row (hour_at x) (hour_at y) (hour_at z)) ≡ (eqb x 0 && (eqb y 0 && eqb z 0))
 unfolding lowest_row first_row given_by
 clear-row x y z =
-    by_bool (eqb x 0) (λ a. by_bool (eqb y 0) (λ b. by_bool (eqb z 0) (λ c. rw (a, b, c)) (λ c. rw (a, b, c))) (λ b. rw (a, b))) (λ a. rw a)
+    by_bool (eqb x 0) (λ a. by_bool (eqb y 0) (λ b. by_bool (eqb z 0) (λ c. rw (a, b, c) refl) (λ c. rw (a, b, c) refl)) (λ b. rw (a, b) refl)) (λ a. rw a refl)
 
 module _ (own : List ℕ) (load : ℕ → ℕ) (H : ℕ) (most : H ≤ 25) (u : Unit) (n : Notice) (cs : List Notice) where
   abbrev low10 : ℕ
@@ -77,12 +69,10 @@ module _ (own : List ℕ) (load : ℕ → ℕ) (H : ℕ) (most : H ≤ 25) (u : 
   low12 = lowest (passed_at own load (l12 H own load most u n cs)) H
 
   clear-default : is_clear (judged_in u n cs true H own load) ≡ eqb low10 0
-  clear-default = ap is_clear (judged-default H own load most u n cs ∙ ap (λ x. lowest_row x 0 0) (ten-as H own load most u n cs)) ∙ (clear-row low10 0 0 ∙ by_bool (eqb low10 0) (λ a. rw a) (λ a. rw a))
+  clear-default = ap is_clear (judged-default H own load most u n cs) ∙ (clear-row low10 0 0 ∙ by_bool (eqb low10 0) (λ a. rw a) (λ a. rw a))
 
   clear-normal : is_clear (judged_in u n cs false H own load) ≡ (eqb low10 0 && (eqb low11 0 && eqb low12 0))
-  clear-normal =
-      ap is_clear (judged-normal H own load most u n cs ∙ (ap (λ x. lowest_row x (lowest (passed_at own load (l11 H own load most u n cs)) H) low12) (ten-as H own load most u n cs) ∙ ap (λ y. lowest_row low10 y low12) (eleven-as H own load most u n cs)))
-      ∙ clear-row low10 low11 low12
+  clear-normal = ap is_clear (judged-normal H own load most u n cs) ∙ clear-row low10 low11 low12
 
   module _ (default : Bool) where
     abbrev clear : Bool

@@ -1,5 +1,5 @@
 -- A message that awaits its judgement by the limits, with the lodgements that are counted beside it.
-use Rattle.std.specs.Prelude.{ℕ, ◌≡◌, Bool, true, false, List, eqb, get_or, take}
+use Rattle.std.specs.Prelude.{ℕ, Bool, true, false, List, eqb, get_or, take}
 use Rattle.rules.specs.Lists.{lowest}
 use Rattle.rules.specs.Lodging.{passed_at}
 use Rattle.session.specs.Bare.{bare_notice}

@@ -1,10 +1,9 @@
 -- A message that is read, by its form and its fields: each way out.
-use Prim.Native.Nat.{ℕ, ◌≤◌}
+use Prim.Native.Nat.{ℕ}
 use mathlib.Core.Path.{◌≡◌, refl, sym, ap, ap₂, subst, ◌∙◌}
 use mathlib.Core.Bool.{Bool, true, false}
 use mathlib.Core.List.{List, ◌∷◌}
 use mathlib.Core.Option.{some}
-use native.Mathlib.Omega.{arith}
 use Rattle.std.specs.Prelude.{Ok, Err, IfOk}
 use Rattle.std.specs.declared.result.Result.{Result}
 use Rattle.rules.specs.declared.row.Row as Code
@@ -21,15 +20,9 @@ use Rattle.session.proofs.ImageLaws.{closed-as}
 use Rattle.session.proofs.StepLaws.{out-unsound, out-refused}
 use Rattle.message.specs.View.{fields_in}
 use Rattle.message.specs.declared.Fields.{Fields}
-use Rattle.lodge_keys.specs.Beside.{CountedOf, Indices}
-use Rattle.lodge_keys.specs.declared.beside.Counted.{Counted}
 use Rattle.lodge_judge.specs.Judging.{field_rows, last_rows, GivesRow, JudgesLimits}
 use Rattle.lodge_pending.specs.Awaiting.{Found, Refused, Pends}
 use Rattle.lodge_pending.specs.declared.Pending.{Pending}
-
--- the indices of those that are counted
-pub indices-of : (marks : List Bool) (n : ℕ) (c : Counted) → n ≤ 128 → CountedOf marks n c → Indices c
-indices-of marks n c h p = record { most = omega (arith, p.most); below = λ l i. omega (arith, p.below l i) }
 
 -- Rows
 

@@ -13,7 +13,7 @@ use Rattle.session.specs.Steps.{Met}
 use Rattle.session.specs.declared.Session.{Session}
 use Rattle.lodge_keys.specs.Keys.{key_for, key_index}
 use Rattle.lodge_keys.specs.Holding.{Holding}
-use Rattle.lodge_keys.specs.Beside.{marks_for, CountedOf, Indices}
+use Rattle.lodge_keys.specs.Beside.{marks_for, CountedOf}
 use Rattle.lodge_judge.specs.Judging.{Room, JudgesLimits}
 use Rattle.lodge_pending.specs.declared.Pending.{Pending}
 
@@ -23,9 +23,8 @@ pub record Awaits (s : Session) (p : Pending) : Type 0 where
   pub replaced : p.replaces ≡ key_index s (key_for p.fields)
   pub holder : Holding s (key_for p.fields) p.holder
   pub room : Room s (key_for p.fields)
-  pub beside : CountedOf (marks_for s p.fields) s.standing p.beside
+  pub beside : CountedOf (marks_for s p.fields) s.standing p.beside.items
   pub notice : p.holder.at < 64
-  pub indices : Indices p.beside
 
 -- a message of the right form, by its fields
 pub record Found (s : Session) (m : Fields) (p : Pending) : Type 0 where

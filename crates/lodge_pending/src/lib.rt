@@ -6,28 +6,30 @@ ghost use Rattle.session.specs.Parts.{Within};
 ghost use Rattle.lodge_judge.specs.Judging.{GivesRow};
 ghost use Rattle.lodge_pending.specs.Awaiting.{Found, Pends};
 
+use arrayvec::ArrayVec;
 use lodge_judge::judge_fields;
-use lodge_keys::beside::{Counted, beside_of};
+use lodge_keys::beside::beside_of;
 use lodge_keys::{key_index, key_of};
 use message::Fields;
 use message_reader::{formed, top_of};
+use rules::LODGEMENTS;
 use rules::row::Row;
 use session::{Holder, Session};
 
-// Its fields, the index of the lodgement that it replaces, its unit, and those that are counted beside it.
-#[derive(Clone, Copy)]
+// Its fields, the index of the lodgement that it replaces, its unit, and the indices of those that are counted beside it.
+#[derive(Drop)]
 pub struct Pending {
     pub fields: Fields,
     pub replaces: Option<usize>,
     pub holder: Holder,
-    pub beside: Counted,
+    pub beside: ArrayVec<usize, LODGEMENTS>,
 }
 
 // What is found for a message of the right form, or the row from 4 to 9 that refuses it.
-fn found(s: Session, m: Fields, top: u32) -> Result<Pending, Row>
-    requires { Within s }
-    ensures rows { GivesRow s top m result }
-    ensures found { IfOk result (Found s m) }
+fn found(s: &Session, m: Fields, top: u32) -> Result<Pending, Row>
+    requires { Within s.now }
+    ensures rows { GivesRow s.now top m result }
+    ensures found { IfOk result (Found s.now m) }
 {
     let key = key_of(&m);
     let standing = &s.lodgements[..s.standing];
@@ -43,8 +45,8 @@ fn found(s: Session, m: Fields, top: u32) -> Result<Pending, Row>
 }
 
 // Reads a message: 2, 3, 4, 5, 6, 9. "After a 3 nothing further is read".
-pub fn pend(s: Session, message: &[u8]) -> Result<Pending, Row>
-    ensures { Pends s message.now result }
+pub fn pend(s: &Session, message: &[u8]) -> Result<Pending, Row>
+    ensures { Pends s.now message.now result }
 {
     if !s.sound() {
         return Err(Row::Gate);

@@ -7,7 +7,6 @@ use Rattle.answer.specs.Told as T
 use Rattle.answer.specs.declared.Response.{Response}
 use Rattle.calendar.specs.View.{date_in}
 use Rattle.message.specs.View.{fields_in}
-use Rattle.message.specs.declared.Fields.{Fields}
 use Rattle.session.specs.Image.{unit_in, key_in}
 use Rattle.session.specs.Steps.{Met, Opens}
 use Rattle.session.specs.declared.Session.{Session}

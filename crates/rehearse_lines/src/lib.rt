@@ -13,7 +13,7 @@ ghost use Rattle.rules.specs.Book.{fresh};
 ghost use Rattle.rehearse_lines.specs.Runs.{call_in, Lodges, Ran, IfAnswer};
 
 use crate::telling::Said;
-use answer::Response;
+use answer::{Refusal, Response};
 use calendar::Date;
 use message::Fields;
 use rehearse_words::calls::Call;
@@ -67,13 +67,14 @@ fn lodge_message(session: &mut Session, fields: Fields) -> Response
     ensures { Lodges session.old (M.write 108 (fields_in fields)) session.new result }
 {
     let mut message = [0u8; 108];
-    let written = message_writer::write(fields, &mut message);
-    if written.row != 0 {
-        return answer::refused(written.row, 0);
+    match message_writer::write_fields(&fields, &mut message) {
+        Ok(count) => {
+            let effect = lodge::lodge::lodge(*session, &message[..count]);
+            *session = effect.session;
+            effect.answer
+        }
+        Err(row) => Response::from(Refusal::from(row)),
     }
-    let effect = lodge::lodge::lodge(*session, &message[..written.count]);
-    *session = effect.session;
-    effect.answer
 }
 
 // A line that is understood.

@@ -1,5 +1,5 @@
 // A rehearsal line's answer, and how it is written.
-use answer::{REFUSED, Response};
+use answer::{Kind, Response};
 use rehearse_report::Report;
 use rehearse_report::replies::Told;
 use session::Session;
@@ -15,7 +15,7 @@ pub enum Said {
 
 impl Said {
     pub fn is_refused(&self) -> bool {
-        matches!(self, Said::Answer(answer) if answer.kind == REFUSED)
+        matches!(self, Said::Answer(answer) if answer.kind() == Some(Kind::Refused))
     }
 }
 

@@ -1,28 +1,48 @@
+use Rattle.std.proofs.Common.{rules, ◌≡◌, length}
 use mathlib.Core.Path.{refl, sym, ◌∙◌}
 use native.Mathlib.Omega.{arith}
-use lib.ListN.{length-set}
-use borrow.Author.Tests.{not-true, not-false}
-use Rattle.book.proofs.ReplayLaws.{running-start, running-on, ended-full, ended-stopped}
-use borrow.Author.Rules.{rules}
+use lib.ListN.{length-set, length-drop, drop}
+use Rattle.std.proofs.lemmas.List.{set-get_or, take_rest}
+use Rattle.book.proofs.ReplayLaws.{running-start, running-on, record-fits, ended-full, ended-stopped}
 use Rattle.book.proofs.replay_on.Goals as goal
 
 pub loop-calls-init : goal.loop-calls-init
-loop-calls-init c = (omega arith, refl, omega arith, λ b g e. running-start b _ _ _ _ g e)
+loop-calls-init c = (refl, omega arith, λ b g e. running-start b _ _ _ _ g e)
+
+pub returns-in_default : goal.returns-in_default
+returns-in_default c =
+    let w = c.loop-calls in
+    let none = rw (take_rest c.args.log.now w.read) at c.in_default.ensures in
+    rw (set-get_or w.answers w.calls 0) (record { book = λ b g e. ended-stopped b _ _ _ _ _ _ _ (w.invariant.2 b g e) (sym none) })
 
 pub overflow_add-to : goal.overflow_add-to
-overflow_add-to c = let k = (c.record_at-h.ensures.1 (not-false c.record_at-h.result.whole c.if-not-h.false)).2 in search rules
+overflow_add-to c =
+    let h = rw (take_rest c.args.log.now c.loop-calls.read) at c.in-Some.ensures in
+    let k = record-fits (drop c.loop-calls.read c.args.log.now) h.0 in
+    let n = length-drop c.loop-calls.read c.args.log.now in
+    let z = h.2 in
+    search rules
 
-pub offset_bounds-answers-calls : goal.offset_bounds-answers-calls
-offset_bounds-answers-calls c = let g = c.well_formed in let k = c.loop-calls.invariant.1 in record { fits = omega arith }
-
-pub overflow_add-calls : goal.overflow_add-calls
-overflow_add-calls c = let g = c.well_formed in let k = c.loop-calls.invariant.1 in record { fits = omega arith }
+pub slice_bounds-run_call-end : goal.slice_bounds-run_call-end
+slice_bounds-run_call-end c =
+    let h = rw (take_rest c.args.log.now c.loop-calls.read) at c.in-Some.ensures in
+    let k = record-fits (drop c.loop-calls.read c.args.log.now) h.0 in
+    let n = length-drop c.loop-calls.read c.args.log.now in
+    let z = h.2 in
+    omega arith
 
 pub loop-calls-preserved : goal.loop-calls-preserved
-loop-calls-preserved c = (omega arith, (simp length-set) ∙ c.loop-calls.invariant.1, let k = (c.record_at-h.ensures.1 (not-false c.record_at-h.result.whole c.if-not-h.false)).2 in omega arith, λ b g e. running-on b _ _ _ _ _ _ _ _ _ _ _ _ _ (c.loop-calls.invariant.3 b g e) (omega arith) (not-false c.record_at-h.result.whole c.if-not-h.false) c.record_at-h.ensures.0 (c.record_at-h.ensures.1 (not-false c.record_at-h.result.whole c.if-not-h.false)) refl refl c.run-t.ensures c.answer_word-word.ensures)
+loop-calls-preserved c =
+    let w = c.loop-calls in
+    let h = rw (take_rest c.args.log.now w.read) at c.in-Some.ensures in
+    let k = record-fits (drop w.read c.args.log.now) h.0 in (
+      (simp length-set) ∙ w.invariant.0,
+      omega (arith, k, length-drop w.read c.args.log.now, h.2, w.invariant.1),
+      λ b g e. running-on b _ _ _ w.read w.calls _ _ _ _ _ _ (w.invariant.2 b g e) (omega (arith, c.loop-calls-test.true)) h refl c.run_call-effect.ensures c.answer_word.ensures,
+    )
 
-pub returns-after-loop-calls : goal.returns-after-loop-calls
-returns-after-loop-calls c = record { book = λ b g e. ended-full b _ _ _ _ _ _ _ (c.loop-calls.invariant.3 b g e) (omega arith) }
-
-pub returns-then-not-h : goal.returns-then-not-h
-returns-then-not-h c = record { book = λ b g e. ended-stopped b _ _ _ _ _ _ _ (c.loop-calls.invariant.3 b g e) (sym (not-true c.record_at-h.result.whole c.if-not-h.true) ∙ c.record_at-h.ensures.0) }
+pub returns : goal.returns
+returns c =
+    let w = c.loop-calls in
+    let n : length w.answers ≡ w.calls = omega (arith, w.invariant.0, w.auto.calls-end) in
+    rw n (record { book = λ b g e. ended-full b _ _ _ _ _ _ _ (w.invariant.2 b g e) (omega (arith, w.invariant.0)) })

@@ -15,18 +15,18 @@ returns-then-bad_fields-clause-rows c =
 pub returns-in_err-holder-clause-rows : goal.returns-in_err-holder-clause-rows
 returns-in_err-holder-clause-rows c =
     let p = err_from_is_err_and c.from_residual.result c.from_residual.ensures.1 in
-    let n : NotHolding c.args.s (key_for c.args.m.now) c.in_err-holder.field-0.0 = rw c.key_of.ensures at c.in_err-holder.ensures in
+    let n : NotHolding c.args.s.now (key_for c.args.m.now) c.in_err-holder.field-0.0 = rw c.key_of.ensures at c.in_err-holder.ensures in
     rw (p.1, p.2) (fields-6 _ _ c.args.m.now (sym c.bad_hours.ensures ∙ c.if-bad_hours.false) (sym c.bad_fields.ensures ∙ c.if-bad_fields.false) _ n)
 
 pub returns-then-is_full-clause-rows : goal.returns-then-is_full-clause-rows
 returns-then-is_full-clause-rows c =
-    let n : Holding c.args.s (key_for c.args.m.now) c.in_ok-holder.holder = rw c.key_of.ensures at c.in_ok-holder.ensures in
+    let n : Holding c.args.s.now (key_for c.args.m.now) c.in_ok-holder.holder = rw c.key_of.ensures at c.in_ok-holder.ensures in
     fields-9 _ _ c.args.m.now (sym c.bad_hours.ensures ∙ c.if-bad_hours.false) (sym c.bad_fields.ensures ∙ c.if-bad_fields.false) _ n
     (rw c.requires.1 at (sym c.is_full.ensures ∙ c.if-is_full.true))
 
 pub returns-clause-rows : goal.returns-clause-rows
 returns-clause-rows c =
-    let n : Holding c.args.s (key_for c.args.m.now) c.in_ok-holder.holder = rw c.key_of.ensures at c.in_ok-holder.ensures in
+    let n : Holding c.args.s.now (key_for c.args.m.now) c.in_ok-holder.holder = rw c.key_of.ensures at c.in_ok-holder.ensures in
     fields-left _ _ c.args.m.now (sym c.bad_hours.ensures ∙ c.if-bad_hours.false) (sym c.bad_fields.ensures ∙ c.if-bad_fields.false) _ n
     (rw c.requires.1 at (sym c.is_full.ensures ∙ c.if-is_full.false))
 

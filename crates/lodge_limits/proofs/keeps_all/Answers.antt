@@ -3,19 +3,25 @@ use Rattle.lodge_limits.proofs.KeptLaws.{ten-passed, ten-kept, eleven-passed, no
 use Rattle.lodge_limits.proofs.keeps_all.Goals as goal
 
 pub returns-then-not-keeps : goal.returns-then-not-keeps
-returns-then-not-keeps c = ten-passed _ _ _ c.requires.0 c.args.unit c.args.notice c.args.capacities c.args.default (rw c.maximum_energies-most.ensures at (sym c.keeps.ensures ∙ c.if-not-keeps.true))
+returns-then-not-keeps c = ten-passed _ _ _ c.requires c.args.unit.now c.args.notice.now c.args.capacities.now c.args.default (rw c.maximum_energies-maximum.ensures at (sym c.keeps.ensures ∙ c.if-not-keeps.true))
 
 pub returns-then-default : goal.returns-then-default
-returns-then-default c = ten-kept _ _ _ c.requires.0 c.args.unit c.args.notice c.args.capacities c.args.default c.if-default.true (rw c.maximum_energies-most.ensures at (sym c.keeps.ensures ∙ c.if-not-keeps.false))
+returns-then-default c = ten-kept _ _ _ c.requires c.args.unit.now c.args.notice.now c.args.capacities.now c.args.default c.if-default.true (rw c.maximum_energies-maximum.ensures at (sym c.keeps.ensures ∙ c.if-not-keeps.false))
 
-pub keeps_available-requires : goal.keeps_available-requires
-keeps_available-requires c = (c.requires.0, c.requires.1, (rw c.maximum_energies-most.ensures at (sym c.keeps.ensures ∙ c.if-not-keeps.false)))
+pub returns-then-not-keeps-2 : goal.returns-then-not-keeps-2
+returns-then-not-keeps-2 c =
+    let ten = rw c.maximum_energies-maximum.ensures at (sym c.keeps.ensures ∙ c.if-not-keeps.false) in
+    let eleven = rw c.available_energies-available.ensures at (sym c.keeps-2.ensures ∙ c.if-not-keeps-2.true) in
+    eleven-passed _ _ _ c.requires c.args.unit.now c.args.notice.now c.args.capacities.now c.args.default c.if-default.false ten eleven
 
-pub returns-then-not-keeps_available : goal.returns-then-not-keeps_available
-returns-then-not-keeps_available c = eleven-passed _ _ _ c.requires.0 c.args.unit c.args.notice c.args.capacities c.args.default c.if-default.false (rw c.maximum_energies-most.ensures at (sym c.keeps.ensures ∙ c.if-not-keeps.false)) (sym c.keeps_available.ensures ∙ c.if-not-keeps_available.true)
+pub returns-in-None : goal.returns-in-None
+returns-in-None c =
+    let ten = rw c.maximum_energies-maximum.ensures at (sym c.keeps.ensures ∙ c.if-not-keeps.false) in
+    let eleven = rw c.available_energies-available.ensures at (sym c.keeps-2.ensures ∙ c.if-not-keeps-2.false) in
+    no_line _ _ _ c.requires c.args.unit.now c.args.notice.now c.args.capacities.now c.args.default c.if-default.false ten eleven _ c.border_limit.ensures c.in-None.is
 
-pub returns-in_default : goal.returns-in_default
-returns-in_default c = no_line _ _ _ c.requires.0 c.args.unit c.args.notice c.args.capacities c.args.default c.if-default.false (rw c.maximum_energies-most.ensures at (sym c.keeps.ensures ∙ c.if-not-keeps.false)) (sym c.keeps_available.ensures ∙ c.if-not-keeps_available.false) _ c.border_limit.ensures c.in_default.is
-
-pub returns : goal.returns
-returns c = line-told _ _ _ c.requires.0 c.args.unit c.args.notice c.args.capacities c.args.default c.if-default.false (rw c.maximum_energies-most.ensures at (sym c.keeps.ensures ∙ c.if-not-keeps.false)) (sym c.keeps_available.ensures ∙ c.if-not-keeps_available.false) _ c.border_limit.ensures _ c.in-Some.is c.keeps-2.ensures
+pub returns-in-Some : goal.returns-in-Some
+returns-in-Some c =
+    let ten = rw c.maximum_energies-maximum.ensures at (sym c.keeps.ensures ∙ c.if-not-keeps.false) in
+    let eleven = rw c.available_energies-available.ensures at (sym c.keeps-2.ensures ∙ c.if-not-keeps-2.false) in
+    line-told _ _ _ c.requires c.args.unit.now c.args.notice.now c.args.capacities.now c.args.default c.if-default.false ten eleven _ c.border_limit.ensures _ c.in-Some.is c.keeps-in-Some.ensures

@@ -1,25 +1,24 @@
-use mathlib.Core.Path.{refl, ◌∙◌}
+use mathlib.Core.Path.{refl}
 use native.Mathlib.Omega.{arith}
-use lib.ListN.{length-set}
-use Rattle.lodge_keys.proofs.SumLaws.{adding-start, adding-low, adding-next, adding-end}
+use Rattle.lodge_keys.proofs.SumLaws.{adding-start, adding-low, adding-next, adding-end, adding-below}
 use Rattle.lodge_keys.proofs.beside.add.Goals as goal
 
 pub loop-h-init : goal.loop-h-init
-loop-h-init c = (omega arith, c.requires.1, adding-start _ _ _)
+loop-h-init c = adding-start _ _
 
-pub overflow_add-sums : goal.overflow_add-sums
-overflow_add-sums c =
+pub overflow_add-sum : goal.overflow_add-sum
+overflow_add-sum c =
     let s = c.loop-h in
-    let low = adding-low _ _ _ _ s.h s.invariant.2 (omega arith) c.requires.2 in
-    record { fits = omega (arith, c.requires.0) }
+    let low = adding-low _ _ _ s.h s.invariant 128 (omega arith) c.requires in
+    record { fits = omega (arith, c.from.ensures, c.fits-row s.h) }
 
 pub loop-h-preserved : goal.loop-h-preserved
 loop-h-preserved c =
     let s = c.loop-h in
-    (omega arith, (simp length-set) ∙ s.invariant.1, adding-next _ _ _ _ s.h s.invariant.2 _ _ (omega arith) (omega arith) c.requires.2 c.from.ensures (omega (arith, c.from.ensures, c.loop-h-test.element_fits.fits)) refl)
+    adding-next _ _ _ s.h s.invariant _ _ (omega arith) c.from.ensures (omega (arith, c.from.ensures, c.fits-row s.h)) refl
 
-pub returns : goal.returns
-returns c =
-    let s = c.loop-h in
-    let e = adding-end _ _ _ _ s.h s.invariant.2 (omega arith) in
-    (s.invariant.1, e.0, e.1)
+pub returns-clause-added : goal.returns-clause-added
+returns-clause-added c = adding-end _ _ _ c.loop-h.h c.loop-h.invariant (omega arith)
+
+pub returns-clause-below : goal.returns-clause-below
+returns-clause-below c = adding-below _ _ _ c.loop-h.h c.loop-h.invariant (omega arith)
