@@ -1,19 +1,18 @@
 -- Where words begin and end.
 use Prim.Native.Nat.{ℕ, zero, suc, ◌+◌, ◌≤◌, ◌<◌}
-use mathlib.Core.Bool.{Bool, true, false, not, cond, true≢false, false≢true}
+use mathlib.Core.Bool.{Bool, true, false, not, true≢false}
 use mathlib.Core.Path.{◌≡◌, refl, ap, sym, ◌∙◌}
 use mathlib.Core.List.{List, [], ◌∷◌}
 use native.Mathlib.Omega.{arith}
 use lib.Dec.{ltb}
-use lib.ListN.{get_or, length, take, drop, drop_of_length-le}
+use lib.ListN.{get_or, length, drop, drop_of_length-le}
 use borrow.Author.Tests.{ltb-false}
-use Rattle.std.specs.Prelude.{Option, Some, None, is_some, IsTrue}
-use Rattle.std.specs.List.{All, position, position_or_len}
-use Rattle.std.specs.Option.{unwrap_or}
+use Rattle.std.specs.Prelude.{Some, None, is_some, IsTrue}
+use Rattle.std.specs.List.{All, position_or_len}
 use Rattle.std.proofs.lemmas.List.Quantifiers.{position-Some}
 use Rattle.rules.proofs.BoolLaws.{by_bool}
 use Rattle.rehearse_words.specs.Blanks.{is_blank}
-use Rattle.rehearse_words.specs.Words.{word_start, word_end, from_word, first_word, behind_word}
+use Rattle.rehearse_words.specs.Words.{word_start, from_word, first_word}
 
 abbrev is_part : ℕ → Bool
 is_part b = not (is_blank b)

@@ -1,6 +1,6 @@
 // The words of a line, and what a word says.
 
-ghost use Rattle.std.specs.Prelude.{◌≡◌, ◌≤◌, ◌↔◌, length, All, IsTrue, IsSome, IsNone, IfSome, OnSome, Ok, drop};
+ghost use Rattle.std.specs.Prelude.{◌≡◌, ◌⊎◌, ◌*◌, ◌<◌, ◌≤◌, [], ◌↔◌, length, All, IsTrue, IsSome, IsNone, IsErr, IfSome, OnSome, Ok, drop};
 ghost use Rattle.std.specs.Char.{is_ascii_digit};
 ghost use Rattle.std.specs.Iterator.{at_most};
 ghost use Rattle.std.specs.List.{list_all, position};
@@ -85,6 +85,7 @@ impl<'a> Words<'a> {
     // The next word is some bytes in hexadecimal.
     pub fn bytes<const N: usize>(&mut self) -> Option<ArrayVec<u8, N>>
         ensures bytes { IfSome result (λ bytes. decode_of (first_word self.old.rest.now) ≡ Ok bytes.items) }
+        ensures none { IsNone result → IsErr (decode_of (first_word self.old.rest.now)) ⊎ (2 * N < length (first_word self.old.rest.now)) ⊎ (first_word self.old.rest.now ≡ []) }
         ensures rest { OnSome result (self.new.rest.now ≡ behind_word self.old.rest.now) }
     {
         bytes(self.next()?)
@@ -155,7 +156,8 @@ pub(crate) fn number(word: &[u8]) -> Option<u32>
 
 // Bytes in hexadecimal, two digits each, N at most.
 fn bytes<const N: usize>(word: &[u8]) -> Option<ArrayVec<u8, N>>
-    ensures { IfSome result (λ bytes. decode_of word.now ≡ Ok bytes.items) }
+    ensures bytes { IfSome result (λ bytes. decode_of word.now ≡ Ok bytes.items) }
+    ensures none { IsNone result → IsErr (decode_of word.now) ⊎ (2 * N < length word.now) }
 {
     let mut bytes = ArrayVec::from([0u8; N]);
     bytes.truncate(word.len() / 2);

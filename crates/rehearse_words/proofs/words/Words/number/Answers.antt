@@ -1,4 +1,4 @@
-use Rattle.std.proofs.Common.{refl, sym, ◌∙◌}
+use Rattle.std.proofs.Common.{refl}
 use Rattle.rehearse_words.proofs.WordLaws.{none-of-blanks, first-none}
 use Rattle.rehearse_words.proofs.words.Words.number.Goals as goal
 
