@@ -15,8 +15,7 @@ use Rattle.session.specs.Image.{verdict_as, no_verdict, no_unit}
 use Rattle.session.specs.Parts.{index_of, number_is}
 use Rattle.session.specs.declared.Unit.{Unit}
 use Rattle.session.specs.declared.Verdict.{Verdict}
-use Rattle.judge_loads.specs.Loads.{marked, IndicesIn}
-use Rattle.session.specs.declared.Energies.{Energies}
+use Rattle.judge_loads.specs.Loads.{marked}
 use Rattle.judge_loads.proofs.MarkLaws.{marked-nothing}
 use Rattle.std.proofs.lemmas.Option.{cond_some}
 use Rattle.judge_loads.proofs.LoadLaws.{and-false}
@@ -115,22 +114,6 @@ used_start v holders used e j q t h = not-both t (by_bool (ltb j 128)
     (λ l. ap (λ (x : Verdict). x.accepted) (get_or-replicate 128 j v no_verdict (ltb-true j 128 l) ∙ e))
     (λ l. ap (λ (x : Verdict). x.accepted) (get_or-eq_default (replicate 128 v) no_verdict {n = j} (omega (arith, ltb-false j 128 l, length-replicate 128 v)))))
 
-pub used-given : (vs : List Verdict) (holders : List (O.Option ℕ)) (used : List Bool) (i p : ℕ) (v : Verdict) (t : Bool) → i < length vs → p < length used → get_or holders i None ≡ Some p → t ≡ (get_or used p false || v.accepted)
-    → Used vs holders used → Used (set vs i v) holders (set used p t)
-used-given vs holders used i p v t h k here e f j q a b =
-    by_bool (eqb j i)
-    (λ y. let n = eqb-true j i y in
-    let r : p ≡ q = (cond_some true p q (sym here ∙ (rw n at b))).1 in
-    rw (← r, get_or-set_same used p t false k) (e ∙ rw (ap (λ (x : Verdict). x.accepted) (sym (get_or-set_same vs i v no_verdict h)) ∙ (rw n at a)) (or-true (get_or used p false))))
-    (λ y. let g = f j q (ap (λ (x : Verdict). x.accepted) (sym (get_or-set_other vs i j v no_verdict (eqb-false j i y))) ∙ a) b in
-    by_bool (eqb q p)
-    (λ z. let n = eqb-true q p z in rw (n, get_or-set_same used p t false k) (e ∙ rw (rw n at g)))
-    (λ z. rw (get_or-set_other used p q t false (eqb-false q p z)) g))
-  where
-    or-true : (x : Bool) → (x || true) ≡ true
-    or-true true = refl
-    or-true false = refl
-
 -- of another none counts
 pub none-accepted : (p : ℕ) (vs : List Verdict) (holders : List (O.Option ℕ)) (used : List Bool) → Used vs holders used → get_or used p false ≡ false → [] ≡ accepted_for p vs holders
 unfolding held_at
@@ -147,6 +130,3 @@ none-accepted p vs holders used f u = sym (ap (λ bs. marked bs (from 0 (length 
     blank = ext_get_or false (map (held_at p vs holders) (from 0 128)) (replicate 128 false) (length-map (from 0 128) (held_at p vs holders) ∙ length_from 0 128 ∙ sym (length-replicate 128 false))
         (λ j m. let in_list : j < 128 = omega (arith, length-map (from 0 128) (held_at p vs holders), length_from 0 128) in
         indices-at (held_at p vs holders) 128 false j in_list ∙ (none j ∙ sym (get_or-replicate 128 j false false in_list)))
-
-pub indices-none : (es : List Energies) → IndicesIn es []
-indices-none es = record { few = omega arith; below = λ l h. absurd (omega arith) }
