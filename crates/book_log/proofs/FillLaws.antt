@@ -26,12 +26,3 @@ module _ {A B : Type 0} (g : A → B) (f : ℕ → B) where
 
   pub indices-end : (ys : List A) (i n : ℕ) → i ≡ n → length ys ≡ n → map g (take i ys) ≡ map f (from 0 i) → map g ys ≡ map f (from 0 n)
   indices-end ys i n h k e = ap (map g) (sym (take_all i ys (omega arith))) ∙ e ∙ ap (λ j. map f (from 0 j)) h
-
-module _ {A : Type 0} (f : ℕ → A) where
-  pub filled_next : (ys : List A) (i : ℕ) (x : A) → x ≡ f i → i < length ys → take i ys ≡ map f (from 0 i) → take (i + 1) (set ys i x) ≡ map f (from 0 (i + 1))
-  filled_next ys i x q k e =
-      let z : 0 + i ≡ i = omega arith in
-      rw (add-one, take-suc-set ys i x k, from_last 0 i, z, map_last f (from 0 i) i, e, q)
-
-  pub filled-end : (ys : List A) (i n : ℕ) → i ≡ n → length ys ≡ n → take i ys ≡ map f (from 0 i) → ys ≡ map f (from 0 n)
-  filled-end ys i n h k e = sym (take_all i ys (omega arith)) ∙ e ∙ ap (λ j. map f (from 0 j)) h

@@ -14,22 +14,7 @@ use message_bits::{byte_at, word_at};
 use rules::{DIRECTIONS, HOURS};
 use session::{Key, Published, Unit};
 
-// The numbers of records' kinds. 1 to 100 are kept for them: other lines of a rehearsal have kinds from 101 on (crates/rehearse_words).
-pub const REGISTER: u8 = 1;
-
-pub const CAPACITY: u8 = 2;
-
-pub const AVAILABLE: u8 = 3;
-
-pub const LODGE: u8 = 4;
-
-pub const ANNUL: u8 = 5;
-
-pub const CLOSE: u8 = 6;
-
-pub const CLEAR: u8 = 7;
-
-// What a record calls for.
+// What a record calls for. Its numbers are 1 to 7; queries have theirs from 101 on (crates/query_any).
 #[derive(Clone, Copy, Debug, PartialEq, Eq)]
 pub enum Kind {
     Register,
@@ -52,13 +37,13 @@ impl TryFrom<u8> for Kind {
 
     fn try_from(number: u8) -> Result<Kind, UnknownKind> {
         match number {
-            REGISTER => Ok(Kind::Register),
-            CAPACITY => Ok(Kind::Capacity),
-            AVAILABLE => Ok(Kind::Available),
-            LODGE => Ok(Kind::Lodge),
-            ANNUL => Ok(Kind::Annul),
-            CLOSE => Ok(Kind::Close),
-            CLEAR => Ok(Kind::Clear),
+            1 => Ok(Kind::Register),
+            2 => Ok(Kind::Capacity),
+            3 => Ok(Kind::Available),
+            4 => Ok(Kind::Lodge),
+            5 => Ok(Kind::Annul),
+            6 => Ok(Kind::Close),
+            7 => Ok(Kind::Clear),
             _ => Err(UnknownKind(number)),
         }
     }

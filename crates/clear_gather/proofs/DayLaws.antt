@@ -13,7 +13,7 @@ use Rattle.rules.specs.Book as B
 use Rattle.rules.specs.Closing as C
 use Rattle.rules.proofs.ListLaws.{keep-map, keep-keep, keep_same, all_keep, hourly-suc}
 use Rattle.rules.proofs.ElementLaws.{all-every}
-use Rattle.arrays.proofs.IndexLaws.{from_all, map-all}
+use Rattle.rules.proofs.IndexLaws.{from_all, map-all}
 use Rattle.session.specs.Bare.{bare_energies}
 use Rattle.session.specs.declared.Session.{Session}
 use Rattle.session.specs.declared.Unit.{Unit}

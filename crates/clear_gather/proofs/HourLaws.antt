@@ -18,7 +18,7 @@ use Rattle.rules.specs.Match.{Holder, Offer}
 use Rattle.rules.specs.Borders.{Directed, Execution}
 use Rattle.rules.specs.Clearing as R
 use Rattle.rules.proofs.ListLaws.{hourly-suc, get_or-pad}
-use Rattle.arrays.proofs.IndexLaws.{from_all}
+use Rattle.rules.proofs.IndexLaws.{from_all}
 use Rattle.hour_offers.specs.declared.Holder.{Holder as Own}
 use Rattle.hour_offers.specs.View.{execution_in}
 use Rattle.hour.specs.declared.Hour.{Hour}
@@ -34,7 +34,8 @@ use Rattle.session.specs.Image as I
 use Rattle.session.proofs.IndexLaws.{get_or-map}
 use Rattle.session.proofs.ImageLaws.{capacities-as}
 use Rattle.clear_gather.specs.Built.{Holders, energy_on, price_on, offer_on, execution_on, capacity_on, Built}
-use Rattle.clear_gather.proofs.ListLaws.{flat, kept-flat, eight, ten-at}
+use Rattle.clear_gather.proofs.ListLaws.{flat, kept-flat, eight}
+use Rattle.hour.proofs.LaidLaws.{ten-at}
 use Rattle.clear_gather.proofs.DayLaws.{standing, chosen_in, energies-at, holder-at, holders-long, gathered, named-offers, named-executions}
 
 -- equal parts make equal records

@@ -42,21 +42,6 @@ all-within m none i = omega arith
 all-within m (more h t) zero = h
 all-within m (more h t) (suc i) = all-within m t i
 
--- what stands in an array of ten made by index
-pub ten-at : {A : Type 0} (f : ℕ → A) (d : A) (w : ℕ) → w < 10 → get_or (map f (from 0 10)) w d ≡ f w
-unfolding from
-ten-at f d zero l = refl
-ten-at f d (suc zero) l = refl
-ten-at f d (suc (suc zero)) l = refl
-ten-at f d (suc (suc (suc zero))) l = refl
-ten-at f d (suc (suc (suc (suc zero)))) l = refl
-ten-at f d (suc (suc (suc (suc (suc zero))))) l = refl
-ten-at f d (suc (suc (suc (suc (suc (suc zero)))))) l = refl
-ten-at f d (suc (suc (suc (suc (suc (suc (suc zero))))))) l = refl
-ten-at f d (suc (suc (suc (suc (suc (suc (suc (suc zero)))))))) l = refl
-ten-at f d (suc (suc (suc (suc (suc (suc (suc (suc (suc zero))))))))) l = refl
-ten-at f d (suc (suc (suc (suc (suc (suc (suc (suc (suc (suc w)))))))))) l = absurd (omega arith)
-
 -- Lists joined
 
 module _ {A : Type 0} where

@@ -20,7 +20,7 @@ use Rattle.rules.proofs.BoolLaws.{by_bool, neither}
 use Rattle.rules.proofs.ListLaws.{all_map, all-mapped, all_keep, keep-passes, get_or-pad}
 use Rattle.rules.proofs.ListLaws as RL
 use Rattle.rules.proofs.ElementLaws.{all_both, pairwise-keep, pairwise_map}
-use Rattle.arrays.proofs.IndexLaws.{from_all}
+use Rattle.rules.proofs.IndexLaws.{from_all}
 use Rattle.std.specs.Prelude.{is_some, unwrap_or, None}
 use Rattle.hour_offers.specs.declared.Holder.{Holder as Own}
 use Rattle.hour_offers.specs.View.{execution_in}

@@ -1,22 +1,22 @@
 -- Energies of a unit, added one after the other, and laid at the units' indices.
 use Prim.Native.Nat.{ℕ, zero, suc, ◌+◌, ◌-◌, ◌/◌, ◌%◌, ◌≤◌, ◌<◌}
 use mathlib.Core.Path.{◌≡◌, refl, sym, ap, ◌∙◌}
-use mathlib.Core.Bool.{Bool, true, false, cond, ◌&&◌, beq}
+use mathlib.Core.Bool.{Bool, cond, ◌&&◌, beq}
 use mathlib.Core.List.{List, [], ◌∷◌, ◌++◌, map, map-map, append-nil}
 use native.Mathlib.Omega.{arith}
 use lib.Dec.{eqb}
-use lib.ListN.{get_or, set, length, take, length-map, length-take}
-use lib.Seq.{take_all}
+use lib.ListN.{get_or, set, length, take, drop, drop_of_length-le, length-map, length-take}
+use lib.Seq.{take_all, drop-cons}
+use native.Mathlib.Numerals.{add-one}
 use Rattle.std.specs.Prelude.{unwrap_or}
-use Rattle.rules.specs.Lists.{All, none, more, keep, sum, sum_of, from}
-use Rattle.rules.specs.Units.{max_energy}
+use Rattle.rules.specs.Lists.{keep, sum, sum_of, from}
 use Rattle.rules.specs.Borders.{Directed}
 use Rattle.rules.proofs.ElementLaws.{all-every}
-use Rattle.arrays.proofs.IndexLaws.{map-all}
-use Rattle.hour_offers.specs.declared.Offer.{Offer}
-use Rattle.hour_offers.specs.declared.Execution.{Execution}
+use Rattle.rules.proofs.IndexLaws.{map-all}
 use Rattle.rules.proofs.BoolLaws.{by_bool}
 use Rattle.rules.proofs.ListLaws.{keep-map}
+use Rattle.clear_store.specs.Beside.{energy_beside}
+use Rattle.session.specs.declared.Unit.{Unit}
 use Rattle.session.specs.declared.HourFigures.{HourFigures}
 use Rattle.session.specs.Laid.{pad}
 use Rattle.session.specs.Image.{by_way, energy_of}
@@ -28,24 +28,31 @@ take-last [] i d h = absurd (omega arith)
 take-last (x ∷ xs) zero d h = refl
 take-last (x ∷ xs) (suc i) d h = let e : suc i + 1 ≡ suc (i + 1) = omega arith in rw e (ap (λ l. x ∷ l) (take-last xs i d (omega arith)))
 
-module _ {A : Type 0} (energy : A → ℕ) (p : A → Bool) where
-  sum-last : (xs : List A) (x : A) → sum_of energy (keep p (xs ++ (x ∷ []))) ≡ sum_of energy (keep p xs) + cond (p x) (energy x) 0
-  unfolding keep sum_of sum
-  sum-last [] x = by_bool (p x) (λ t. rw t (omega arith)) (λ t. rw t (omega arith))
-  sum-last (y ∷ ys) x = by_bool (p y) (λ t. rw t (ap (λ n. energy y + n) (sum-last ys x) ∙ omega arith)) (λ t. rw t (sum-last ys x))
+-- Energies beside numbers
 
-  module _ (xs : List A) (i : ℕ) (d : A) (h : i < length xs) (e : ℕ) (s : e ≡ sum_of energy (keep p (take i xs))) where
-    pub sum-took : p (get_or xs i d) ≡ true → e + energy (get_or xs i d) ≡ sum_of energy (keep p (take (i + 1) xs))
-    sum-took t = rw (take-last xs i d h, sum-last (take i xs) (get_or xs i d), t, s) refl
+module _ (unit : ℕ) where
+  -- one more of them
+  pub beside-next : (ns es : List ℕ) (i : ℕ) → i < length ns → length es ≡ length ns
+      → energy_beside unit (drop i ns) (drop i es) ≡ cond (eqb (get_or ns i 0) unit) (get_or es i 0) 0 + energy_beside unit (drop (i + 1) ns) (drop (i + 1) es)
+  unfolding energy_beside
+  beside-next ns es i h e = let n : i < length es = omega arith in rw (add-one i, drop-cons ns i 0 h, drop-cons es i 0 n)
 
-    pub sum-left : p (get_or xs i d) ≡ false → e ≡ sum_of energy (keep p (take (i + 1) xs))
-    sum-left t = rw (take-last xs i d h, sum-last (take i xs) (get_or xs i d), t, s) (omega arith)
+  pub beside-end : (ns es : List ℕ) (i : ℕ) → length ns ≤ i → energy_beside unit (drop i ns) (drop i es) ≡ 0
+  unfolding energy_beside
+  beside-end ns es i h = rw (drop_of_length-le ns {i = i} h)
 
--- what holds of all holds of the one at an index
-pub at-index : {A : Type 0} {P : A → Type 0} {xs : List A} → All P xs → (i : ℕ) (d : A) → i < length xs → P (get_or xs i d)
-at-index none i d h = absurd (omega arith)
-at-index (more k t) zero d h = k
-at-index (more k t) (suc i) d h = at-index t i d (omega arith)
+  -- those of holders
+  pub beside-read : {A : Type 0} (number energy : A → ℕ) (xs : List A) → energy_beside unit (map number xs) (map energy xs) ≡ sum_of energy (keep (λ x. eqb (number x) unit) xs)
+  unfolding energy_beside keep sum_of sum
+  beside-read number energy [] = refl
+  beside-read number energy (x ∷ xs) =
+      by_bool (eqb (number x) unit) (λ t. rw t (ap (λ n. energy x + n) (beside-read number energy xs))) (λ t. rw t (omega (arith, beside-read number energy xs)))
+
+-- the sums of each unit, from columns of some holders
+pub units-read : {A : Type 0} (number energy : A → ℕ) (xs : List A) (us : List Unit) {ns es r : List ℕ}
+    → r ≡ pad 64 0 (map (λ (u : Unit). energy_beside u.number ns es) us) → ns ≡ map number xs → es ≡ map energy xs
+    → r ≡ pad 64 0 (map (λ (u : Unit). sum_of energy (keep (λ x. eqb (number x) u.number) xs)) us)
+units-read number energy xs us e n m = e ∙ rw (n, m) (ap (pad 64 0) (map-all _ _ (all-every (λ u. beside-read u.number number energy xs) us)))
 
 -- an energy more, at the index of the next element
 pub laid-next : {A : Type 0} (size : ℕ) (f : A → ℕ) (xs : List A) (i : ℕ) (d : A) (es : List ℕ) (e : ℕ) → i < length xs → i < size → es ≡ pad size 0 (map f (take i xs)) → e ≡ f (get_or xs i d)
@@ -77,14 +84,6 @@ unfolding laid_by_way by_way
 maxima-as ds =
     map-map (λ o. unwrap_or o 0) (λ w. energy_among ds (w / 2) (eqb (w % 2) 0)) (from 0 10)
     ∙ map-all _ _ (all-every (λ w. among-as ds (w / 2) (eqb (w % 2) 0)) (from 0 10))
-
-pub matched-small : {os : List Offer} → All (λ o. o.matched ≤ max_energy) os → (i : ℕ) → i < length os
-    → (get_or os i (record { holder = record { number = 0; unit = 0; border = 0; purchase = false; legacy = false }; price = 0; offered = 0; matched = 0 })).matched ≤ max_energy
-matched-small a i h = at-index a i _ h
-
-pub energy-small : {xs : List Execution} → All (λ x. x.energy ≤ max_energy) xs → (i : ℕ) → i < length xs
-    → (get_or xs i (record { holder = record { number = 0; unit = 0; border = 0; purchase = false; legacy = false }; energy = 0 })).energy ≤ max_energy
-energy-small a i h = at-index a i _ h
 
 -- equal parts make equal figures
 pub cleared-same : {p : ℕ} {m m' b b' x x' d d' e e' : List ℕ} → m ≡ m' → b ≡ b' → x ≡ x' → d ≡ d' → e ≡ e'

@@ -1,56 +1,68 @@
 // The figures of an hour as the session keeps them.
 #![tactic(auto)]
 
-ghost use Rattle.std.specs.Prelude.{◌≡◌, ◌≤◌, ℕ, map, eqb, length, unwrap_or};
-ghost use Rattle.rules.specs.Lists.{All, keep, sum_of};
+ghost use Rattle.std.specs.Prelude.{◌≡◌, ◌≤◌, ℕ, cond, eqb, map, length, unwrap_or};
+ghost use Rattle.std.specs.Fn.{FnReturnsAt};
+ghost use Rattle.rules.specs.Lists.{All};
 ghost use Rattle.rules.specs.Units.{max_energy};
 ghost use Rattle.session.specs.Laid.{pad};
 ghost use Rattle.hour.specs.View.{figures_in, figures_as};
+ghost use Rattle.clear_store.specs.Beside.{energy_beside};
 ghost use Rattle.clear_store.specs.Shown.{cleared_as};
 
+use arrayvec::ArrayVec;
 use hour::Figures;
-use hour_offers::{Execution, Offer};
-use rules::UNITS;
+use rules::{LODGEMENTS, UNITS};
 use session::{HourFigures, Unit};
 
-// "a unit's matched [..] energy in an hour"
-fn matched_of(offers: &[Offer], unit: u32) -> u32
-    requires { (length offers.now ≤ 128) × All (λ o. o.matched ≤ max_energy) offers.now }
-    ensures { result ≡ sum_of (λ o. o.matched) (keep (λ o. eqb o.holder.unit unit) offers.now) }
+// What each of some holders has, side by side: a sum over plain numbers is quick, and each unit asks for one.
+fn column<T, F: Fn(&T) -> u32>(holders: &[T], of: F) -> ArrayVec<u32, LODGEMENTS>
+    requires callable { F.IsAlwaysCallable of }
+    requires few { length holders.now ≤ 128 }
+    ensures value { (f : T → ℕ) → All (λ x. (n : ℕ) → FnReturnsAt F.Fn of x n → n ≡ f x) holders.now → result.items ≡ map f holders.now }
+    ensures same_length { length result.items ≡ length holders.now }
 {
-    let mut energy = 0;
-    for offer in offers {
-        if offer.holder.unit == unit {
-            energy += offer.matched;
-        }
+    let mut column: ArrayVec<u32, LODGEMENTS> = ArrayVec::new();
+    for x in holders {
+        column.push(of(x));
     }
-    energy
+    column
 }
 
-// "a unit's [..] executed energy in an hour"
-fn executed_of(executions: &[Execution], unit: u32) -> u32
-    requires { (length executions.now ≤ 128) × All (λ x. x.energy ≤ max_energy) executions.now }
-    ensures { result ≡ sum_of (λ x. x.energy) (keep (λ x. eqb x.holder.unit unit) executions.now) }
+// An energy where the number beside it is a unit's.
+fn counted(unit: u32, number: u32, energy: u32) -> u32
+    ensures { result ≡ cond (eqb number unit) energy 0 }
 {
-    let mut energy = 0;
-    for execution in executions {
-        if execution.holder.unit == unit {
-            energy += execution.energy;
-        }
-    }
-    energy
+    if number == unit { energy } else { 0 }
 }
 
-// What `energy_of` gives of each unit's number, at the unit's index.
-fn by_unit<F: Fn(u32) -> u32>(units: &[Unit], energy_of: F) -> [u32; UNITS]
-    requires { (length units.now ≤ 64) × F.IsAlwaysCallable energy_of }
-    ensures { (g : ℕ → ℕ) → ((n r : ℕ) → F.post energy_of n r → r ≡ g n) → result ≡ pad 64 0 (map (λ u. g u.number) units.now) }
+// "a unit's matched [..] and executed energy in an hour": those of the energies that stand beside its number.
+fn energy_of(unit: u32, numbers: &[u32], energies: &[u32]) -> u32
+    requires same_length { length energies.now ≡ length numbers.now }
+    requires few { length numbers.now ≤ 128 }
+    requires ranged { All (λ e. e ≤ max_energy) energies.now }
+    ensures { result ≡ energy_beside unit numbers.now energies.now }
 {
-    let mut energies = [0; UNITS];
+    let mut sum = 0;
+    for (i, number) in numbers.iter().enumerate() {
+        sum += counted(unit, *number, energies[i]);
+    }
+    sum
+}
+
+// Each unit's, at the unit's index.
+fn by_unit(units: &[Unit], numbers: &[u32], energies: &[u32]) -> [u32; UNITS]
+    requires units { length units.now ≤ 64 }
+    requires same_length { length energies.now ≡ length numbers.now }
+    requires few { length numbers.now ≤ 128 }
+    requires ranged { All (λ e. e ≤ max_energy) energies.now }
+    ensures { result ≡ pad 64 0 (map (λ u. energy_beside u.number numbers.now energies.now) units.now) }
+{
+    let mut sums = [0; UNITS];
     for (i, unit) in units.iter().enumerate() {
-        energies[i] = energy_of(unit.number);
+        sums[i] = energy_of(unit.number, numbers, energies);
     }
-    energies
+    sums
 }
 
 // Maxima by way, 0 where there is none.
@@ -72,12 +84,16 @@ pub fn stored(units: &[Unit], figures: &Figures) -> HourFigures
 {
     let offers = figures.offers.as_slice();
     let executions = figures.executions.as_slice();
+    let sellers = column(offers, |o| o.holder.unit);
+    let matched = column(offers, |o| o.matched);
+    let holders = column(executions, |x| x.holder.unit);
+    let executed = column(executions, |x| x.energy);
     HourFigures {
         price: figures.price,
         market: figures.market,
         bilateral: figures.bilateral,
         maxima: plain(&figures.maxima),
-        matched: by_unit(units, |unit| matched_of(offers, unit)),
-        executed: by_unit(units, |unit| executed_of(executions, unit)),
+        matched: by_unit(units, &sellers, &matched),
+        executed: by_unit(units, &holders, &executed),
     }
 }

@@ -6,7 +6,7 @@ use std::fmt;
 
 // A number, or a refusal: "24", "refused 1".
 #[derive(Clone, Copy)]
-pub struct Counted(pub Response);
+pub(crate) struct Counted(pub Response);
 
 impl fmt::Display for Counted {
     fn fmt<W: fmt::Write>(&self, f: &mut fmt::Formatter<W>) -> fmt::Result {
@@ -20,7 +20,7 @@ impl fmt::Display for Counted {
 
 // "2 second", "refused 4"
 #[derive(Clone, Copy)]
-pub struct Named(pub ClockName);
+pub(crate) struct Named(pub ClockName);
 
 impl fmt::Display for Named {
     fn fmt<W: fmt::Write>(&self, f: &mut fmt::Formatter<W>) -> fmt::Result {
@@ -39,11 +39,11 @@ impl fmt::Display for Named {
 
 // A message's fields, or why it is refused.
 #[derive(Clone, Copy)]
-pub struct Told(Reading);
+pub(crate) struct Told(Reading);
 
 impl Told {
     // By whichever reads it.
-    pub fn of<F: Fn(&[u8]) -> Reading>(message: &[u8], read: F) -> Told
+    pub(crate) fn of<F: Fn(&[u8]) -> Reading>(message: &[u8], read: F) -> Told
         requires { F.IsAlwaysCallable read }
     {
         Told(read(message))
@@ -90,13 +90,13 @@ impl fmt::Display for Said {
 
 // "count 16: 10 00 0e ..", "refused 14: a5 ..": what the buffer then holds.
 #[derive(Clone, Copy)]
-pub struct Written<'a> {
+pub(crate) struct Written<'a> {
     count: Result<usize, Row>,
     buffer: &'a [u8],
 }
 
 impl<'a> Written<'a> {
-    pub fn into(buffer: &'a mut [u8], fields: &Fields) -> Written<'a> {
+    pub(crate) fn into(buffer: &'a mut [u8], fields: &Fields) -> Written<'a> {
         let count = message_writer::write_fields(fields, buffer);
         Written { count, buffer }
     }

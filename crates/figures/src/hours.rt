@@ -6,10 +6,10 @@ use std::{fmt, mem};
 
 // The hour that is being given; none after more lodgements than an hour has room for.
 #[derive(Drop)]
-pub struct NextHour(Option<Hour>);
+pub(crate) struct NextHour(Option<Hour>);
 
 impl NextHour {
-    pub fn new() -> NextHour {
+    pub(crate) fn new() -> NextHour {
         NextHour(Some(Hour {
             offers: ArrayVec::new(),
             executions: ArrayVec::new(),
@@ -17,7 +17,7 @@ impl NextHour {
         }))
     }
 
-    pub fn offer(&mut self, offer: Offer) {
+    pub(crate) fn offer(&mut self, offer: Offer) {
         if let Some(hour) = &mut self.0 {
             if hour.offers.try_push(offer).is_err() {
                 self.0 = None;
@@ -25,7 +25,7 @@ impl NextHour {
         }
     }
 
-    pub fn execution(&mut self, execution: Execution) {
+    pub(crate) fn execution(&mut self, execution: Execution) {
         if let Some(hour) = &mut self.0 {
             if hour.executions.try_push(execution).is_err() {
                 self.0 = None;
@@ -34,7 +34,7 @@ impl NextHour {
     }
 
     // Of a border's direction; what is no border is passed over.
-    pub fn capacity(&mut self, border: u32, export: bool, energy: u32) {
+    pub(crate) fn capacity(&mut self, border: u32, export: bool, energy: u32) {
         if border < 5
             && let Some(hour) = &mut self.0
         {
@@ -43,7 +43,7 @@ impl NextHour {
     }
 
     // The hour cleared, and the next begins.
-    pub fn clear(&mut self) -> Answer {
+    pub(crate) fn clear(&mut self) -> Answer {
         let NextHour(hour) = mem::replace(self, NextHour::new());
         Answer(hour.and_then(|hour| Cleared::of(hour)))
     }
@@ -51,7 +51,7 @@ impl NextHour {
 
 // What is written of an hour: its figures, if it is ready.
 #[derive(Drop)]
-pub struct Answer(Option<Cleared>);
+pub(crate) struct Answer(Option<Cleared>);
 
 impl fmt::Display for Answer {
     fn fmt<W: fmt::Write>(&self, f: &mut fmt::Formatter<W>) -> fmt::Result {

@@ -22,12 +22,15 @@ use hours::NextHour;
 use message::Fields;
 use questions::Question;
 use std::io;
-use std::io::{BufRead, BufReader, BufWriter, Write};
+use std::io::{BufWriter, Read, Write};
 
 mod answers;
 mod hours;
 mod numbers;
 mod questions;
+
+// How many bytes of the input are read. A line that is cut there is a line.
+const INPUT: usize = 65_536;
 
 // A message written, if its room is not more than the buffer has.
 fn write<W: Write>(room: usize, fields: Fields, out: &mut W) -> io::Result<()> {
@@ -87,12 +90,19 @@ fn answer_line<W: Write>(line: &[u8], hour: &mut NextHour, out: &mut W) -> io::R
     }
 }
 
-fn main(rt: HostRuntime) -> io::Result<()> {
-    let alloc = rt.alloc();
-    let mut out = BufWriter::new(alloc, io::writer(&rt))?;
+fn answer_all<W: Write>(input: &[u8], out: &mut W) -> io::Result<()> {
     let mut hour = NextHour::new();
-    for line in BufReader::new(alloc, rt.reader())?.split(alloc, b'\n') {
-        answer_line(&line?, &mut hour, &mut out)?;
+    for line in input.split(|b| *b == b'\n') {
+        answer_line(line, &mut hour, out)?;
     }
     out.flush()
+}
+
+fn main(rt: HostRuntime) -> io::Result<()> {
+    let mut input = Vec::with_capacity(rt.alloc(), INPUT)?;
+    // A read that fails is the end of the input, and an output that takes no more that of the run.
+    let _ = rt.reader().take(INPUT as u64).read_to_end(&mut input);
+    let mut out = BufWriter::new(rt.alloc(), io::writer(&rt))?;
+    let _ = answer_all(input.as_slice(), &mut out);
+    Ok(())
 }

@@ -7,7 +7,7 @@ use message::Fields;
 
 // A question, or a part of the next hour.
 #[derive(Drop)]
-pub enum Question {
+pub(crate) enum Question {
     // The hours of a date.
     Hours(Date),
     // The clock name of an hour, and its mark.
@@ -29,7 +29,7 @@ pub enum Question {
 
 impl Question {
     // None of a line that asks nothing.
-    pub fn of(line: &[u8]) -> Option<Question> {
+    pub(crate) fn of(line: &[u8]) -> Option<Question> {
         let (kind, text) = line.split_first()?;
         let numbers = Numbers::decimal(text);
         match *kind {

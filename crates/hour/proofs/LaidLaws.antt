@@ -17,7 +17,7 @@ use Rattle.rules.specs.Borders.{Directed, Execution as RuleExecution, runs}
 use Rattle.rules.specs.Clearing as C
 use Rattle.rules.proofs.BoolLaws.{by_bool}
 use Rattle.rules.proofs.ListLaws.{all_keep, keep_same}
-use Rattle.arrays.proofs.IndexLaws.{from_all, map-all}
+use Rattle.rules.proofs.IndexLaws.{from_all, map-all}
 use Rattle.hour_offers.specs.declared.Offer.{Offer}
 use Rattle.hour_offers.specs.declared.Execution.{Execution}
 use Rattle.hour_offers.specs.View.{offers_in, executions_in}

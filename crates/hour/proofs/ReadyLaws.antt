@@ -19,7 +19,7 @@ use Rattle.rules.specs.Borders as B
 use Rattle.rules.proofs.BoolLaws.{by_bool, both, neither}
 use Rattle.rules.proofs.ListLaws.{all_map, all-mapped, all_keep, all-unkept, keep-passes}
 use Rattle.rules.proofs.ElementLaws.{all_both, all-unmapped, pairwise_map}
-use Rattle.arrays.proofs.IndexLaws.{from_all}
+use Rattle.rules.proofs.IndexLaws.{from_all}
 use Rattle.hour_offers.specs.declared.Offer.{Offer}
 use Rattle.hour_offers.specs.declared.Execution.{Execution}
 use Rattle.hour_offers.specs.View.{offer_in, execution_in, executions_in}

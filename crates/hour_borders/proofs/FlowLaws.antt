@@ -13,7 +13,7 @@ use Rattle.rules.specs.Lists.{keep, sum, sum_of}
 use Rattle.rules.specs.Match.{Holder}
 use Rattle.rules.specs.Borders.{runs, at_border, flow}
 use Rattle.rules.proofs.BoolLaws.{by_bool}
-use Rattle.arrays.proofs.IndexLaws.{set-small}
+use Rattle.rules.proofs.IndexLaws.{set-small}
 use Rattle.hour_share.specs.declared.Amount.{Amount}
 use Rattle.hour_share.specs.Deductions.{energy_in}
 use Rattle.hour_borders.specs.Ways.{way_of}

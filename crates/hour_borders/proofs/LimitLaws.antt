@@ -19,7 +19,7 @@ use Rattle.rules.specs.Withdrawal.{excess_of, overruns}
 use Rattle.rules.proofs.BoolLaws.{by_bool}
 use Rattle.rules.proofs.SplitLaws.{maximum-by-flows}
 use Rattle.rules.proofs.BalanceLaws.{excess-flows}
-use Rattle.arrays.proofs.IndexLaws.{from_all}
+use Rattle.rules.proofs.IndexLaws.{from_all}
 use Rattle.hour_borders.specs.Ways.{way_of, directed, energies_of, published_in, over_in}
 use Rattle.hour_borders.specs.Flows.{MarketFlows, BorderFlows, LegacyFlows, ExecutionFlows}
 use Rattle.hour_borders.specs.Limits.{across_of, maximum_in, excess_in, non_empty}

@@ -16,7 +16,7 @@ use Rattle.rules.specs.Borders.{runs}
 use Rattle.rules.proofs.BoolLaws.{by_bool}
 use Rattle.rules.proofs.ElementLaws.{Pairwise, empty, ahead, pairwise-keep, pairwise_map}
 use Rattle.rules.proofs.DirectionLaws.{same_direction, Once}
-use Rattle.arrays.proofs.IndexLaws.{from_all}
+use Rattle.rules.proofs.IndexLaws.{from_all}
 use Rattle.std.specs.Prelude.{Option, None, is_some}
 use Rattle.hour_borders.specs.Ways.{way_of, directed, energies_of, published_in}
 

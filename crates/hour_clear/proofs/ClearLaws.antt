@@ -18,7 +18,7 @@ use Rattle.rules.specs.Clearing as C
 use Rattle.rules.proofs.ListLaws.{all_map, all-mapped, all_keep, keep-passes, keep_same}
 use Rattle.rules.proofs.ElementLaws.{all_both}
 use Rattle.rules.proofs.HourLaws as H
-use Rattle.arrays.proofs.IndexLaws.{from_all, map-all}
+use Rattle.rules.proofs.IndexLaws.{from_all, map-all}
 use Rattle.hour_offers.specs.declared.Offer.{Offer}
 use Rattle.hour_offers.specs.declared.Execution.{Execution}
 use Rattle.hour_offers.specs.View.{offers_in, executions_in}

@@ -23,7 +23,7 @@ use Rattle.rules.proofs.ListLaws.{all_map, all_head, all_tail}
 use Rattle.rules.proofs.ShareLaws.{share-length}
 use Rattle.rules.proofs.BalanceLaws.{bilateral-flows}
 use Rattle.rules.proofs.BorderLaws.{Fits, Kept, excess-le, amounts-flow}
-use Rattle.arrays.proofs.IndexLaws.{from_all}
+use Rattle.rules.proofs.IndexLaws.{from_all}
 use Rattle.hour_offers.specs.declared.Execution.{Execution as CodeExecution}
 use Rattle.hour_offers.specs.Sound.{ExecutionInRange}
 use Rattle.hour_offers.specs.View.{execution_in, executions_in}

@@ -20,7 +20,7 @@ use Rattle.rules.proofs.ListLaws.{all_map}
 use Rattle.rules.proofs.MatchLaws.{volume-again}
 use Rattle.rules.proofs.WithdrawalLaws.{match-lowered}
 use Rattle.hour_offers.specs.Sound.{Sound}
-use Rattle.hour_match.specs.Orders.{in_order}
+use Rattle.hour_match.specs.Orders.{in_order, Along}
 use Rattle.hour_match.specs.Walks.{Matched}
 use Rattle.hour_match.proofs.KeptLaws.{along-of, along-kept, match-sound}
 use Rattle.hour_borders.specs.Ways.{energies_of, published_in}
@@ -43,6 +43,11 @@ small cs l f w =
     by_bool (ltb w 10)
     (λ t. f w (ltb-true w 10 t))
     (λ t. omega (arith, get_or-eq_default (map (λ o. unwrap_or o 0) cs) 0 {n = w} (omega (arith, ltb-false w 10 t, l, length-map cs (λ o. unwrap_or o 0)))))
+
+-- the first match, by orders that are read where they stand
+pub first-matched : {os ps : List Offer} {v : ℕ} {sales purchases xs ys : List ℕ} → Sound os → xs ≡ sales → sales ≡ in_order false os → ys ≡ purchases → purchases ≡ in_order true os
+    → (Along false os xs → Along true os ys → Matched os ps v) → Matched os ps v
+first-matched s d e f g h = h (along-of s (d ∙ e)) (along-of s (f ∙ g))
 
 -- the offers after the first match
 module _ {os ps : List Offer} {v : ℕ} (s : Sound os) (m : Matched os ps v) where

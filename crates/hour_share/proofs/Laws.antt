@@ -1,18 +1,17 @@
 -- The loops of Share give the rules' Share.
-use Rattle.std.proofs.Common.{◌≡◌, cond, eqb, ltb, min, ℕ, zero, suc, ◌+◌, ◌*◌, ◌-◌, ◌/◌, ◌≤◌, ◌<◌, List, [], ◌∷◌, ◌++◌, map, length, get_or, take, drop, set, refl, sym, ap, ◌∙◌, append-nil, arith, add-one, drop-cons}
-use Rattle.std.proofs.lemmas.List.{length-map}
+use Rattle.std.proofs.Common.{◌≡◌, cond, eqb, ltb, min, ℕ, zero, suc, ◌+◌, ◌*◌, ◌-◌, ◌/◌, ◌≤◌, ◌<◌, List, [], ◌∷◌, ◌++◌, map, length, get_or, take, drop, set, replicate, refl, sym, ap, ◌∙◌, append-nil, arith, add-one, drop-cons}
 use native.Mathlib.Nat.{div-zero, zero-div}
 use lib.ListN.{drop_of_length-le}
 use lib.Seq.{take-suc, take-suc-set, take_all, append_snoc, drop-set-lt}
 use Rattle.std.specs.List.{sum as fold_sum, refill}
 use Rattle.std.proofs.lemmas.List.Recursion.{is_sum_by}
-use Rattle.rules.specs.Lists.{All, none, more, sum, add_each, from}
+use Rattle.rules.specs.Lists.{sum, add_each, from}
 use Rattle.rules.specs.Units.{max_energy}
-use Rattle.rules.proofs.ShareLaws.{pro-rata-le, share-le, share-length}
-use Rattle.arrays.proofs.SliceLaws.{map-small}
+use Rattle.rules.proofs.ShareLaws.{pro-rata-le, share-le}
+use Rattle.rules.proofs.IndexLaws.{map-small}
 use Rattle.rules.specs.Share.{pro_rata, hand_out, share}
 use Rattle.rules.proofs.SumLaws.{cond-le}
-use Rattle.arrays.proofs.IndexLaws.{from_next}
+use Rattle.rules.proofs.IndexLaws.{from_next}
 use borrow.Author.Tests.{lt-ltb, le-ltb}
 use Rattle.hour_share.specs.declared.Amount.{Amount}
 use Rattle.hour_share.specs.Deductions.{Ranged, AmountInRange, energy_in, deductions_in, deductions_over, deductions_from}
@@ -91,6 +90,22 @@ unfolding add_each hand_out
 all_out ds ms i k e h p =
     sym (append-nil ds) ∙ (rw (take_all i ds (omega arith), drop_of_length-le ds {i = i} (omega arith), drop_of_length-le ms {i = i} h) at p)
 
+-- Rows of deductions added, in any order
+
+pub add-comm : (ks ls : List ℕ) → add_each ks ls ≡ add_each ls ks
+unfolding add_each
+add-comm [] [] = refl
+add-comm [] (l ∷ ls) = refl
+add-comm (k ∷ ks) [] = refl
+add-comm (k ∷ ks) (l ∷ ls) = let o : k + l ≡ l + k = omega arith in rw o (ap (λ x. (l + k) ∷ x) (add-comm ks ls))
+
+add-assoc : (ks ls ms : List ℕ) → add_each (add_each ks ls) ms ≡ add_each ks (add_each ls ms)
+unfolding add_each
+add-assoc [] ls ms = refl
+add-assoc (k ∷ ks) [] ms = refl
+add-assoc (k ∷ ks) (l ∷ ls) [] = refl
+add-assoc (k ∷ ks) (l ∷ ls) (m ∷ ms) = let o : k + l + m ≡ k + (l + m) = omega arith in rw o (ap (λ x. (k + (l + m)) ∷ x) (add-assoc ks ls ms))
+
 -- The pro rata deductions are within their amounts, and come to r at most
 
 module _ (r g : ℕ) (ms : List ℕ) (h : r ≤ g) where
@@ -98,54 +113,47 @@ module _ (r g : ℕ) (ms : List ℕ) (h : r ≤ g) where
   floors-ranged k i = map-small max_energy (pro_rata r g) ms (λ m. pro-rata-le r g m h) k i
 
 -- the leftover handed out over them
-pub share-said : (r : ℕ) (ms : List ℕ) {g s : ℕ} {l x : List ℕ} → g ≡ sum ms → s ≡ sum l → l ≡ map (pro_rata r g) ms → x ≡ add_each l (hand_out (r - s) ms) → x ≡ share r ms
+pub share-said : (r : ℕ) (ms ds : List ℕ) {g s : ℕ} {l x : List ℕ} → g ≡ sum ms → s ≡ sum (map (pro_rata r g) ms) → l ≡ add_each ds (map (pro_rata r g) ms)
+    → x ≡ add_each l (hand_out (r - s) ms) → x ≡ add_each (share r ms) ds
 unfolding share
-share-said r ms eg es el ex = rw (ex, es, el, eg)
+share-said r ms ds {g} {s} eg es el ex =
+    let fs = map (pro_rata r g) ms in
+    ex ∙ ap (λ k. add_each k (hand_out (r - s) ms)) el ∙ add-assoc ds fs (hand_out (r - s) ms) ∙ add-comm ds (add_each fs (hand_out (r - s) ms)) ∙ rw (es, eg) refl
 
 pub refilled : (ds xs : List ℕ) → length xs ≡ length ds → refill (length ds) ds xs ≡ xs
 refilled ds xs e = rw (drop_of_length-le ds {i = length xs} (omega arith), append-nil xs) (take_all (length ds) xs (omega arith))
 
--- a row of deductions written whole
-pub out-length : (ds ms : List ℕ) (k : ℕ) → length ds ≡ length ms → length (add_each ds (hand_out k ms)) ≡ length ds
-unfolding add_each hand_out
-out-length [] [] k e = refl
-out-length [] (m ∷ ms) k e = absurd (omega arith)
-out-length (d ∷ ds) [] k e = absurd (omega arith)
-out-length (d ∷ ds) (m ∷ ms) zero e = ap suc (out-length ds ms zero (omega arith))
-out-length (d ∷ ds) (zero ∷ ms) (suc k) e = ap suc (out-length ds ms (suc k) (omega arith))
-out-length (d ∷ ds) (suc m ∷ ms) (suc k) e = ap suc (out-length ds ms k (omega arith))
+-- One more amount passed, as the pro rata deductions are added
 
--- A row of deductions added to another, index by index
-
-module _ (xs ss : List ℕ) (i : ℕ) where
-  pub added-next : length ss ≡ length xs → i < length xs
-      → (let after = set ss i (get_or ss i 0 + get_or xs i 0) in
-      take (i + 1) after ++ add_each (drop (i + 1) xs) (drop (i + 1) after) ≡ take i ss ++ add_each (drop i xs) (drop i ss))
+module _ (f : ℕ → ℕ) (ds ms : List ℕ) (i : ℕ) where
+  pub floor-next : length ds ≡ length ms → i < length ms
+      → (let after = set ds i (get_or ds i 0 + f (get_or ms i 0)) in
+      take (i + 1) after ++ add_each (drop (i + 1) after) (map f (drop (i + 1) ms)) ≡ take i ds ++ add_each (drop i ds) (map f (drop i ms)))
   unfolding add_each
-  added-next e h =
-      let o : get_or ss i 0 + get_or xs i 0 ≡ get_or xs i 0 + get_or ss i 0 = omega arith in
+  floor-next e h =
       rw (
         add-one i,
-        take-suc-set ss i (get_or ss i 0 + get_or xs i 0) (omega arith),
-        drop-set-lt (suc i) ss i (get_or ss i 0 + get_or xs i 0) (omega arith),
-        append_snoc (take i ss),
-        drop-cons xs i 0 h,
-        drop-cons ss i 0 (omega arith),
-        o,
+        take-suc-set ds i (get_or ds i 0 + f (get_or ms i 0)) (omega arith),
+        drop-set-lt (suc i) ds i (get_or ds i 0 + f (get_or ms i 0)) (omega arith),
+        append_snoc (take i ds),
+        drop-cons ds i 0 (omega arith),
+        drop-cons ms i 0 h,
       )
 
-  pub added-end : {x : List ℕ} → length ss ≡ length xs → length xs ≤ i → take i ss ++ add_each (drop i xs) (drop i ss) ≡ x → ss ≡ x
+  pub floor-sum : i < length ms → sum (map f (drop i ms)) ≡ f (get_or ms i 0) + sum (map f (drop (i + 1) ms))
+  unfolding sum
+  floor-sum h = rw (add-one i, drop-cons ms i 0 h)
+
+  pub floors-end : {x : List ℕ} → length ds ≡ length ms → length ms ≤ i → take i ds ++ add_each (drop i ds) (map f (drop i ms)) ≡ x → ds ≡ x
   unfolding add_each
-  added-end e h p =
-      sym (append-nil ss) ∙ (rw (take_all i ss (omega arith), drop_of_length-le ss {i = i} (omega arith), drop_of_length-le xs {i = i} h) at p)
+  floors-end e h p =
+      sym (append-nil ds) ∙ (rw (take_all i ds (omega arith), drop_of_length-le ds {i = i} (omega arith), drop_of_length-le ms {i = i} h) at p)
+
+  pub floors-counted : {c t : ℕ} → length ms ≤ i → c + sum (map f (drop i ms)) ≡ t → c ≡ t
+  unfolding sum
+  floors-counted h p = omega (arith, rw (drop_of_length-le ms {i = i} h) at p)
 
 -- In one direction, and in one more
-
-pub in-range : {ams : List Amount} (w : ℕ) → All AmountInRange ams → Ranged (map (energy_in w) ams)
-unfolding energy_in
-in-range w none i = omega arith
-in-range w (more {x = a} h t) zero = omega (arith, cond-le (eqb a.way w) a.energy, h)
-in-range w (more h t) (suc i) = in-range w t i
 
 module _ (over : List ℕ) (ams : List Amount) where
   pub deductions-start : (w : ℕ) → 10 ≤ w → map (λ (a : Amount). 0) ams ≡ deductions_from over ams w
@@ -164,10 +172,25 @@ module _ (over : List ℕ) (ams : List Amount) where
   pub deductions-same : (w : ℕ) → w < 10 → get_or over w 0 ≤ 0 → deductions_from over ams (w + 1) ≡ deductions_from over ams w
   deductions-same w h k = rw (deductions-here w h, le-ltb 0 (get_or over w 0) k)
 
-pub zeros-of : (ams : List Amount) (i : ℕ) → get_or (map (λ (a : Amount). 0) ams) i 0 ≤ 0
-zeros-of [] i = omega arith
-zeros-of (a ∷ ams) zero = omega arith
-zeros-of (a ∷ ams) (suc i) = zeros-of ams i
+pub zeros-of : (n i : ℕ) → get_or (replicate n 0) i 0 ≤ 0
+zeros-of zero i = omega arith
+zeros-of (suc n) zero = omega arith
+zeros-of (suc n) (suc i) = zeros-of n i
+
+pub zeros-map : {A : Type 0} (f : A → Amount) (xs : List A) → replicate {A = ℕ} (length xs) 0 ≡ map (λ (a : Amount). 0) (map f xs)
+zeros-map f [] = refl
+zeros-map f (x ∷ xs) = ap (λ (l : List ℕ). 0 ∷ l) (zeros-map f xs)
+
+-- one energy more, in its range
+pub ranged-last : (xs : List ℕ) (x : ℕ) → Ranged xs → x ≤ max_energy → Ranged (xs ++ (x ∷ []))
+ranged-last [] x r h zero = h
+ranged-last [] x r h (suc i) = omega arith
+ranged-last (y ∷ ys) x r h zero = r 0
+ranged-last (y ∷ ys) x r h (suc i) = ranged-last ys x (λ j. r (suc j)) h i
+
+pub energy-ranged : (w : ℕ) (a : Amount) → AmountInRange a → energy_in w a ≤ max_energy
+unfolding energy_in
+energy-ranged w a h = omega (arith, cond-le (eqb a.way w) a.energy, h)
 
 -- with one row more, sums grow by the largest energy at most
 pub sums-small : (b : ℕ) (xs ss : List ℕ) → Ranged xs → ((i : ℕ) → get_or ss i 0 ≤ b) → (i : ℕ) → get_or (add_each xs ss) i 0 ≤ b + max_energy
@@ -192,16 +215,3 @@ module _ (excess w : ℕ) (ams : List Amount) where
   pub lost-said : {x ms : List ℕ} → ms ≡ map (energy_in w) ams → x ≡ share (min excess (sum ms)) ms → x ≡ deductions_in ams excess w
   unfolding deductions_in
   lost-said em ex = rw (ex, em)
-
-  pub lost-length : length (deductions_in ams excess w) ≡ length ams
-  unfolding deductions_in
-  lost-length = share-length _ (map (energy_in w) ams) (omega arith) ∙ length-map ams (energy_in w)
-
-  pub lost-small : All AmountInRange ams → Ranged (deductions_in ams excess w)
-  unfolding deductions_in
-  lost-small h = lost-ranged _ (map (energy_in w) ams) (omega arith) (in-range w h)
-
--- what is said of each after a map
-pub all-mapped : {A B : Type 0} {P : B → Type 0} (f : A → B) {xs : List A} → All (λ x. P (f x)) xs → All P (map f xs)
-all-mapped f none = none
-all-mapped f (more h t) = more h (all-mapped f t)

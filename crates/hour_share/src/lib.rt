@@ -1,12 +1,12 @@
 // Share: taking an energy from several amounts pro rata.
 #![tactic(auto)]
 
-ghost use Rattle.std.specs.Prelude.{◌≡◌, ◌*◌, ◌≤◌, ℕ, map, min, length, get_or};
+ghost use Rattle.std.specs.Prelude.{◌≡◌, ◌*◌, ◌≤◌, ℕ, map, min, length, get_or, replicate};
 ghost use Rattle.std.specs.Fn.{FnReturnsAt};
 ghost use Rattle.rules.specs.Lists.{All, add_each, sum};
 ghost use Rattle.rules.specs.Units.{max_energy};
 ghost use Rattle.rules.specs.Share.{pro_rata, hand_out, share as share_of};
-ghost use Rattle.hour_share.specs.Deductions.{Ranged, AmountInRange, energy_in, deductions_in, deductions_from};
+ghost use Rattle.hour_share.specs.Deductions.{Ranged, AmountInRange, energy_in, deductions_from};
 ghost use Rattle.hour_share.specs.declared.Amount.{Amount};
 
 use arrayvec::ArrayVec;
@@ -41,24 +41,39 @@ fn pro_rata(r: u32, g: u32, m: u32) -> u32
     floor as u32
 }
 
-// The pro rata deductions.
-fn floors(r: u32, g: u32, amounts: &[u32]) -> ArrayVec<u32, LODGEMENTS>
+// The sum of some energies.
+fn total(energies: &[u32]) -> u32
+    requires few { length energies.now ≤ 128 }
+    requires ranged { Ranged energies.now }
+    ensures { result ≡ sum energies.now }
+{
+    energies.iter().sum()
+}
+
+// The pro rata deductions, added to others index by index, and their sum.
+fn add_floors(r: u32, g: u32, amounts: &[u32], deductions: &mut [u32]) -> u32
     requires within { r ≤ g }
     requires few { length amounts.now ≤ 128 }
-    ensures { result.items ≡ map (pro_rata r g) amounts.now }
+    requires ranged { Ranged amounts.now }
+    requires same_length { length deductions.old ≡ length amounts.now }
+    requires room { (i : ℕ) → get_or deductions.old i 0 ≤ 8 * max_energy }
+    ensures added { deductions.new ≡ add_each deductions.old (map (pro_rata r g) amounts.now) }
+    ensures floored { result ≡ sum (map (pro_rata r g) amounts.now) }
 {
-    let mut floors = ArrayVec::new();
-    for m in amounts {
-        floors.push(pro_rata(r, g, *m));
+    let mut floored = 0;
+    for (i, m) in amounts.iter().enumerate() {
+        let floor = pro_rata(r, g, *m);
+        deductions[i] += floor;
+        floored += floor;
     }
-    floors
+    floored
 }
 
 // "the leftover units go out one each to the lowest lodging numbers with m above 0, and each hand-out leaves the rest to
 // the same rule over the higher numbers".
 fn hand_out(left: u32, amounts: &[u32], deductions: &mut [u32])
     requires same_length { length deductions.old ≡ length amounts.now }
-    requires ranged { Ranged deductions.old }
+    requires room { (i : ℕ) → get_or deductions.old i 0 ≤ 9 * max_energy }
     ensures { deductions.new ≡ add_each deductions.old (hand_out left amounts.now) }
 {
     let mut rest = left;
@@ -70,95 +85,52 @@ fn hand_out(left: u32, amounts: &[u32], deductions: &mut [u32])
     }
 }
 
-// The sum of some energies.
-fn total(energies: &[u32]) -> u32
-    requires few { length energies.now ≤ 128 }
-    requires ranged { Ranged energies.now }
-    ensures { result ≡ sum energies.now }
-{
-    energies.iter().sum()
-}
-
-// To take an excess from amounts: what each of them loses, "the lesser of the excess and" their sum being taken.
-pub fn share(excess: u32, amounts: &[u32]) -> ArrayVec<u32, LODGEMENTS>
+// To take an excess from amounts: what each of them loses, "the lesser of the excess and" their sum being taken, added to what it loses
+// already. The deductions are added where they stand, since a withdrawal shares at each of its steps.
+pub fn share(excess: u32, amounts: &[u32], deductions: &mut [u32])
     requires few { length amounts.now ≤ 128 }
     requires ranged { Ranged amounts.now }
-    ensures { result.items ≡ share_of (min excess (sum amounts.now)) amounts.now }
+    requires same_length { length deductions.old ≡ length amounts.now }
+    requires room { (i : ℕ) → get_or deductions.old i 0 ≤ 8 * max_energy }
+    ensures { deductions.new ≡ add_each (share_of (min excess (sum amounts.now)) amounts.now) deductions.old }
 {
     let g = total(amounts);
     let r = excess.min(g);
-    let mut deductions = floors(r, g, amounts);
-    let floored = total(&deductions);
-    hand_out(r - floored, amounts, &mut deductions);
-    deductions
+    let floored = add_floors(r, g, amounts, deductions);
+    hand_out(r - floored, amounts, deductions);
 }
 
-// What each counts for in direction w.
-fn energies_in(w: usize, amounts: &[Amount]) -> ArrayVec<u32, LODGEMENTS>
-    requires { length amounts.now ≤ 128 }
-    ensures { result.items ≡ map (energy_in w) amounts.now }
+// What each of some holders counts for in direction w: `of` says what it has, and in which direction it gives way.
+fn energies_in<T, F: Fn(&T) -> Amount>(w: usize, holders: &[T], of: &F) -> ArrayVec<u32, LODGEMENTS>
+    requires callable { F.IsAlwaysCallable of.now }
+    requires few { length holders.now ≤ 128 }
+    requires ranged { All (λ x. (a : Amount) → FnReturnsAt F.Fn of.now x a → AmountInRange a) holders.now }
+    ensures value { (amount : T → Amount)
+        → All (λ x. (a : Amount) → FnReturnsAt F.Fn of.now x a → a ≡ amount x) holders.now
+        → result.items ≡ map (energy_in w) (map amount holders.now) }
+    ensures same_length { length result.items ≡ length holders.now }
+    ensures ranged_after { Ranged result.items }
 {
     let mut energies = ArrayVec::new();
-    for a in amounts {
-        energies.push(a.energy_in(w));
+    for x in holders {
+        energies.push(of(x).energy_in(w));
     }
     energies
 }
 
-// What each loses in direction w, of its excess.
-fn lost_in(excess: u32, w: usize, amounts: &[Amount]) -> ArrayVec<u32, LODGEMENTS>
-    requires few { length amounts.now ≤ 128 }
-    requires ranged { All AmountInRange amounts.now }
-    ensures value { result.items ≡ deductions_in amounts.now excess w }
-    ensures same_length { length result.items ≡ length amounts.now }
-    ensures ranged_after { Ranged result.items }
-{
-    let energies = energies_in(w, amounts);
-    share(excess, &energies)
-}
-
-// Nothing lost by any.
-fn nothing(amounts: &[Amount]) -> ArrayVec<u32, LODGEMENTS>
-    requires { length amounts.now ≤ 128 }
-    ensures { result.items ≡ map (λ a. 0) amounts.now }
+// Nothing lost by any of n.
+fn nothing(n: usize) -> ArrayVec<u32, LODGEMENTS>
+    requires { n ≤ 128 }
+    ensures { result.items ≡ replicate n 0 }
 {
     let mut deductions = ArrayVec::new();
-    for _ in amounts {
+    for _ in 0..n {
         deductions.push(0);
     }
     deductions
 }
 
-// Deductions added to others, index by index.
-fn add(deductions: &[u32], sums: &mut [u32])
-    requires same_length { length sums.old ≡ length deductions.now }
-    requires ranged { Ranged deductions.now }
-    requires room { (i : ℕ) → get_or sums.old i 0 ≤ 9 * max_energy }
-    ensures { sums.new ≡ add_each deductions.now sums.old }
-{
-    for (i, d) in deductions.iter().enumerate() {
-        sums[i] += *d;
-    }
-}
-
-// What each loses in all directions, of their excesses; the directions are added from the last to the first, as the rules do.
-fn in_all(over: &[u32; 10], amounts: &[Amount]) -> ArrayVec<u32, LODGEMENTS>
-    requires few { length amounts.now ≤ 128 }
-    requires ranged { All AmountInRange amounts.now }
-    ensures value { result.items ≡ deductions_from over.now amounts.now 2 }
-    ensures same_length { length result.items ≡ length amounts.now }
-{
-    let mut sums = nothing(amounts);
-    for w in (2..10).rev() {
-        if 0 < over[w] {
-            let lost = lost_in(over[w], w, amounts);
-            add(&lost, &mut sums);
-        }
-    }
-    sums
-}
-
-// The same of any holders: `of` says what each of them has, and in which direction it gives way.
+// What each holder loses in all directions, of their excesses; the directions are added from the last to the first, as the rules do.
 pub fn deductions<T, F: Fn(&T) -> Amount>(
     over: &[u32; 10],
     holders: &[T],
@@ -172,9 +144,12 @@ pub fn deductions<T, F: Fn(&T) -> Amount>(
         → result.items ≡ deductions_from over.now (map amount holders.now) 2 }
     ensures same_length { length result.items ≡ length holders.now }
 {
-    let mut amounts: ArrayVec<Amount, LODGEMENTS> = ArrayVec::new();
-    for x in holders {
-        amounts.push(of(x));
+    let mut sums = nothing(holders.len());
+    for w in (2..10).rev() {
+        if 0 < over[w] {
+            let energies = energies_in(w, holders, &of);
+            share(over[w], &energies, &mut sums);
+        }
     }
-    in_all(over, amounts.as_slice())
+    sums
 }

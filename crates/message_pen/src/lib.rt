@@ -4,56 +4,73 @@
 ghost use Rattle.std.specs.Prelude.{◌≡◌, [], ◌++◌, ℕ, ◌+◌, ◌^◌, ◌≤◌, ◌<◌, length};
 ghost use Rattle.rules.specs.Message.{form1, bits, head_bits, hour_bits};
 ghost use Rattle.message.specs.View.{fields_in};
-ghost use Rattle.message_pen.specs.Pens.{Appended, InRanges, Room, SlotFits, SlotWord, completed, stored};
+ghost use Rattle.message_pen.specs.Pens.{Appended, InRanges, Room, SlotFits, SlotWord, completed, first, place_of, stored};
 
 use message::Fields;
 
-// How far a message is written: `pos` bits, of which the last pos % 8 are no whole byte yet and wait in the low bits of `acc`.
-#[derive(Clone, Copy)]
-pub struct Pen {
-    pub pos: usize,
-    pub acc: u64,
+// A message being written into the caller's buffer: `pos` bits so far, of which the last pos % 8 are no whole byte yet and wait in the low bits of `acc`.
+#[derive(Drop)]
+pub struct Pen<'a> {
+    buffer: &'a mut [u8],
+    pos: usize,
+    acc: u64,
 }
 
-// The last n bytes of v, highest first, from byte `from` on. Four are by themselves, since their copy is compiled to one store, and a
-// slot of an offer has four.
-fn put_bytes(buf: &mut [u8], from: usize, v: u64, n: usize)
-    requires eight { n ≤ 8 }
-    requires room { from + n ≤ length buf.old }
-    ensures { buf.new ≡ stored buf.old from v n }
-{
-    let bytes = v.to_be_bytes();
-    if n == 4 {
-        buf[from..from + 4].copy_from_slice(&bytes[4..]);
-    } else {
-        buf[from..from + n].copy_from_slice(&bytes[8 - n..]);
+impl<'a> Pen<'a> {
+    // At the first bit.
+    pub fn new(buffer: &'a mut [u8]) -> Pen<'a>
+        ensures same_reference { result.buffer.ghost_name ≡ buffer.entry.ghost_name }
+        ensures buffer { result.buffer.now ≡ buffer.old }
+        ensures at_first { place_of result ≡ first }
+    {
+        Pen {
+            buffer,
+            pos: 0,
+            acc: 0,
+        }
     }
-}
 
-// v in w bits after those that are written. Whole bytes are stored, the rest waits.
-pub fn put_bits(buf: &mut [u8], p: Pen, v: u64, w: usize) -> Pen
-    requires room { Room buf.old p w }
-    requires width { w ≤ 40 }
-    requires fits { v < 2 ^ w }
-    ensures { Appended buf.old p (bits w v) buf.new result }
-{
-    let all = (p.acc << w) + v;
-    let n = p.pos % 8 + w;
-    put_bytes(buf, p.pos / 8, all >> (n % 8), n / 8);
-    Pen {
-        pos: p.pos + w,
-        acc: all % 256,
+    // The last n bytes of v, highest first, from byte `from` on. Four are by themselves, since their copy is compiled to one store, and a
+    // slot of an offer has four.
+    fn put_bytes(&mut self, from: usize, v: u64, n: usize)
+        requires eight { n ≤ 8 }
+        requires room { from + n ≤ length self.old.buffer.now }
+        ensures same_reference { self.new.buffer.ghost_name ≡ self.old.buffer.ghost_name }
+        ensures place { place_of self.new ≡ place_of self.old }
+        ensures buffer { self.new.buffer.now ≡ stored self.old.buffer.now from v n }
+    {
+        let bytes = v.to_be_bytes();
+        if n == 4 {
+            self.buffer[from..from + 4].copy_from_slice(&bytes[4..]);
+        } else {
+            self.buffer[from..from + n].copy_from_slice(&bytes[8 - n..]);
+        }
     }
-}
 
-// Zero bits fill the last byte.
-pub fn put_last(buf: &mut [u8], p: Pen)
-    requires { Room buf.old p 0 }
-    ensures { buf.new ≡ completed buf.old p [] }
-{
-    let left = p.pos % 8;
-    if left != 0 {
-        buf[p.pos / 8] = ((p.acc << (8 - left)) % 256) as u8;
+    // v in w bits after those that are written. Whole bytes are stored, the rest waits.
+    pub fn put_bits(&mut self, v: u64, w: usize)
+        requires room { Room self.old w }
+        requires width { w ≤ 40 }
+        requires fits { v < 2 ^ w }
+        ensures same_reference { self.new.buffer.ghost_name ≡ self.old.buffer.ghost_name }
+        ensures appended { Appended self.old (bits w v) self.new }
+    {
+        let all = (self.acc << w) + v;
+        let n = self.pos % 8 + w;
+        self.put_bytes(self.pos / 8, all >> (n % 8), n / 8);
+        self.pos += w;
+        self.acc = all % 256;
+    }
+
+    // Zero bits fill the last byte.
+    pub fn finish(self)
+        requires { Room self 0 }
+        ensures { self.exit.0.now ≡ completed self.entry [] }
+    {
+        let left = self.pos % 8;
+        if left != 0 {
+            self.buffer[self.pos / 8] = ((self.acc << (8 - left)) % 256) as u8;
+        }
     }
 }
 

@@ -16,14 +16,13 @@ use Rattle.rules.specs.Message.{Form, Fields, bits, bytes_of, set_bits, head_wid
 use Rattle.rules.proofs.BoolLaws.{by_bool}
 use Rattle.rules.proofs.BitLaws.{length-bytes_of}
 use Rattle.rules.proofs.MessageLaws.{of-writes, length-head, encode-length}
-use Rattle.message_pen.specs.declared.Pen.{Pen}
 use Rattle.message.specs.declared.Written.{Written}
 use Rattle.rules.specs.Rows.{number_of}
 use Rattle.rules.specs.declared.row.Row.{Row}
 use Rattle.rules.specs.declared.row.Row.TheVariants.{Date, Gate, Form as FormRow, Hour, Range, Unit, Taken, Second, Full, Maximum, Available, Border, Absent, Short}
 use Rattle.rules.specs.Message.{buffer_after}
 use Rattle.message.specs.View.{written_as}
-use Rattle.message_pen.specs.Pens.{completed, Appended, Room, InRanges, slots_of}
+use Rattle.message_pen.specs.Pens.{Place, first, completed_at, AppendedAt, RoomAt, InRanges, slots_of}
 use Rattle.message.proofs.FormLaws.{most_bits, end-le, length-end}
 use Rattle.message_pen.proofs.PenLaws.{appended-append}
 
@@ -95,8 +94,8 @@ owed-refused (given bytes) old e k = absurd (k e)
 owed-refused (refused r h) old e k = (ap (λ i. record { row = i; reserved = 0; count = 0 }) e, refl)
 
 -- bits written from the start on, the bytes beyond as they were
-from_start : (old bs : List ℕ) → length (bytes_of bs) ≤ length old → completed old (record { pos = 0; acc = 0 }) bs ≡ bytes_of bs ++ drop (length (bytes_of bs)) old
-unfolding completed bits
+from_start : (old bs : List ℕ) → length (bytes_of bs) ≤ length old → completed_at old first bs ≡ bytes_of bs ++ drop (length (bytes_of bs)) old
+unfolding completed_at bits
 from_start old bs l = sets-eq (bytes_of bs) old 0 (omega arith) ∙ ap (λ k. bytes_of bs ++ drop k old) (zero-add (length (bytes_of bs)))
 
 -- Fields that are written in form f
@@ -117,20 +116,24 @@ module _ (f : Form) (m : Fields) (is : form_for m ≡ f) where
   length_most = rw is (omega (arith, end-le f m.key.execution m.map, length-end f m.key.execution (set_bits m.map)))
 
   -- the head and the slots find room where the message does
-  pub head-room : (buf : List ℕ) → message_length m ≤ length buf → 8 ≤ length buf
-  head-room buf l = omega (arith, bits-within.1)
+  pub head-room : (buf : List ℕ) → message_length m ≤ length buf → RoomAt buf first 64
+  head-room buf l = record { byte = omega arith; within = omega (arith, bits-within.1); small = omega arith }
 
-  pub slots-room : (old : List ℕ) {buf bs : List ℕ} {s p : Pen} → most_bits f < 2 ^ 31 → message_length m ≤ length old → length buf ≡ length old → p.pos ≡ head_width f
-      → Appended old s bs buf p → Room buf p (length (slots_of f.width m m.map))
-  slots-room old n l q t a = record { byte = a.byte; within = omega (arith, bits-within.0); small = omega (arith, bits-within.0, length_most) }
+  pub slots-room : (old : List ℕ) {buf : List ℕ} {p : Place} → most_bits f < 2 ^ 31 → message_length m ≤ length old → AppendedAt old first (head_bits f m) buf p
+      → RoomAt buf p (length (slots_of f.width m m.map))
+  slots-room old n l a = record {
+    byte = a.byte;
+    within = omega (arith, bits-within.0, a.long, a.moved, length-head f m);
+    small = omega (arith, bits-within.0, length_most, a.moved, length-head f m);
+  }
 
   message-written : (old : List ℕ) → message_length m ≤ length old
-      → completed old (record { pos = 0; acc = 0 }) (head_bits f m ++ slots_of f.width m m.map ++ []) ≡ encode f m ++ drop (length (encode f m)) old
+      → completed_at old first (head_bits f m ++ slots_of f.width m m.map ++ []) ≡ encode f m ++ drop (length (encode f m)) old
   unfolding encode message_bits slots_of
   message-written old l = rw append-nil (from_start old (message_bits f m) (omega (arith, length-written f m is)))
 
-  pub owed-given : (old : List ℕ) {a b new : List ℕ} {h e : Pen} {n : ℕ} → InRanges m × (message_length m ≤ length old) → n ≡ message_length m
-      → Appended old (record { pos = 0; acc = 0 }) (head_bits f m) a h → Appended a h (slots_of f.width m m.map) b e → new ≡ completed b e []
+  pub owed-given : (old : List ℕ) {a b new : List ℕ} {h e : Place} {n : ℕ} → InRanges m × (message_length m ≤ length old) → n ≡ message_length m
+      → AppendedAt old first (head_bits f m) a h → AppendedAt a h (slots_of f.width m m.map) b e → new ≡ completed_at b e []
       → Owed (write (length old) m) old new (record { row = 0; reserved = 0; count = n })
   unfolding written_as buffer_after
   owed-given old r q s g t =

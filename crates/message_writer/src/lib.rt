@@ -11,36 +11,34 @@ use message::form::{length_for, price_width};
 use message::hours::Hours;
 use message::judge::bad_fields;
 use message::{Fields, Written};
-use message_pen::{Pen, head_word, put_bits, put_last, slot_word};
+use message_pen::{Pen, head_word, slot_word};
 use message_ranges::bad_map;
 use rules::MAX_ENERGY;
 use rules::row::Row;
 
 // The first 64 bits, from the start of the buffer on.
-fn put_head(m: &Fields, buf: &mut [u8]) -> Pen
+fn put_head(m: &Fields, pen: &mut Pen<'_>)
     requires ranges { InRanges (fields_in m.now) }
-    requires room { 8 ≤ length buf.old }
-    ensures moved { result.pos ≡ 64 }
-    ensures appended { Appended buf.old (record { pos = 0; acc = 0 }) (head_bits form1 (fields_in m.now)) buf.new result }
+    requires room { Room pen.old 64 }
+    ensures same_reference { pen.new.buffer.ghost_name ≡ pen.old.buffer.ghost_name }
+    ensures appended { Appended pen.old (head_bits form1 (fields_in m.now)) pen.new }
 {
-    let start = Pen { pos: 0, acc: 0 };
-    let before_map = put_bits(buf, start, head_word(m), 39);
-    put_bits(buf, before_map, u64::from(m.map), 25)
+    pen.put_bits(head_word(m), 39);
+    pen.put_bits(u64::from(m.map), 25);
 }
 
 // The slots of the hours that the map names, rising.
-fn put_hours(m: &Fields, buf: &mut [u8], start: Pen) -> Pen
+fn put_hours(m: &Fields, pen: &mut Pen<'_>)
     requires ranges { InRanges (fields_in m.now) }
-    requires room { Room buf.old start (length (slots_of form1.width (fields_in m.now) m.now.map)) }
-    ensures { Appended buf.old start (slots_of form1.width (fields_in m.now) m.now.map) buf.new result }
+    requires room { Room pen.old (length (slots_of form1.width (fields_in m.now) m.now.map)) }
+    ensures same_reference { pen.new.buffer.ghost_name ≡ pen.old.buffer.ghost_name }
+    ensures appended { Appended pen.old (slots_of form1.width (fields_in m.now) m.now.map) pen.new }
 {
     let width = 17 + price_width(m.execution);
-    let mut p = start;
     for h in Hours::of(m.map) {
         let word = slot_word(m.execution, m.energies[h], m.prices[h]);
-        p = put_bits(buf, p, word, width);
+        pen.put_bits(word, width);
     }
-    p
 }
 
 // The message's length, or the refusal: 4, 5, 14 in the table's order.
@@ -66,9 +64,10 @@ pub fn write_fields(m: &Fields, buf: &mut [u8]) -> Result<usize, Row>
     ensures buffer { buf.new ≡ buffer_after (writing (length buf.old) (fields_in m.now)) buf.old }
 {
     let count = judged(m, buf.len())?;
-    let head = put_head(m, buf);
-    let end = put_hours(m, buf, head);
-    put_last(buf, end);
+    let mut pen = Pen::new(buf);
+    put_head(m, &mut pen);
+    put_hours(m, &mut pen);
+    pen.finish();
     Ok(count)
 }
 

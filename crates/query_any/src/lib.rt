@@ -47,43 +47,26 @@ pub enum Query {
     },
 }
 
-// The numbers of the queries are 101 to 200: those below are the log's records, those above a rehearsal's other lines
-// (crates/rehearse_words).
-pub const VERDICT: u8 = 101;
-
-pub const MATCHED: u8 = 102;
-
-pub const EXECUTED: u8 = 103;
-
-pub const MARKET: u8 = 104;
-
-pub const BILATERAL: u8 = 105;
-
-pub const PRICE: u8 = 106;
-
-pub const MARKET_MAXIMUM: u8 = 107;
-
-pub const BILATERAL_MAXIMUM: u8 = 108;
-
 impl Query {
-    // The query of a number, of a lodging number, a unit or a border, of a direction and of an hour, where it asks for them.
+    // The query of a number, of a lodging number, a unit or a border, of a direction and of an hour, where it asks for them. The log's records
+    // have the numbers below.
     #[tactic(auto, unfolding(crate::specs::Asked::asked))]
     pub fn numbered(kind: u8, of: u32, export: bool, hour: u32) -> Option<Query>
         ensures { query_of result ≡ asked kind of export hour }
     {
         match kind {
-            VERDICT => Some(Query::Verdict(of)),
-            MATCHED => Some(Query::Matched { unit: of, hour }),
-            EXECUTED => Some(Query::Executed { unit: of, hour }),
-            MARKET => Some(Query::Market { border: of, hour }),
-            BILATERAL => Some(Query::Bilateral { border: of, hour }),
-            PRICE => Some(Query::Price(hour)),
-            MARKET_MAXIMUM => Some(Query::MarketMaximum {
+            101 => Some(Query::Verdict(of)),
+            102 => Some(Query::Matched { unit: of, hour }),
+            103 => Some(Query::Executed { unit: of, hour }),
+            104 => Some(Query::Market { border: of, hour }),
+            105 => Some(Query::Bilateral { border: of, hour }),
+            106 => Some(Query::Price(hour)),
+            107 => Some(Query::MarketMaximum {
                 border: of,
                 export,
                 hour,
             }),
-            BILATERAL_MAXIMUM => Some(Query::BilateralMaximum {
+            108 => Some(Query::BilateralMaximum {
                 border: of,
                 export,
                 hour,

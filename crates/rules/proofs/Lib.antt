@@ -1,5 +1,6 @@
 pub mod BoolLaws
 pub mod ListLaws
+pub mod IndexLaws
 pub mod ElementLaws
 pub mod CountLaws
 pub mod LowestLaws

@@ -5,34 +5,6 @@ ghost use Rattle.rules.specs.Rows.{number_of, word_of, RowOf};
 use std::error::Error;
 use std::fmt;
 
-pub const DATE: u32 = 1;
-
-pub const GATE: u32 = 2;
-
-pub const FORM: u32 = 3;
-
-pub const HOUR: u32 = 4;
-
-pub const RANGE: u32 = 5;
-
-pub const NO_UNIT: u32 = 6;
-
-pub const TAKEN: u32 = 7;
-
-pub const SECOND: u32 = 8;
-
-pub const FULL: u32 = 9;
-
-pub const MAXIMUM: u32 = 10;
-
-pub const AVAILABLE: u32 = 11;
-
-pub const BORDER: u32 = 12;
-
-pub const ABSENT: u32 = 13;
-
-pub const SHORT: u32 = 14;
-
 // Why the gate says no: what an `Err` of every call, query, reader and writer brings.
 #[derive(Clone, Copy, Debug, PartialEq, Eq)]
 pub enum Row {

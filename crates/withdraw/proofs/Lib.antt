@@ -1,2 +1,3 @@
+pub mod PlaceLaws
 pub mod StepLaws
 pub mod RoundLaws

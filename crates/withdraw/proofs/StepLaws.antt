@@ -1,5 +1,5 @@
 -- A step on a list of offers is the rules' step.
-use Rattle.std.proofs.Common.{ℕ, ◌≡◌, sym, ◌∙◌, ap, ◌<◌, ◌≤◌, ◌^◌, List, length, map, true, false, arith}
+use Rattle.std.proofs.Common.{ℕ, ◌≡◌, refl, sym, ◌∙◌, ap, ◌<◌, ◌≤◌, ◌^◌, List, length, map, true, false, arith}
 use Rattle.std.specs.List.{sum_by}
 use Rattle.std.specs.Prelude.{All as Every}
 use Rattle.std.proofs.lemmas.List.{length-map}
@@ -7,9 +7,9 @@ use Rattle.std.proofs.lemmas.List.Sums.{sum_by-le}
 use Rattle.rules.specs.Lists.{All, Each}
 use Rattle.rules.specs.Units.{max_energy}
 use Rattle.rules.specs.Match.{Offer, match_all, volume}
-use Rattle.rules.specs.Borders.{Directed}
+use Rattle.rules.specs.Borders.{Directed, flow}
 use Rattle.rules.specs.Withdrawal.{Group, keep_matched, group_of, take_from, step}
-use Rattle.rules.proofs.ListLaws.{all_map}
+use Rattle.rules.proofs.ListLaws.{all_map, all_keep, length-keep}
 use Rattle.rules.proofs.ElementLaws.{each-trans, each_weaken}
 use Rattle.rules.proofs.MatchLaws.{volume-again}
 use Rattle.rules.proofs.WithdrawalLaws.{Lowered as Less, lowered-trans, kept-within, match-lowered}
@@ -17,11 +17,18 @@ use Rattle.hour_offers.specs.declared.Offer.{Offer as Held}
 use Rattle.hour_offers.specs.View.{offer_in, offers_in}
 use Rattle.hour_offers.specs.Sound.{Sound}
 use Rattle.hour_offers.proofs.SoundLaws.{offer-in-range}
-use Rattle.hour_match.specs.Orders.{Along}
-use Rattle.hour_match.specs.Walks.{Matched}
+use Rattle.hour_match.specs.Orders.{Names, no_offer, Along}
+use Rattle.hour_match.specs.Walks.{named, Matched}
 use Rattle.hour_match.proofs.KeptLaws.{along-of, along-kept, match-sound}
+use Rattle.hour_borders.specs.Ways.{over_in}
+use Rattle.hour_borders.specs.Flows.{MatchedInRange, MarketFlows, BorderFlows}
+use Rattle.withdraw_keep.specs.Abroad.{crosses, abroad_of, places_from, put_at}
 use Rattle.withdraw_keep.specs.Change.{Changed}
+use Rattle.withdraw_keep.proofs.AbroadLaws.{homed-trans, put-back, read-abroad, places-same, places-length, places-inside, kept-abroad, kept-homed, kept-group, flow-abroad}
 use Rattle.withdraw_keep.proofs.ChangeLaws.{changed-sound, changed-lowered}
+use Rattle.withdraw_keep.proofs.KeptLaws.{kept-changed}
+use Rattle.withdraw_take.proofs.AbroadLaws.{take-abroad, take-homed}
+use Rattle.withdraw_take.proofs.GivenLaws.{taken-changed}
 use Rattle.withdraw.specs.Steps.{Laid, Lowered, Stepped}
 
 -- a sum of energies fits
@@ -83,3 +90,94 @@ module _ (ds : List Directed) {sales purchases : List ℕ} {os ks ts : List Offe
         };
         lowered = lowered-of less;
       }
+
+-- The same by the offers at a border, put back among all
+
+abroad-fewer : (os : List Offer) → length (abroad_of os) ≤ length os
+unfolding abroad_of
+abroad-fewer os = length-keep crosses os
+
+module _ {places : List ℕ} (os : List Offer) (at : places ≡ places_from 0 os) where
+  -- their indices are those of offers
+  pub places-named : {n : ℕ} → length os ≤ 128 → length os ≡ n → Names n places
+  places-named {n} few e = record {
+    few = rw at (omega (arith, places-length 0 os, abroad-fewer os));
+    inside = rw at (places-inside 0 n os (omega arith));
+  }
+
+  -- at which they are read
+  pub read-places : named os places ≡ abroad_of os
+  unfolding named
+  read-places = rw at (read-abroad no_offer os)
+
+-- what they have can be counted at the borders
+pub counted-abroad : {os bs : List Offer} → Sound os → bs ≡ abroad_of os → All MatchedInRange bs
+unfolding abroad_of
+counted-abroad s e = rw e (all_keep crosses (all_map (λ o h. record { border = h.border; matched = h.matched }) s.in_range))
+
+-- and is what all have there
+pub flows-abroad : (f : List ℕ) (os : List Offer) {bs : List Offer} → bs ≡ abroad_of os → MarketFlows f bs → BorderFlows f os
+flows-abroad f os e m = λ b x o h. m b x h ∙ ap (λ l. flow (λ (p : Offer). p.holder) (λ p. p.matched) b x l) e ∙ flow-abroad b x o os
+
+module _ (over : List ℕ) {sales purchases places : List ℕ} {os bs : List Offer} (l : Laid os sales purchases) (at : places ≡ places_from 0 os) (eb : bs ≡ abroad_of os) where
+  -- what all keep
+  abbrev pub kept : List Offer
+  kept = map (keep_matched (over_in over)) os
+
+  kept-sound : Sound kept
+  kept-sound = changed-sound (kept-changed (over_in over) os) l.sound
+
+  module _ {ks : List Offer} (ek : ks ≡ map (keep_matched (over_in over)) bs) where
+    kept-at : ks ≡ abroad_of kept
+    kept-at = ek ∙ ap (map (keep_matched (over_in over))) eb ∙ sym (kept-abroad over os)
+
+    pub kept-few : length ks ≤ 128
+    kept-few = rw kept-at (omega (arith, abroad-fewer kept, kept-sound.few))
+
+    pub kept-ranged : All (λ o. o.matched ≤ max_energy) ks
+    unfolding abroad_of
+    kept-ranged = rw kept-at (all_keep crosses (matched-ranged kept-sound))
+
+    module _ (g : Group) {ts : List Offer} (et : ts ≡ take_from g (over_in over) ks) where
+      -- what is left of all
+      abbrev pub taken : List Offer
+      taken = take_from g (over_in over) kept
+
+      taken-at : ts ≡ abroad_of taken
+      taken-at = et ∙ ap (take_from g (over_in over)) kept-at ∙ sym (take-abroad g over kept)
+
+      taken-lowered : Each Less os taken
+      taken-lowered =
+          each-trans lowered-trans (changed-lowered (kept-changed (over_in over) os) l.within)
+          (changed-lowered (taken-changed g (over_in over) kept) (kept-within (over_in over) l.within))
+
+      pub taken-length : length ts ≡ length places
+      taken-length = rw (taken-at, at) (sym (places-length 0 taken) ∙ ap length (places-same (λ o p h. h.holder) 0 taken-lowered))
+
+      module _ {qs : List Offer} (eq : qs ≡ put_at places ts os) where
+        again : qs ≡ taken
+        again = eq ∙ rw (at, taken-at) (put-back (each-trans homed-trans (kept-homed over os) (take-homed g over kept)))
+
+        all-kept : Each Changed os kept
+        all-kept = kept-changed (over_in over) os
+
+        all-taken : Each Changed kept qs
+        all-taken = rw again (taken-changed g (over_in over) kept)
+
+        -- all offers may be matched again, in their orders
+        pub again-ranged : All (λ o. o.offered ≤ max_energy) qs
+        again-ranged = offered-ranged (taken-sound (over_in over) l refl all-kept all-taken)
+
+        -- and the match makes the rules' step
+        pub step-again : {after : List Offer} {v : ℕ} → g ≡ group_of (over_in over) os → (Along false qs sales → Along true qs purchases → Matched qs after v)
+            → Stepped (over_in over) sales purchases os after v
+        step-again eg m =
+            step-said (over_in over) l refl all-kept all-taken g (eg ∙ sym (kept-group over os)) again
+            (m (sales-along (over_in over) l refl all-kept all-taken) (purchases-along (over_in over) l refl all-kept all-taken))
+
+  -- a match leaves them at the same indices
+  pub places-after : {after : List Offer} → Each Lowered os after → places ≡ places_from 0 after
+  places-after e = at ∙ sym (places-same (λ o p h. h.holder) 0 e)
+
+  pub abroad-after : {after : List Offer} → Each Lowered os after → named after places ≡ abroad_of after
+  abroad-after {after} e = read-places after (places-after e)

@@ -12,6 +12,9 @@ use Rattle.hour_offers.specs.View.{offer_in, offers_in}
 use Rattle.rules.specs.Lists.{keep, sum_of, sum as sum-of}
 use Rattle.rules.specs.Withdrawal.{prices_over, further, extreme, purchases_below, sales_above, choose, group_of, at_price}
 use Rattle.rules.proofs.BoolLaws.{by_bool}
+use Rattle.hour_borders.specs.Ways.{over_in}
+use Rattle.withdraw_keep.specs.Abroad.{abroad_of}
+use Rattle.withdraw_keep.proofs.AbroadLaws.{prices-abroad}
 use Rattle.withdraw_choose.specs.Prices.{priced_of, price_in}
 
 -- those of a list that is read that pass a test
@@ -52,25 +55,29 @@ sum-read ns = added 0 ns ∙ zero-add (sum-of ns)
     added a [] = omega arith
     added a (n ∷ ns) = omega (arith, added (a + n) ns)
 
-module _ (ds : List Directed) (os : List Held) where
-  -- the prices of one side, and the least or the greatest of them
-  priced : (side : Bool) → map (λ (o : Held). o.price) (filter (λ o. priced_of side ds (offer_in o)) os) ≡ prices_over side ds (offers_in os)
-  unfolding prices_over
-  priced side =
-      sym (ap (map (λ (o : Offer). o.price)) (keep-read offer_in (priced_of side ds) os) ∙ map-read offer_in (λ (o : Offer). o.price) (filter (λ o. priced_of side ds (offer_in o)) os))
+-- the prices of one side
+priced : (ds : List Directed) (os : List Held) (side : Bool) → map (λ (o : Held). o.price) (filter (λ o. priced_of side ds (offer_in o)) os) ≡ prices_over side ds (offers_in os)
+unfolding prices_over
+priced ds os side =
+    sym (ap (map (λ (o : Offer). o.price)) (keep-read offer_in (priced_of side ds) os) ∙ map-read offer_in (λ (o : Offer). o.price) (filter (λ o. priced_of side ds (offer_in o)) os))
 
+module _ (over : List ℕ) (os abroad : List Held) (at : offers_in abroad ≡ abroad_of (offers_in os)) where
+  -- the least or the greatest of the prices of one side
   abbrev pub lowest : Maybe ℕ
-  lowest = reduce min (map (λ (o : Held). o.price) (filter (λ o. priced_of true ds (offer_in o)) os))
+  lowest = reduce min (map (λ (o : Held). o.price) (filter (λ o. priced_of true (over_in over) (offer_in o)) abroad))
 
   abbrev pub highest : Maybe ℕ
-  highest = reduce max (map (λ (o : Held). o.price) (filter (λ o. priced_of false ds (offer_in o)) os))
+  highest = reduce max (map (λ (o : Held). o.price) (filter (λ o. priced_of false (over_in over) (offer_in o)) abroad))
+
+  prices : (side : Bool) → map (λ (o : Held). o.price) (filter (λ o. priced_of side (over_in over) (offer_in o)) abroad) ≡ prices_over side (over_in over) (offers_in os)
+  prices side = priced (over_in over) abroad side ∙ ap (prices_over side (over_in over)) at ∙ prices-abroad over side (offers_in os)
 
   -- the choice by both prices is the rules'
-  pub chosen : {p q : Maybe ℕ} → p ≡ lowest → q ≡ highest → choose (offers_in os) (price_in p) (price_in q) ≡ group_of ds (offers_in os)
+  pub chosen : {p q : Maybe ℕ} → p ≡ lowest → q ≡ highest → choose (offers_in os) (price_in p) (price_in q) ≡ group_of (over_in over) (offers_in os)
   unfolding group_of
   chosen {p} {q} h k =
-      let a : price_in p ≡ extreme min (prices_over true ds (offers_in os)) = ap price_in h ∙ extreme-reduced min (λ a b c. omega arith) _ ∙ ap (extreme min) (priced true) in
-      let b : price_in q ≡ extreme max (prices_over false ds (offers_in os)) = ap price_in k ∙ extreme-reduced max (λ a b c. omega arith) _ ∙ ap (extreme max) (priced false) in
+      let a : price_in p ≡ extreme min (prices_over true (over_in over) (offers_in os)) = ap price_in h ∙ extreme-reduced min (λ a b c. omega arith) _ ∙ ap (extreme min) (prices true) in
+      let b : price_in q ≡ extreme max (prices_over false (over_in over) (offers_in os)) = ap price_in k ∙ extreme-reduced max (λ a b c. omega arith) _ ∙ ap (extreme max) (prices false) in
       rw (a, b)
 
 -- "all matched purchases in the hour below the first" and "all matched sales above the second"

@@ -6,6 +6,7 @@ ghost use Rattle.std.specs.List.{sum_by, reduce};
 ghost use Rattle.rules.specs.Withdrawal.{group_of};
 ghost use Rattle.hour_offers.specs.View.{offer_in, offers_in};
 ghost use Rattle.hour_borders.specs.Ways.{over_in};
+ghost use Rattle.withdraw_keep.specs.Abroad.{abroad_of};
 ghost use Rattle.withdraw_keep.specs.Group.{group_in};
 ghost use Rattle.withdraw_choose.specs.Prices.{priced_of};
 
@@ -70,13 +71,15 @@ fn sales_above(price: u32, offers: &[Offer]) -> u32
         .sum()
 }
 
-// "With both prices, purchases go if C ≤ V', else sales; with one, its side goes"; "with neither price", legacy offers.
-pub fn choose(offers: &[Offer], over: &[u32; 10]) -> Group
-    requires { sum_by (λ o. o.matched) offers.now < 2 ^ 32 }
+// "With both prices, purchases go if C ≤ V', else sales; with one, its side goes"; "with neither price", legacy offers. `abroad` are the offers
+// at a border: only these run in a direction passed.
+pub fn choose(offers: &[Offer], abroad: &[Offer], over: &[u32; 10]) -> Group
+    requires fits { sum_by (λ o. o.matched) offers.now < 2 ^ 32 }
+    requires abroad { offers_in abroad.now ≡ abroad_of (offers_in offers.now) }
     ensures { group_in result ≡ group_of (over_in over.now) (offers_in offers.now) }
 {
-    let lowest = lowest_purchase_price(offers, over);
-    let highest = highest_sale_price(offers, over);
+    let lowest = lowest_purchase_price(abroad, over);
+    let highest = highest_sale_price(abroad, over);
     match (lowest, highest) {
         (None, None) => Group::Legacy,
         (Some(price), None) => Group::AtPrice {

@@ -1,2 +1,3 @@
+pub mod AbroadLaws
 pub mod ChangeLaws
 pub mod KeptLaws

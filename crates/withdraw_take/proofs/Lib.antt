@@ -1,1 +1,2 @@
+pub mod AbroadLaws
 pub mod GivenLaws

@@ -6,4 +6,4 @@ use Rattle.book_log.specs.Calls.{number_in}
 use Rattle.book_log.proofs.numbers_at.Given as goal
 
 abbrev pub invariant-loop-k : goal.invariant-loop-k
-invariant-loop-k l = (length l.energy-items ≡ 25) × (take l.k l.energy-items ≡ map (number_in l.p l.i) (from 0 l.k))
+invariant-loop-k l = (length l.energy-items ≡ 25) × (map (λ x. x) (take l.k l.energy-items) ≡ map (number_in l.p l.i) (from 0 l.k))

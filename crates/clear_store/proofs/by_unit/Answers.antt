@@ -4,15 +4,17 @@ use lib.Seq.{take_all}
 use Rattle.session.specs.declared.Unit.{Unit}
 use Rattle.session.specs.Laid.{pad}
 use Rattle.session.specs.Image.{no_unit}
+use Rattle.clear_store.specs.Beside.{energy_beside}
 use Rattle.clear_store.proofs.SumLaws.{laid-next}
 use Rattle.clear_store.proofs.by_unit.Goals as goal
 
 pub loop-i-init : goal.loop-i-init
 unfolding pad
-loop-i-init g c = λ f k. refl
+loop-i-init c = refl
 
 pub loop-i-preserved : goal.loop-i-preserved
-loop-i-preserved g c = λ f k. laid-next 64 (λ u. f u.number) c.args.units.now c.loop-i.i no_unit c.loop-i.energies _ (omega arith) (omega arith) (c.loop-i.invariant f k) (k _ _ c.energy_of.ensures)
+loop-i-preserved c =
+    laid-next 64 (λ u. energy_beside u.number c.args.numbers.now c.args.energies.now) c.args.units.now c.loop-i.i no_unit c.loop-i.sums _ (omega arith) (omega arith) c.loop-i.invariant c.energy_of.ensures
 
 pub returns : goal.returns
-returns g c = λ f k. c.loop-i.invariant f k ∙ ap (λ (l : List Unit). pad 64 0 (map (λ u. f u.number) l)) (take_all c.loop-i.i c.args.units.now (omega arith))
+returns c = c.loop-i.invariant ∙ ap (λ (l : List Unit). pad 64 0 (map (λ u. energy_beside u.number c.args.numbers.now c.args.energies.now) l)) (take_all c.loop-i.i c.args.units.now (omega arith))

@@ -1,6 +1,7 @@
-use Rattle.std.proofs.Common.{◌≡◌, ℕ, map, take}
+use Rattle.std.proofs.Common.{◌≡◌, map, take}
 use Rattle.session.specs.Laid.{pad}
+use Rattle.clear_store.specs.Beside.{energy_beside}
 use Rattle.clear_store.proofs.by_unit.Given as goal
 
 abbrev pub invariant-loop-i : goal.invariant-loop-i
-invariant-loop-i g l = (f : ℕ → ℕ) → ((n r : ℕ) → goal.F-post g l.energy_of n r → r ≡ f n) → l.energies ≡ pad 64 0 (map (λ u. f u.number) (take l.i l.units))
+invariant-loop-i l = l.sums ≡ pad 64 0 (map (λ u. energy_beside u.number l.numbers l.energies) (take l.i l.units))

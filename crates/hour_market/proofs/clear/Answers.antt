@@ -1,7 +1,7 @@
 use mathlib.Core.Path.{◌∙◌, sym}
 use Rattle.rules.proofs.ListLaws.{all_map}
 use Rattle.hour_match.proofs.KeptLaws.{along-of}
-use Rattle.hour_market.proofs.MarketLaws.{offered-small, matched-in-range, first-sound, first-traded, first-laid, market-said, small}
+use Rattle.hour_market.proofs.MarketLaws.{offered-small, matched-in-range, first-matched, first-sound, first-traded, first-laid, market-said, small}
 use Rattle.hour_market.proofs.clear.Goals as goal
 
 pub order-sales-requires-clause-priced : goal.order-sales-requires-clause-priced
@@ -15,42 +15,32 @@ match_offers-volume-requires-clause-energies c = offered-small c.requires.sound
 
 pub market_flows-market-requires-clause-in_range : goal.market_flows-market-requires-clause-in_range
 market_flows-market-requires-clause-in_range c =
-    let s = c.requires.sound in
-    let a = along-of s (c.deref.ensures.0 ∙ c.order-sales.ensures.ordered) in
-    let b = along-of s (c.deref-2.ensures.0 ∙ c.order-purchases.ensures.ordered) in
-    matched-in-range (first-sound s (c.match_offers-volume.ensures a b))
+    let m = first-matched c.requires.sound c.deref.ensures.0 c.order-sales.ensures.ordered c.deref-2.ensures.0 c.order-purchases.ensures.ordered c.match_offers-volume.ensures in
+    matched-in-range (first-sound c.requires.sound m)
 
 pub legacy_flows-legacy-requires-clause-in_range : goal.legacy_flows-legacy-requires-clause-in_range
 legacy_flows-legacy-requires-clause-in_range c =
-    let s = c.requires.sound in
-    let a = along-of s (c.deref.ensures.0 ∙ c.order-sales.ensures.ordered) in
-    let b = along-of s (c.deref-2.ensures.0 ∙ c.order-purchases.ensures.ordered) in
-    matched-in-range (first-sound s (c.match_offers-volume.ensures a b))
+    let m = first-matched c.requires.sound c.deref.ensures.0 c.order-sales.ensures.ordered c.deref-2.ensures.0 c.order-purchases.ensures.ordered c.match_offers-volume.ensures in
+    matched-in-range (first-sound c.requires.sound m)
 
 pub withdraw-end-requires-clause-laid : goal.withdraw-end-requires-clause-laid
 withdraw-end-requires-clause-laid c =
-    let s = c.requires.sound in
-    let a = along-of s (c.deref.ensures.0 ∙ c.order-sales.ensures.ordered) in
-    let b = along-of s (c.deref-2.ensures.0 ∙ c.order-purchases.ensures.ordered) in
-    first-laid s (c.match_offers-volume.ensures a b) (c.deref-3.ensures.0 ∙ c.order-sales.ensures.ordered) (c.deref-4.ensures.0 ∙ c.order-purchases.ensures.ordered)
+    let m = first-matched c.requires.sound c.deref.ensures.0 c.order-sales.ensures.ordered c.deref-2.ensures.0 c.order-purchases.ensures.ordered c.match_offers-volume.ensures in
+    first-laid c.requires.sound m (c.deref-3.ensures.0 ∙ c.order-sales.ensures.ordered) (c.deref-4.ensures.0 ∙ c.order-purchases.ensures.ordered)
 
 pub withdraw-end-requires-clause-traded : goal.withdraw-end-requires-clause-traded
 withdraw-end-requires-clause-traded c =
-    let s = c.requires.sound in
-    let a = along-of s (c.deref.ensures.0 ∙ c.order-sales.ensures.ordered) in
-    let b = along-of s (c.deref-2.ensures.0 ∙ c.order-purchases.ensures.ordered) in
-    first-traded s (c.match_offers-volume.ensures a b)
+    let m = first-matched c.requires.sound c.deref.ensures.0 c.order-sales.ensures.ordered c.deref-2.ensures.0 c.order-purchases.ensures.ordered c.match_offers-volume.ensures in
+    first-traded c.requires.sound m
 
 pub market_flows-flows-requires-clause-in_range : goal.market_flows-flows-requires-clause-in_range
 market_flows-flows-requires-clause-in_range c = matched-in-range c.withdraw-end.ensures.laid.sound
 
 pub returns-clause-market_cleared : goal.returns-clause-market_cleared
 returns-clause-market_cleared c = λ xs k.
-    let s = c.requires.sound in
-    let a = along-of s (c.deref.ensures.0 ∙ c.order-sales.ensures.ordered) in
-    let b = along-of s (c.deref-2.ensures.0 ∙ c.order-purchases.ensures.ordered) in
+    let m = first-matched c.requires.sound c.deref.ensures.0 c.order-sales.ensures.ordered c.deref-2.ensures.0 c.order-purchases.ensures.ordered c.match_offers-volume.ensures in
     let w = c.withdraw-end.ensures in
-    market-said (c.match_offers-volume.ensures a b) c.args.capacities.now c.maxima-maxima.result xs
+    market-said m c.args.capacities.now c.maxima-maxima.result xs
     (c.maxima-maxima.ensures.split _ xs k c.market_flows-market.ensures.flows c.legacy_flows-legacy.ensures.flows) w _
     (c.price_of-price.ensures (along-of w.laid.sound (c.deref-5.ensures.0 ∙ c.order-sales.ensures.ordered ∙ sym (c.deref-3.ensures.0 ∙ c.order-sales.ensures.ordered) ∙ w.laid.rising)) w.traded)
 

@@ -1,47 +1,70 @@
-use Rattle.std.proofs.Common.{ℕ, ◌≤◌, List, arith, refl, ◌≡◌, ◌∙◌, map, take, ap, add-one, length}
-use lib.Seq.{take-suc, take_all}
-use mathlib.Core.List.{map-append}
-use Rattle.rules.specs.Lists.{none}
-use Rattle.rules.proofs.ListLaws.{all-at}
-use Rattle.rules.proofs.ElementLaws.{all-last}
-use Rattle.hour_share.specs.declared.Amount.{Amount}
-use Rattle.hour_share.specs.Deductions.{AmountInRange, deductions_from}
+use Rattle.std.proofs.Common.{◌≡◌, List, ℕ, ◌+◌, ◌-◌, ◌*◌, ◌≤◌, min, map, refl, arith, ap, ◌∙◌, length, get_or}
+use Rattle.std.proofs.lemmas.List.{length-replicate}
+use Rattle.rules.specs.Lists.{add_each, sum}
+use Rattle.rules.specs.Share.{share}
+use Rattle.rules.specs.Units.{max_energy}
+use Rattle.rules.proofs.ShareLaws.{share-length}
+use Rattle.hour_share.specs.Deductions.{deductions_from}
+use Rattle.hour_share.proofs.Laws.{zeros-of, zeros-map, refilled, sums-small, sums-length, lost-ranged, lost-said, deductions-start, deductions-more, deductions-same}
 use Rattle.hour_share.proofs.deductions.Goals as goal
 
-pub loop-x-init : goal.loop-x-init
-loop-x-init g c = record { count = ap length c.new-amounts.ensures; ranged = rw c.new-amounts.ensures none; said = λ amount k. c.new-amounts.ensures }
-
-pub loop-x-preserved : goal.loop-x-preserved
-loop-x-preserved g c =
-    let i = c.loop-x.x-index in
-    let holders = c.args.holders.now in
-    let x = c.x-item.result in
-    let within : AmountInRange c.of.result =
-    (rw (← c.x-item.is) at (all-at i x c.requires.ranged (omega arith))) c.of.result (record { shown = _; shows = refl; says = record { met = c.of.ensures } }) in
+pub loop-w-init : goal.loop-w-init
+loop-w-init g c =
+    let hs = c.args.holders.now in
+    let e = c.nothing-sums.ensures in
     record {
-      count = omega (arith, c.push.ensures.len);
-      ranged = rw c.push.ensures.items (all-last c.loop-x.invariant.ranged within);
-      said = λ amount k.
-          let said : c.of.result ≡ amount x =
-          (rw (← c.x-item.is) at (all-at i x k (omega arith))) c.of.result (record { shown = _; shows = refl; says = record { met = c.of.ensures } }) in
-          rw (c.push.ensures.items, c.loop-x.invariant.said amount k, add-one i, take-suc holders i x (omega arith), map-append, ← c.x-item.is, said);
+      first = omega arith;
+      last = omega arith;
+      same_length = ap length e ∙ length-replicate (length hs) 0;
+      room = rw e (zeros-of (length hs));
+      added = λ amount k. e ∙ zeros-map amount hs ∙ deductions-start c.args.over.now (map amount hs) 10 (omega arith);
     }
 
-pub in_all-requires-clause-ranged : goal.in_all-requires-clause-ranged
-in_all-requires-clause-ranged g c = rw c.as_slice.ensures.value c.loop-x.invariant.ranged
+pub share-requires-clause-ranged : goal.share-requires-clause-ranged
+share-requires-clause-ranged g c = rw c.deref.ensures.0 c.energies_in-energies.ensures.ranged_after
 
--- all of the holders, once the loop ends
-all_passed : {A B : Type 0} (f : A → B) (i : ℕ) (xs : List A) {ys zs : List B} → length xs ≤ i → zs ≡ ys → ys ≡ map f (take i xs) → zs ≡ map f xs
-all_passed f i xs h q e = q ∙ e ∙ ap (map f) (take_all i xs h)
+pub share-requires-clause-room : goal.share-requires-clause-room
+share-requires-clause-room g c i = rw c.deref_mut.ensures.value (omega (arith, c.loop-w.invariant.room i))
 
-through : (over x : List ℕ) (ms ns : List Amount) → x ≡ deductions_from over ms 2 → ms ≡ ns → x ≡ deductions_from over ns 2
-through over x ms ns e q = e ∙ ap (λ (l : List Amount). deductions_from over l 2) q
+pub loop-w-preserved-then-over-w-gt0 : goal.loop-w-preserved-then-over-w-gt0
+loop-w-preserved-then-over-w-gt0 g c =
+    let l = c.loop-w in
+    let over = c.args.over.now in
+    let v = l.w - 1 in
+    let es = c.energies_in-energies.result.items in
+    let lost = share (min (get_or over v 0) (sum es)) es in
+    let w : l.w ≡ v + 1 = omega arith in
+    let added : c.share.new.deductions ≡ add_each lost l.sums.items = rw (c.share.ensures, c.deref.ensures.0, c.deref_mut.ensures.value) in
+    let even : length lost ≡ length l.sums.items = omega (arith, share-length (min (get_or over v 0) (sum es)) es (omega arith), c.energies_in-energies.ensures.same_length, l.invariant.same_length) in
+    let e : length c.share.new.deductions ≡ length l.sums.items = ap length added ∙ sums-length lost l.sums.items even in
+    let room : (i : ℕ) → get_or c.share.new.deductions i 0 ≤ (10 - v) * max_energy =
+    λ i. omega (
+      arith,
+      ap (λ (s : List ℕ). get_or s i 0) added,
+      sums-small ((10 - l.w) * max_energy) lost l.sums.items (lost-ranged (min (get_or over v 0) (sum es)) es (omega arith) c.energies_in-energies.ensures.ranged_after) l.invariant.room i,
+    ) in
+    rw (refilled l.sums.items c.share.new.deductions e) record {
+      first = omega arith;
+      last = omega arith;
+      same_length = e ∙ l.invariant.same_length;
+      room = room;
+      added = λ amount k.
+          let ams = map amount c.args.holders.now in
+          deductions-more over ams v l.sums.items (omega arith) c.if-over-w-gt0.true (lost-said (get_or over v 0) v ams (c.energies_in-energies.ensures.value amount k) refl)
+          (l.invariant.added amount k ∙ ap (deductions_from over ams) w) added;
+    }
 
-pub returns-clause-value : goal.returns-clause-value
-returns-clause-value g c amount k =
-    let holders = c.args.holders.now in
-    through c.args.over.now c.in_all.result.items c.as_slice.result.now (map amount holders) c.in_all.ensures.value
-    (all_passed amount c.loop-x.x-index holders (omega arith) c.as_slice.ensures.value (c.loop-x.invariant.said amount k))
-
-pub returns-clause-same_length : goal.returns-clause-same_length
-returns-clause-same_length g c = omega (arith, ap length c.as_slice.ensures.value)
+pub loop-w-preserved : goal.loop-w-preserved
+loop-w-preserved g c =
+    let l = c.loop-w in
+    let over = c.args.over.now in
+    let w : l.w ≡ l.w - 1 + 1 = omega arith in
+    record {
+      first = omega arith;
+      last = omega arith;
+      same_length = l.invariant.same_length;
+      room = λ i. omega (arith, l.invariant.room i);
+      added = λ amount k.
+          let ams = map amount c.args.holders.now in
+          l.invariant.added amount k ∙ ap (deductions_from over ams) w ∙ deductions-same over ams (l.w - 1) (omega arith) c.if-over-w-gt0.false;
+    }

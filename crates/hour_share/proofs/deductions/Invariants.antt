@@ -1,14 +1,17 @@
-use Rattle.std.proofs.Common.{◌≡◌, length, map, take}
+use Rattle.std.proofs.Common.{◌≡◌, ℕ, ◌-◌, ◌≤◌, ◌*◌, length, map, get_or}
 use Rattle.std.specs.Fn.{FnReturnsAt}
 use Rattle.rules.specs.Lists.{All}
+use Rattle.rules.specs.Units.{max_energy}
 use Rattle.hour_share.specs.declared.Amount.{Amount}
-use Rattle.hour_share.specs.Deductions.{AmountInRange}
+use Rattle.hour_share.specs.Deductions.{deductions_from}
 use Rattle.hour_share.proofs.deductions.Given as goal
 
-abbrev pub invariant-loop-x : goal.invariant-loop-x
-invariant-loop-x g l = record {
-  count : length l.amounts.items ≡ l.x-index;
-  ranged : All AmountInRange l.amounts.items;
-  said : (amount : g.row.T.Denot → Amount) → All (λ x. (a : Amount) → FnReturnsAt g.F.Fn l.of x a → a ≡ amount x) l.holders
-      → l.amounts.items ≡ map amount (take l.x-index l.holders);
+abbrev pub invariant-loop-w : goal.invariant-loop-w
+invariant-loop-w g l = record {
+  first : 2 ≤ l.w;
+  last : l.w ≤ 10;
+  same_length : length l.sums.items ≡ length l.holders;
+  room : (i : ℕ) → get_or l.sums.items i 0 ≤ (10 - l.w) * max_energy;
+  added : (amount : g.row.T.Denot → Amount) → All (λ x. (a : Amount) → FnReturnsAt g.F.Fn l.of x a → a ≡ amount x) l.holders
+      → l.sums.items ≡ deductions_from l.over (map amount l.holders) l.w;
 }

@@ -1,6 +1,14 @@
-use Rattle.std.proofs.Common.{◌≡◌, map, take}
-use Rattle.hour_share.specs.Deductions.{energy_in}
+use Rattle.std.proofs.Common.{◌≡◌, length, map, take}
+use Rattle.std.specs.Fn.{FnReturnsAt}
+use Rattle.rules.specs.Lists.{All}
+use Rattle.hour_share.specs.declared.Amount.{Amount}
+use Rattle.hour_share.specs.Deductions.{Ranged, energy_in}
 use Rattle.hour_share.proofs.energies_in.Given as goal
 
-abbrev pub invariant-loop-a : goal.invariant-loop-a
-invariant-loop-a l = l.energies.items ≡ map (energy_in l.w) (take l.a-index l.amounts)
+abbrev pub invariant-loop-x : goal.invariant-loop-x
+invariant-loop-x g l = record {
+  count : length l.energies.items ≡ l.x-index;
+  ranged : Ranged l.energies.items;
+  said : (amount : g.row.T.Denot → Amount) → All (λ x. (a : Amount) → FnReturnsAt g.F.Fn l.of x a → a ≡ amount x) l.holders
+      → l.energies.items ≡ map (energy_in l.w) (map amount (take l.x-index l.holders));
+}

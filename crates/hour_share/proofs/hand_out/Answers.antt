@@ -11,12 +11,12 @@ loop-i-preserved c =
     elim c.if-m-gt0.branch [
       | then-m-gt0+then-rest-gt0 w ↦
           rw (w.deductions-is, w.rest-is) record {
-            ranged = λ j h. omega (arith, get_or-set_other l.deductions l.i j (get_or l.deductions l.i 0 + 1) 0 (λ z. absurd (omega arith)), l.invariant.ranged j (omega arith));
+            room = λ j h. omega (arith, get_or-set_other l.deductions l.i j (get_or l.deductions l.i 0 + 1) 0 (λ z. absurd (omega arith)), l.invariant.room j (omega arith));
             whole = one_out l.deductions ms l.i l.rest (omega arith) (omega arith) w.if-m-gt0.true w.if-rest-gt0.true ∙ l.invariant.whole;
           }
       | else-m-gt0 w ↦
           rw (w.deductions-is, w.rest-is) record {
-            ranged = λ j h. l.invariant.ranged j (omega arith);
+            room = λ j h. l.invariant.room j (omega arith);
             whole = none_out l.deductions ms l.i l.rest (omega arith) (omega arith) (λ h. ⊎_elim (λ p. p.1) (λ q. absurd (omega arith)) w.else-m-gt0.either) ∙ l.invariant.whole;
           }
     ]

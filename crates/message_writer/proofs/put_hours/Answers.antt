@@ -1,3 +1,4 @@
+use Rattle.std.proofs.Common.{◌∙◌}
 use lib.Dec.{lit<}
 use lib.ListN.{get_or}
 use Rattle.rules.specs.Units.{max_energy}
@@ -10,14 +11,14 @@ use Rattle.message_writer.proofs.put_hours.Goals as goal
 pub of-h-items-requires : goal.of-h-items-requires
 of-h-items-requires c = (map-fits _ c.requires.ranges.map).1
 
-pub put_bits-p-requires-clause-room : goal.put_bits-p-requires-clause-room
-put_bits-p-requires-clause-room c =
+pub put_bits-requires-clause-room : goal.put_bits-requires-clause-room
+put_bits-requires-clause-room c =
     let word : SlotWord 17 c.args.m.now.execution (get_or c.args.m.now.energies c.in-Some.h 0) (get_or c.args.m.now.prices c.in-Some.h 0) c.slot_word-word.result =
     c.slot_word-word.ensures 17 (hours-fit 17 max_energy (fields_in c.args.m.now) _ (lit< tt) c.requires.ranges.values c.in-Some.ensures.steps.within) in
-    midway-room 17 (fields_in c.args.m.now) _ _ c.loop-h.invariant c.in-Some.ensures.steps (slot-width 17 _ _ c.price_width-width.ensures.value) word
+    midway-room 17 (fields_in c.args.m.now) _ _ c.loop-h.invariant.1 c.in-Some.ensures.steps (slot-width 17 _ _ c.price_width-width.ensures.value) word
 
-pub put_bits-p-requires-clause-fits : goal.put_bits-p-requires-clause-fits
-put_bits-p-requires-clause-fits c =
+pub put_bits-requires-clause-fits : goal.put_bits-requires-clause-fits
+put_bits-requires-clause-fits c =
     let word : SlotWord 17 c.args.m.now.execution (get_or c.args.m.now.energies c.in-Some.h 0) (get_or c.args.m.now.prices c.in-Some.h 0) c.slot_word-word.result =
     c.slot_word-word.ensures 17 (hours-fit 17 max_energy (fields_in c.args.m.now) _ (lit< tt) c.requires.ranges.values c.in-Some.ensures.steps.within) in
     rw (slot-width 17 _ _ c.price_width-width.ensures.value) word.small
@@ -26,8 +27,10 @@ pub loop-h-preserved : goal.loop-h-preserved
 loop-h-preserved c =
     let word : SlotWord 17 c.args.m.now.execution (get_or c.args.m.now.energies c.in-Some.h 0) (get_or c.args.m.now.prices c.in-Some.h 0) c.slot_word-word.result =
     c.slot_word-word.ensures 17 (hours-fit 17 max_energy (fields_in c.args.m.now) _ (lit< tt) c.requires.ranges.values c.in-Some.ensures.steps.within) in
-    midway-next 17 (fields_in c.args.m.now) _ _ c.loop-h.invariant c.in-Some.ensures.steps (slot-width 17 _ _ c.price_width-width.ensures.value)
-    word c.put_bits-p.ensures c.put_bits-p.auto.buf
+    let next =
+    midway-next 17 (fields_in c.args.m.now) _ _ c.loop-h.invariant.1 c.in-Some.ensures.steps (slot-width 17 _ _ c.price_width-width.ensures.value)
+    word c.put_bits.ensures.appended in
+    (c.put_bits.ensures.same_reference ∙ c.loop-h.invariant.0, next)
 
-pub returns : goal.returns
-returns c = midway_end 17 _ _ _ c.loop-h.invariant c.in-None.ensures.steps.0
+pub returns-clause-appended : goal.returns-clause-appended
+returns-clause-appended c = midway_end 17 _ _ _ c.loop-h.invariant.1 c.in-None.ensures.steps.0

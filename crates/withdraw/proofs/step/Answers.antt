@@ -1,25 +1,56 @@
-use Rattle.hour_borders.specs.Ways.{over_in}
+use Rattle.std.proofs.Common.{ap, arith, sym, ◌∙◌}
+use Rattle.std.proofs.lemmas.List.{length-map}
+use Rattle.hour_offers.specs.View.{offer_in, offers_in}
 use Rattle.withdraw_keep.specs.Group.{group_in}
-use Rattle.withdraw_keep.proofs.ChangeLaws.{changed-sound}
-use Rattle.withdraw.proofs.StepLaws.{matched-fits, matched-ranged, offered-ranged, taken-sound, sales-along, purchases-along, step-said}
+use Rattle.withdraw.proofs.PlaceLaws.{map-put}
+use Rattle.withdraw.proofs.StepLaws.{matched-fits, places-named, kept-few, kept-ranged, taken-length, again-ranged, step-again, places-after, abroad-after}
 use Rattle.withdraw.proofs.step.Goals as goal
 
-pub choose-group-requires : goal.choose-group-requires
-choose-group-requires c = matched-fits c.keep_matched.new.offers (changed-sound c.keep_matched.ensures.changed c.requires.laid.sound)
+pub choose-group-requires-clause-fits : goal.choose-group-requires-clause-fits
+choose-group-requires-clause-fits c = matched-fits c.args.offers.now c.requires.laid.sound
+
+pub take_from-requires-clause-few : goal.take_from-requires-clause-few
+take_from-requires-clause-few c =
+    let n = kept-few c.args.over.now c.requires.laid c.requires.places c.requires.abroad c.keep_matched.ensures.kept in
+    omega (arith, length-map c.keep_matched.new.offers offer_in)
 
 pub take_from-requires-clause-in_range : goal.take_from-requires-clause-in_range
-take_from-requires-clause-in_range c = matched-ranged (changed-sound c.keep_matched.ensures.changed c.requires.laid.sound)
+take_from-requires-clause-in_range c = kept-ranged c.args.over.now c.requires.laid c.requires.places c.requires.abroad c.keep_matched.ensures.kept
 
-pub match_offers-requires-clause-energies : goal.match_offers-requires-clause-energies
-match_offers-requires-clause-energies c =
-    let k = c.keep_matched.ensures in
-    offered-ranged (taken-sound (over_in c.args.over.now) c.requires.laid k.kept k.changed c.take_from.ensures.changed)
+pub put-requires-clause-names : goal.put-requires-clause-names
+put-requires-clause-names c = places-named (offers_in c.args.offers.now) c.requires.places c.requires.laid.sound.few (length-map c.args.offers.now offer_in)
+
+pub put-requires-clause-same_length : goal.put-requires-clause-same_length
+put-requires-clause-same_length c =
+    sym (length-map c.take_from.new.offers offer_in)
+    ∙ taken-length c.args.over.now c.requires.laid c.requires.places c.requires.abroad c.keep_matched.ensures.kept (group_in c.choose-group.result) c.take_from.ensures.taken
+
+pub match_offers-volume-requires-clause-energies : goal.match_offers-volume-requires-clause-energies
+match_offers-volume-requires-clause-energies c =
+    again-ranged c.args.over.now c.requires.laid c.requires.places c.requires.abroad c.keep_matched.ensures.kept (group_in c.choose-group.result) c.take_from.ensures.taken
+    (ap offers_in c.put.ensures ∙ map-put offer_in c.args.places.now c.take_from.new.offers c.args.offers.now)
+
+pub renew-requires-clause-names : goal.renew-requires-clause-names
+renew-requires-clause-names c =
+    let n = c.match_offers-volume.auto.offers in
+    let m = c.put.auto.offers in
+    places-named (offers_in c.args.offers.now) c.requires.places c.requires.laid.sound.few (omega (arith, length-map c.args.offers.now offer_in))
+
+pub renew-requires-clause-same_length : goal.renew-requires-clause-same_length
+renew-requires-clause-same_length c =
+    sym (length-map c.take_from.new.offers offer_in)
+    ∙ taken-length c.args.over.now c.requires.laid c.requires.places c.requires.abroad c.keep_matched.ensures.kept (group_in c.choose-group.result) c.take_from.ensures.taken
 
 pub returns : goal.returns
 returns c =
-    let k = c.keep_matched.ensures in
-    let t = c.take_from.ensures in
-    let ds = over_in c.args.over.now in
+    let a = c.args in
     let l = c.requires.laid in
-    step-said ds l k.kept k.changed t.changed (group_in c.choose-group.result) c.choose-group.ensures t.taken
-    (c.match_offers.ensures (sales-along ds l k.kept k.changed t.changed) (purchases-along ds l k.kept k.changed t.changed))
+    let s =
+    step-again a.over.now l c.requires.places c.requires.abroad c.keep_matched.ensures.kept (group_in c.choose-group.result) c.take_from.ensures.taken
+    (ap offers_in c.put.ensures ∙ map-put offer_in a.places.now c.take_from.new.offers a.offers.now)
+    c.choose-group.ensures c.match_offers-volume.ensures in
+    record {
+      stepped = s;
+      places_after = places-after a.over.now l c.requires.places c.requires.abroad s.lowered;
+      abroad_after = c.renew.ensures ∙ abroad-after a.over.now l c.requires.places c.requires.abroad s.lowered;
+    }

@@ -1,34 +1,33 @@
 use Rattle.std.proofs.Common.{arith, sym, ◌∙◌}
 use Rattle.rules.specs.Withdrawal as W
-use Rattle.hour_borders.specs.Ways.{over_in}
 use Rattle.withdraw_choose.proofs.PriceLaws.{chosen, below-read, above-read, purchases-go, sales-go}
 use Rattle.withdraw_choose.proofs.choose.Goals as goal
 
 pub returns-in-None-None : goal.returns-in-None-None
 unfolding W.choose
 returns-in-None-None c =
-    chosen (over_in c.args.over.now) c.args.offers.now (sym c.in-None-None.is-0 ∙ c.lowest_purchase_price-lowest.ensures) (sym c.in-None-None.is-1 ∙ c.highest_sale_price-highest.ensures)
+    chosen c.args.over.now c.args.offers.now c.args.abroad.now c.requires.abroad (sym c.in-None-None.is-0 ∙ c.lowest_purchase_price-lowest.ensures) (sym c.in-None-None.is-1 ∙ c.highest_sale_price-highest.ensures)
 
 pub returns-in-None-Some : goal.returns-in-None-Some
 unfolding W.choose
 returns-in-None-Some c =
-    chosen (over_in c.args.over.now) c.args.offers.now (sym c.in-None-Some.is-0 ∙ c.lowest_purchase_price-lowest.ensures) (sym c.in-None-Some.is-1 ∙ c.highest_sale_price-highest.ensures)
+    chosen c.args.over.now c.args.offers.now c.args.abroad.now c.requires.abroad (sym c.in-None-Some.is-0 ∙ c.lowest_purchase_price-lowest.ensures) (sym c.in-None-Some.is-1 ∙ c.highest_sale_price-highest.ensures)
 
 pub returns-in-Some-None : goal.returns-in-Some-None
 unfolding W.choose
 returns-in-Some-None c =
-    chosen (over_in c.args.over.now) c.args.offers.now (sym c.in-Some-None.is-0 ∙ c.lowest_purchase_price-lowest.ensures) (sym c.in-Some-None.is-1 ∙ c.highest_sale_price-highest.ensures)
+    chosen c.args.over.now c.args.offers.now c.args.abroad.now c.requires.abroad (sym c.in-Some-None.is-0 ∙ c.lowest_purchase_price-lowest.ensures) (sym c.in-Some-None.is-1 ∙ c.highest_sale_price-highest.ensures)
 
 pub returns-then-purchases_below-sales_above : goal.returns-then-purchases_below-sales_above
 returns-then-purchases_below-sales_above c =
     let os = c.args.offers.now in
     let p = c.in-Some-Some in
     purchases-go p.lowest p.highest os (c.purchases_below.ensures ∙ below-read p.lowest os) (c.sales_above.ensures ∙ above-read p.highest os) (omega arith)
-    ∙ chosen (over_in c.args.over.now) os (sym p.is-0 ∙ c.lowest_purchase_price-lowest.ensures) (sym p.is-1 ∙ c.highest_sale_price-highest.ensures)
+    ∙ chosen c.args.over.now os c.args.abroad.now c.requires.abroad (sym p.is-0 ∙ c.lowest_purchase_price-lowest.ensures) (sym p.is-1 ∙ c.highest_sale_price-highest.ensures)
 
 pub returns-else-purchases_below-sales_above : goal.returns-else-purchases_below-sales_above
 returns-else-purchases_below-sales_above c =
     let os = c.args.offers.now in
     let p = c.in-Some-Some in
     sales-go p.lowest p.highest os (c.purchases_below.ensures ∙ below-read p.lowest os) (c.sales_above.ensures ∙ above-read p.highest os) (omega arith)
-    ∙ chosen (over_in c.args.over.now) os (sym p.is-0 ∙ c.lowest_purchase_price-lowest.ensures) (sym p.is-1 ∙ c.highest_sale_price-highest.ensures)
+    ∙ chosen c.args.over.now os c.args.abroad.now c.requires.abroad (sym p.is-0 ∙ c.lowest_purchase_price-lowest.ensures) (sym p.is-1 ∙ c.highest_sale_price-highest.ensures)

@@ -1,4 +1,0 @@
-use Rattle.arrays.proofs.portion.Goals as goal
-
-pub returns : goal.returns
-returns c = rw (c.wide.ensures.0, c.wide-2.ensures.0, c.wide-3.ensures.0, c.wide-4.ensures.0)
