@@ -1,6 +1,7 @@
-use Rattle.std.proofs.Common.{sym, ◌∙◌, arith}
+use Rattle.std.proofs.Common.{sym, ◌∙◌, ap, length, arith}
 use borrow.Author.Tests.{not-true, not-false}
-use Rattle.judge_loads.proofs.LoadLaws.{index-start, index-pushed, index-left}
+use Rattle.judge_loads.proofs.LoadLaws.{index-start, index-pushed, index-left, indices-in}
+use Rattle.close_judge.proofs.StandingLaws.{holders-few}
 use Rattle.close_judge.proofs.CountLaws.{not-accepted, not-holder, held_on}
 use Rattle.close_judge.proofs.Standing.put_accepted.Goals as goal
 
@@ -30,3 +31,11 @@ loop-i-preserved c =
       few = omega (arith, l.invariant.few, c.push.ensures.len);
       indices = c.push.ensures.items ∙ index-pushed _ l.others.items l.i (held_on c.args.p c.args.verdicts.now _ l.i (omega arith) c.if-not-verdicts-i.false (not-false _ (sym c.ne.ensures ∙ c.if-ne.false))) l.invariant.indices;
     }
+
+pub returns-clause-indices : goal.returns-clause-indices
+returns-clause-indices c =
+    let x = c.args.self.now in
+    let l = c.loop-i in
+    let few = holders-few x.session.now x.holders.items x.units in
+    let same = ap length c.deref-holder-items.ensures.0 in
+    indices-in _ l.i x.energies.now l.others.items l.invariant.indices (omega (arith, few, same, x.within.standing)) (omega (arith, few, same, x.long))
