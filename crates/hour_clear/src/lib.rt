@@ -2,10 +2,9 @@
 #![tactic(auto)]
 
 ghost use Rattle.std.specs.Prelude.{◌≡◌, ◌≤◌, map, length};
-ghost use Rattle.rules.specs.Clearing.{clear_hour};
 ghost use Rattle.hour_offers.specs.View.{offers_in, executions_in};
-ghost use Rattle.hour.specs.Ready.{Ready, figures_of};
-ghost use Rattle.hour.specs.View.{fresh_in, hour_in, figures_as};
+ghost use Rattle.hour.specs.Ready.{figures_of};
+ghost use Rattle.hour.specs.View.{fresh_in};
 
 use arrayvec::ArrayVec;
 use hour::{Figures, Hour};
@@ -36,35 +35,27 @@ fn uncut(executions: &[Execution]) -> ArrayVec<Execution, LODGEMENTS>
     uncut
 }
 
-// The figures of an hour that is ready: its market, then the cut of its executions.
-fn clear_hour(h: &Hour) -> Figures
-    requires { Ready h.now }
-    ensures { result ≡ figures_as (clear_hour (hour_in h.now)) }
-{
-    let mut offers = fresh(&h.offers);
-    let mut executions = uncut(&h.executions);
-    let before = hour_borders::execution_flows(&executions);
-    let market = hour_market::clear(&mut offers, &h.capacities, &before);
-    hour_cut::cut(&mut executions, &h.capacities, &market.flows, &before);
-    let bilateral = hour_borders::execution_flows(&executions);
-    Figures {
-        offers,
-        executions,
-        maxima: market.maxima,
-        market: market.flows,
-        bilateral,
-        steps: market.steps,
-        price: market.price,
-    }
-}
-
-// An hour cleared: the rules' figures where it is one that a session can hold, and none where it is not.
-#[tactic(auto, unfolding(hour::specs::Ready::figures_of))]
+// An hour cleared: its market, then the cut of its executions. The rules' figures where it is one that a session can hold, and none where it
+// is not. In one function, since figures are long to hand on.
 pub fn clear(h: &Hour) -> Option<Figures>
     ensures { result ≡ figures_of h.now }
 {
     if hour::ready(h) {
-        Some(clear_hour(h))
+        let mut offers = fresh(&h.offers);
+        let mut executions = uncut(&h.executions);
+        let before = hour_borders::execution_flows(&executions);
+        let market = hour_market::clear(&mut offers, &h.capacities, &before);
+        hour_cut::cut(&mut executions, &h.capacities, &market.flows, &before);
+        let bilateral = hour_borders::execution_flows(&executions);
+        Some(Figures {
+            offers,
+            executions,
+            maxima: market.maxima,
+            market: market.flows,
+            bilateral,
+            steps: market.steps,
+            price: market.price,
+        })
     } else {
         None
     }
