@@ -15,24 +15,24 @@ use Rattle.hour_clear.proofs.clear.Goals as goal
 
 pub execution_flows-before-requires-clause-in_range : goal.execution_flows-before-requires-clause-in_range
 execution_flows-before-requires-clause-in_range c =
-    rw (c.deref-then-ready-2.ensures.0, c.uncut-executions.ensures, c.deref-then-ready.ensures.0) (executions-in-range (ready-holds c.args.h.now (sym c.ready.ensures ∙ c.if-ready.true)))
+    rw (c.deref-then-ready-2.ensures.0, c.uncut.ensures, c.deref-then-ready.ensures.0) (executions-in-range (ready-holds c.args.h.now (sym c.ready.ensures ∙ c.if-ready.true)))
 
 pub clear-market-requires-clause-sound : goal.clear-market-requires-clause-sound
 unfolding hour_in
 clear-market-requires-clause-sound c =
-    rw (c.deref_mut.ensures.value, c.fresh-offers.ensures, c.deref.ensures.0) (offers-sound (ready-holds c.args.h.now (sym c.ready.ensures ∙ c.if-ready.true)))
+    rw (c.deref_mut.ensures.value, c.fresh.ensures, c.deref.ensures.0) (offers-sound (ready-holds c.args.h.now (sym c.ready.ensures ∙ c.if-ready.true)))
 
 pub clear-market-requires-clause-capacities_small : goal.clear-market-requires-clause-capacities_small
 clear-market-requires-clause-capacities_small c w l = omega (arith, capacities-small (ready-holds c.args.h.now (sym c.ready.ensures ∙ c.if-ready.true)) w l)
 
 pub cut-requires-clause-in_range : goal.cut-requires-clause-in_range
 cut-requires-clause-in_range c =
-    rw (c.deref_mut-then-ready.ensures.value, c.uncut-executions.ensures, c.deref-then-ready.ensures.0) (executions-in-range (ready-holds c.args.h.now (sym c.ready.ensures ∙ c.if-ready.true)))
+    rw (c.deref_mut-then-ready.ensures.value, c.uncut.ensures, c.deref-then-ready.ensures.0) (executions-in-range (ready-holds c.args.h.now (sym c.ready.ensures ∙ c.if-ready.true)))
 
 pub execution_flows-bilateral-requires-clause-in_range : goal.execution_flows-bilateral-requires-clause-in_range
 execution_flows-bilateral-requires-clause-in_range c =
-    rw (c.deref-then-ready-3.ensures.0, refilled (length c.uncut-executions.result.items) c.uncut-executions.result.items c.cut.new.executions (omega (arith, ap length c.deref_mut-then-ready.ensures.value)))
-    (lowered-in-range c.cut.ensures.lowered (rw (c.deref_mut-then-ready.ensures.value, c.uncut-executions.ensures, c.deref-then-ready.ensures.0) (executions-in-range (ready-holds c.args.h.now (sym c.ready.ensures ∙ c.if-ready.true)))))
+    rw (c.deref-then-ready-3.ensures.0, refilled (length c.uncut.new.uncut.items) c.uncut.new.uncut.items c.cut.new.executions (omega (arith, ap length c.deref_mut-then-ready.ensures.value)))
+    (lowered-in-range c.cut.ensures.lowered (rw (c.deref_mut-then-ready.ensures.value, c.uncut.ensures, c.deref-then-ready.ensures.0) (executions-in-range (ready-holds c.args.h.now (sym c.ready.ensures ∙ c.if-ready.true)))))
 
 pub returns-then-ready : goal.returns-then-ready
 unfolding hour_in figures_of
@@ -43,15 +43,15 @@ returns-then-ready c =
     let before = c.execution_flows-before in
     let os = c.clear-market.new.offers in
     let xs = c.cut.new.executions in
-    let own : c.uncut-executions.result.items ≡ h.executions.items = c.uncut-executions.ensures ∙ c.deref-then-ready.ensures.0 in
-    let offers : offers_in c.deref_mut.result.now ≡ (hour_in h).offers = ap offers_in c.deref_mut.ensures.value ∙ (c.fresh-offers.ensures ∙ ap (λ (l : List Offer). map fresh_in l) c.deref.ensures.0) in
+    let own : c.uncut.new.uncut.items ≡ h.executions.items = c.uncut.ensures ∙ c.deref-then-ready.ensures.0 in
+    let offers : offers_in c.deref_mut.result.now ≡ (hour_in h).offers = ap offers_in c.deref_mut.ensures.value ∙ (c.fresh.ensures ∙ ap (λ (l : List Offer). map fresh_in l) c.deref.ensures.0) in
     let flows : ExecutionFlows before.result (executions_in h.executions.items) = subst (λ (l : List Execution). ExecutionFlows before.result (executions_in l)) (c.deref-then-ready-2.ensures.0 ∙ own) before.ensures.flows in
     let m : MarketCleared (hour_in h).offers h.capacities (executions_in h.executions.items) (offers_in os) c.clear-market.result =
     subst (λ o. MarketCleared o h.capacities (executions_in h.executions.items) (offers_in os) c.clear-market.result) offers (c.clear-market.ensures.market_cleared (executions_in h.executions.items) flows) in
     let same : c.deref_mut-then-ready.result.now ≡ h.executions.items = c.deref_mut-then-ready.ensures.value ∙ own in
     let cut = rw same at (c.cut.ensures.cut (offers_in os) c.clear-market.ensures.flows (rw same flows) (rw same (enough-said ready os m))) in
-    let z : c.deref-then-ready-3.result.now ≡ xs = c.deref-then-ready-3.ensures.0 ∙ refilled (length c.uncut-executions.result.items) c.uncut-executions.result.items xs (omega (arith, ap length c.deref_mut-then-ready.ensures.value)) in
-    rw passed (ap Some (rw (refilled (length c.fresh-offers.result.items) c.fresh-offers.result.items os (omega (arith, ap length c.deref_mut.ensures.value)), refilled (length c.uncut-executions.result.items) c.uncut-executions.result.items xs (omega (arith, ap length c.deref_mut-then-ready.ensures.value)))
+    let z : c.deref-then-ready-3.result.now ≡ xs = c.deref-then-ready-3.ensures.0 ∙ refilled (length c.uncut.new.uncut.items) c.uncut.new.uncut.items xs (omega (arith, ap length c.deref_mut-then-ready.ensures.value)) in
+    rw passed (ap Some (rw (refilled (length c.fresh.new.fresh.items) c.fresh.new.fresh.items os (omega (arith, ap length c.deref_mut.ensures.value)), refilled (length c.uncut.new.uncut.items) c.uncut.new.uncut.items xs (omega (arith, ap length c.deref_mut-then-ready.ensures.value)))
     (figures-said ready os m xs c.execution_flows-bilateral.result cut (omega arith) c.clear-market.ensures.none_at_home (omega arith) c.clear-market.ensures.flows (omega arith)
     (subst (λ (l : List Execution). ExecutionFlows c.execution_flows-bilateral.result (executions_in l)) z c.execution_flows-bilateral.ensures.flows))))
 
