@@ -1,7 +1,7 @@
 // Share: taking an energy from several amounts pro rata.
 #![tactic(auto)]
 
-ghost use Rattle.std.specs.Prelude.{◌≡◌, ◌*◌, ◌≤◌, ℕ, map, min, length, get_or, replicate};
+ghost use Rattle.std.specs.Prelude.{◌≡◌, ◌*◌, ◌≤◌, ℕ, [], map, min, length, get_or, replicate};
 ghost use Rattle.std.specs.Fn.{FnReturnsAt};
 ghost use Rattle.rules.specs.Lists.{All, add_each, sum};
 ghost use Rattle.rules.specs.Units.{max_energy};
@@ -103,22 +103,26 @@ pub fn share(excess: u32, amounts: &[u32], deductions: &mut [u32])
     hand_out(r - floored, amounts, deductions);
 }
 
-// What each of some holders counts for in direction w: `of` says what it has, and in which direction it gives way.
-fn energies_in<T, F: Fn(&T) -> Amount>(w: usize, holders: &[T], of: &F) -> ArrayVec<u32, LODGEMENTS>
+// What each of some holders counts for in direction w, written to an empty list: `of` says what it has, and in which direction it gives way.
+fn energies_in<T, F: Fn(&T) -> Amount>(
+    w: usize,
+    holders: &[T],
+    of: &F,
+    energies: &mut ArrayVec<u32, LODGEMENTS>,
+)
     requires callable { F.IsAlwaysCallable of.now }
     requires few { length holders.now ≤ 128 }
+    requires empty { energies.old.items ≡ [] }
     requires ranged { All (λ x. (a : Amount) → FnReturnsAt F.Fn of.now x a → AmountInRange a) holders.now }
     ensures value { (amount : T → Amount)
         → All (λ x. (a : Amount) → FnReturnsAt F.Fn of.now x a → a ≡ amount x) holders.now
-        → result.items ≡ map (energy_in w) (map amount holders.now) }
-    ensures same_length { length result.items ≡ length holders.now }
-    ensures ranged_after { Ranged result.items }
+        → energies.new.items ≡ map (energy_in w) (map amount holders.now) }
+    ensures same_length { length energies.new.items ≡ length holders.now }
+    ensures ranged_after { Ranged energies.new.items }
 {
-    let mut energies = ArrayVec::new();
     for x in holders {
         energies.push(of(x).energy_in(w));
     }
-    energies
 }
 
 // Nothing lost by any of n.
@@ -150,7 +154,8 @@ pub fn deductions<T, F: Fn(&T) -> Amount>(
     let mut sums = nothing(holders.len());
     for w in (2..10).rev() {
         if 0 < over[w] {
-            let energies = energies_in(w, holders, &of);
+            let mut energies = ArrayVec::new();
+            energies_in(w, holders, &of, &mut energies);
             share(over[w], &energies, &mut sums);
         }
     }
