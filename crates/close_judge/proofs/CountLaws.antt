@@ -15,8 +15,10 @@ use Rattle.session.specs.Parts.{index_of, number_is}
 use Rattle.session.specs.declared.Unit.{Unit}
 use Rattle.session.specs.declared.Verdict.{Verdict}
 use Rattle.judge_loads.specs.Loads.{marked}
-use Rattle.close_judge.specs.Classes.{held_at, is_at}
-use Rattle.std.specs.Prelude.{None}
+use Rattle.judge_loads.proofs.LoadLaws.{and-false}
+use Rattle.close_judge.specs.Classes.{held_at}
+use Rattle.std.specs.Prelude.{Some, None}
+use Rattle.std.specs.Option.{option_eq}
 use Rattle.std.specs.declared.option.Option as O
 use Rattle.session.proofs.IndexLaws.{get_or-map}
 
@@ -86,6 +88,18 @@ marked-same (c ∷ cs) (b ∷ bs) (x ∷ xs) l f =
     rw (q, marked-same cs bs xs (omega arith) (λ j k. f (suc j) (omega arith)))
 
 -- whether an index is held
-pub held-is : (p : ℕ) (vs : List Verdict) (holders : List (O.Option ℕ)) (l : ℕ) → l < 128 → get_or (map (held_at p vs holders) (from 0 128)) l false ≡ ((get_or vs l no_verdict).accepted && is_at p (get_or holders l None))
-unfolding held_at
-held-is p vs holders l h = indices-at (held_at p vs holders) 128 false l h
+module _ (p : ℕ) (vs : List Verdict) (holders : List (O.Option ℕ)) (l : ℕ) (h : l < 128) where
+  held-is : get_or (map (held_at p vs holders) (from 0 128)) l false ≡ held_at p vs holders l
+  held-is = indices-at (held_at p vs holders) 128 false l h
+
+  pub not-accepted : (get_or vs l no_verdict).accepted ≡ false → get_or (map (held_at p vs holders) (from 0 128)) l false ≡ false
+  unfolding held_at
+  not-accepted e = held-is ∙ rw e
+
+  pub not-holder : option_eq eqb (get_or holders l None) (Some p) ≡ false → get_or (map (held_at p vs holders) (from 0 128)) l false ≡ false
+  unfolding held_at
+  not-holder e = held-is ∙ rw e (and-false (get_or vs l no_verdict).accepted false refl)
+
+  pub held_on : (get_or vs l no_verdict).accepted ≡ true → option_eq eqb (get_or holders l None) (Some p) ≡ true → get_or (map (held_at p vs holders) (from 0 128)) l false ≡ true
+  unfolding held_at
+  held_on e q = held-is ∙ rw (e, q)

@@ -1,6 +1,7 @@
 -- How far a closing has come, and what the session's verdicts are there.
 use Rattle.std.specs.Prelude.{ℕ, ◌+◌, ◌≡◌, Bool, true, false, not, ◌&&◌, ◌||◌, List, [], map, ltb, leb, eqb, get_or, take, Some, None}
 use Rattle.std.specs.declared.option.Option as O
+use Rattle.std.specs.Option.{option_eq}
 use Rattle.rules.specs.Lodging as L
 use Rattle.rules.specs.Book.{Book}
 use Rattle.rules.specs.Closing as C
@@ -71,16 +72,9 @@ counts_on unit v l = v.accepted && eqb l.key.unit unit
 unfoldable pub counts_at : ℕ → List Verdict → List Lodgement → ℕ → Bool
 counts_at unit vs ls j = counts_on unit (get_or vs j no_verdict) (get_or ls j no_lodgement)
 
--- whether a unit is found at an index
-abbrev pub is_at : ℕ → O.Option ℕ → Bool
-is_at p = elim [
-  | None ↦ false
-  | Some q ↦ eqb q p
-]
-
 -- the same by the index of the unit
 unfoldable pub held_at : ℕ → List Verdict → List (O.Option ℕ) → ℕ → Bool
-held_at p vs holders j = (get_or vs j no_verdict).accepted && is_at p (get_or holders j None)
+held_at p vs holders j = (get_or vs j no_verdict).accepted && option_eq eqb (get_or holders j None) (Some p)
 
 -- a judgement by the limits as a verdict
 unfoldable pub verdict_by : Option (ℕ × ℕ) → Verdict

@@ -1,7 +1,7 @@
 // One lodgement's verdict at closing (document 01, "Closing").
 #![tactic(auto)]
 
-ghost use Rattle.std.specs.Prelude.{◌≡◌, false, ◌&&◌, map, ℕ, ◌<◌, ◌≤◌, get_or, take, length, Some, None};
+ghost use Rattle.std.specs.Prelude.{◌≡◌, false, map, ℕ, ◌<◌, ◌≤◌, get_or, take, length, Some, None};
 ghost use Rattle.rules.specs.Lists.{from};
 ghost use Rattle.judge_loads.specs.Loads.{IndicesIn, marked, load_by};
 ghost use Rattle.judge_limits.specs.Limits.{judged_in};
@@ -9,7 +9,7 @@ ghost use Rattle.close_ceilings.specs.Ceilings.{LinesOf};
 ghost use Rattle.session.specs.Bare.{bare_notice, bare_energies};
 ghost use Rattle.session.specs.Image.{no_unit};
 ghost use Rattle.session.specs.Parts.{Within, said};
-ghost use Rattle.close_judge.specs.Classes.{HoldersOf, is_at, held_at, verdict_by, accepting, JudgesAt};
+ghost use Rattle.close_judge.specs.Classes.{HoldersOf, held_at, verdict_by, accepting, JudgesAt};
 
 use answer::Refusal;
 use arrayvec::ArrayVec;
@@ -66,13 +66,6 @@ pub fn accepted() -> Verdict
     verdict_by(Ok(()))
 }
 
-// Whether a lodgement, by its verdict and the index of its unit, is accepted and of the unit at index p.
-fn is_held(verdict: &Verdict, holder: Option<usize>, p: usize) -> bool
-    ensures { result ≡ (verdict.now.accepted && is_at p holder) }
-{
-    verdict.accepted && holder == Some(p)
-}
-
 impl<'a> Standing<'a> {
     pub fn of(session: &'a Session) -> Standing<'a>
         requires { Within session.now }
@@ -101,7 +94,10 @@ impl<'a> Standing<'a> {
     {
         others.clear();
         for (i, holder) in self.holders.iter().enumerate() {
-            if !is_held(&verdicts[i], *holder, p) {
+            if !verdicts[i].accepted {
+                continue;
+            }
+            if *holder != Some(p) {
                 continue;
             }
             others.push(i);

@@ -20,11 +20,9 @@ use Rattle.rules.proofs.BoolLaws.{by_bool, both, neither}
 use Rattle.rules.proofs.ListLaws.{all_map, all-mapped, all_keep, all-unkept, keep-passes}
 use Rattle.rules.proofs.ElementLaws.{all_both, all-unmapped, pairwise_map}
 use Rattle.rules.proofs.IndexLaws.{from_all}
-use Rattle.hour_offers.specs.declared.Offer.{Offer}
-use Rattle.hour_offers.specs.declared.Execution.{Execution}
 use Rattle.hour_offers.specs.View.{offer_in, execution_in, executions_in}
 use Rattle.hour_offers.specs.Sound.{Sound, ExecutionInRange}
-use Rattle.hour.specs.Ranges.{within, holder_ready, offer_ready, execution_ready, rises, capacity_ready, offers_ready, executions_ready, capacities_ready}
+use Rattle.hour.specs.Ranges.{within, holder_ready, offer_ready, execution_ready, rises, capacity_ready, lodged_ready, offer_number, execution_number, capacities_ready}
 use Rattle.hour.specs.declared.Hour.{Hour}
 use Rattle.hour.specs.View.{fresh_in, hour_in}
 use Rattle.hour_borders.specs.Ways.{directed, energies_of, published_in}
@@ -188,7 +186,7 @@ module _ (cs : List (Option ℕ)) where
 
 -- an hour that passes the test is ready
 pub ready-holds : (h : Hour) → is_ready h ≡ true → Ready h
-unfolding is_ready hour_in offers_ready executions_ready capacities_ready offer_ready
+unfolding is_ready hour_in lodged_ready capacities_ready offer_ready
 ready-holds h e =
     let os = h.offers.items in
     let xs = h.executions.items in
@@ -203,16 +201,16 @@ ready-holds h e =
       offering = leb-true _ _ a.0;
       room = leb-true _ _ b.0;
       offers = all-mapped fresh_in (all_map (λ o e. offer-holds (fresh_in o) e) (all-hold (λ o. offer_ready (offer_in o)) os o.0));
-      offers-rise = pairwise_map fresh_in (λ o p l. l) (rise-holds (λ o. o.holder.number) os o.1);
+      offers-rise = pairwise_map fresh_in (λ o p l. l) (rise-holds offer_number os o.1);
       executions = all-mapped execution_in (all_map (λ x e. execution-holds (execution_in x) e) (all-hold (λ x. execution_ready (execution_in x)) xs x.0));
-      executions-rise = pairwise_map execution_in (λ x y l. l) (rise-holds (λ x. x.holder.number) xs x.1);
+      executions-rise = pairwise_map execution_in (λ x y l. l) (rise-holds execution_number xs x.1);
       home = home-holds h.capacities k.0;
       capacities = capacities-hold h.capacities k.1;
     }
 
 -- an hour that is ready passes it
 pub ready-told : (h : Hour) → Ready h → is_ready h ≡ true
-unfolding is_ready hour_in offers_ready executions_ready capacities_ready offer_ready
+unfolding is_ready hour_in lodged_ready capacities_ready offer_ready
 ready-told h r =
     let os = h.offers.items in
     let xs = h.executions.items in
@@ -220,9 +218,9 @@ ready-told h r =
       le-leb (length os) 64 r.offering,
       le-leb (length os + length xs) 128 r.room,
       all-told (λ o. offer_ready (offer_in o)) (all_map (λ o e. offer-told (fresh_in o) e) (all-unmapped fresh_in os r.offers)),
-      rise-told (λ (o : Offer). o.holder.number) (pairwise-unmapped fresh_in os r.offers-rise),
+      rise-told offer_number (pairwise-unmapped fresh_in os r.offers-rise),
       all-told (λ x. execution_ready (execution_in x)) (all_map (λ x e. execution-told (execution_in x) e) (all-unmapped execution_in xs r.executions)),
-      rise-told (λ (x : Execution). x.holder.number) (pairwise-unmapped execution_in xs r.executions-rise),
+      rise-told execution_number (pairwise-unmapped execution_in xs r.executions-rise),
       home-told h.capacities r.home,
       capacities-told h.capacities r.home r.capacities,
     )

@@ -35,11 +35,20 @@ capacity_ready None = true
 capacity_ready (Some energy) = leb energy max_energy
 
 -- by rising lodging number, each in its ranges
-unfoldable pub offers_ready : List Offer → Bool
-offers_ready os = list_all (λ o. offer_ready (offer_in o)) os && rises (map (λ o. o.holder.number) os)
+unfoldable pub lodged_ready : {A : Type 0} → (A → Bool) → (A → ℕ) → List A → Bool
+lodged_ready ready number xs = list_all ready xs && rises (map number xs)
 
-unfoldable pub executions_ready : List Execution → Bool
-executions_ready xs = list_all (λ x. execution_ready (execution_in x)) xs && rises (map (λ x. x.holder.number) xs)
+abbrev pub offer_number : Offer → ℕ
+offer_number o = o.holder.number
+
+abbrev pub execution_number : Execution → ℕ
+execution_number x = x.holder.number
+
+abbrev pub offers_ready : List Offer → Bool
+offers_ready os = lodged_ready (λ o. offer_ready (offer_in o)) offer_number os
+
+abbrev pub executions_ready : List Execution → Bool
+executions_ready xs = lodged_ready (λ x. execution_ready (execution_in x)) execution_number xs
 
 -- no capacity is published of border 0, and those of the four borders are in their range
 unfoldable pub capacities_ready : List (Option ℕ) → Bool

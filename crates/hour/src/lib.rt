@@ -6,7 +6,7 @@ pub mod readiness;
 ghost use Rattle.std.specs.Prelude.{◌≡◌};
 ghost use Rattle.hour.specs.Ready.{is_ready};
 
-use crate::readiness::{capacities_ready, executions_ready, offers_ready};
+use crate::readiness::{all_ready, capacities_ready};
 use arrayvec::ArrayVec;
 use hour_offers::{Execution, Offer};
 use rules::{LODGEMENTS, UNITS};
@@ -43,7 +43,7 @@ pub fn ready(h: &Hour) -> bool
     let executions = h.executions.as_slice();
     offers.len() <= UNITS
         && offers.len() + executions.len() <= LODGEMENTS
-        && offers_ready(offers)
-        && executions_ready(executions)
+        && all_ready(offers)
+        && all_ready(executions)
         && capacities_ready(&h.capacities)
 }

@@ -1,8 +1,8 @@
 // Whether the parts of an hour are such as a session's hours have: what `hour_clear::clear` tests first.
-ghost use Rattle.std.specs.Prelude.{◌≡◌, map, take, is_none};
+ghost use Rattle.std.specs.Prelude.{◌≡◌, ℕ, Bool, map, take, is_none};
 ghost use Rattle.std.specs.List.{list_all};
 ghost use Rattle.hour_offers.specs.View.{holder_in, offer_in, execution_in};
-ghost use Rattle.hour.specs.Ranges.{holder_ready, offer_ready, execution_ready, offers_ready, executions_ready, rises, capacity_ready, capacities_ready};
+ghost use Rattle.hour.specs.Ranges.{holder_ready, offer_ready, execution_ready, offer_number, execution_number, lodged_ready, rises, capacity_ready, capacities_ready};
 
 use hour_offers::{Execution, Holder, Offer};
 use rules::{MAX_ENERGY, MAX_PRICE};
@@ -18,64 +18,75 @@ fn holder_ready(first: u32, holder: Holder) -> bool
         && !(holder.legacy && holder.border == 0)
 }
 
-// Whether a session can have such an offer in an hour: "Named energies are 1 to 99,999".
-#[tactic(auto, unfolding(crate::specs::Ranges::offer_ready, crate::specs::Ranges::within))]
-fn offer_ready(o: &Offer) -> bool
-    ensures { result ≡ offer_ready (offer_in o.now) }
-{
-    holder_ready(0, o.holder) && o.price <= MAX_PRICE && (1..=MAX_ENERGY).contains(&o.offered)
+// What stands in an hour's list of lodgements: an offer or an execution.
+pub trait Lodged {
+    // its lodging number
+    ghost number: { Self → ℕ };
+
+    // it is one that a session can have in an hour
+    ghost ready: { Self → Bool };
+
+    fn number(&self) -> u32
+        ensures { result ≡ number self.now };
+
+    fn is_ready(&self) -> bool
+        ensures { result ≡ ready self.now };
 }
 
-// Whether a session can have such an execution: "Executions need a border unit."
-#[tactic(auto, unfolding(crate::specs::Ranges::execution_ready, crate::specs::Ranges::within))]
-fn execution_ready(x: &Execution) -> bool
-    ensures { result ≡ execution_ready (execution_in x.now) }
-{
-    holder_ready(1, x.holder) && (1..=MAX_ENERGY).contains(&x.energy)
+impl Lodged for Offer {
+    ghost number = { offer_number };
+
+    ghost ready = { λ o. offer_ready (offer_in o) };
+
+    fn number(&self) -> u32 {
+        self.holder.number
+    }
+
+    // "Named energies are 1 to 99,999".
+    #[tactic(auto, unfolding(crate::specs::Ranges::offer_ready, crate::specs::Ranges::within))]
+    fn is_ready(&self) -> bool {
+        holder_ready(0, self.holder)
+            && self.price <= MAX_PRICE
+            && (1..=MAX_ENERGY).contains(&self.offered)
+    }
 }
 
-// Whether each of some offers is in its ranges.
-fn offers_in_range(offers: &[Offer]) -> bool
-    ensures { result ≡ list_all (λ o. offer_ready (offer_in o)) offers.now }
-{
-    offers.iter().all(|o| offer_ready(o))
+impl Lodged for Execution {
+    ghost number = { execution_number };
+
+    ghost ready = { λ x. execution_ready (execution_in x) };
+
+    fn number(&self) -> u32 {
+        self.holder.number
+    }
+
+    // "Executions need a border unit."
+    #[tactic(auto, unfolding(crate::specs::Ranges::execution_ready, crate::specs::Ranges::within))]
+    fn is_ready(&self) -> bool {
+        holder_ready(1, self.holder) && (1..=MAX_ENERGY).contains(&self.energy)
+    }
 }
 
-// Whether offers are by rising lodging number.
-fn offers_rise(offers: &[Offer]) -> bool
-    ensures { result ≡ rises (map (λ o. o.holder.number) offers.now) }
+// Whether each is one that a session can have.
+fn in_range<L: Lodged>(lodged: &[L]) -> bool
+    ensures { result ≡ list_all L.ready lodged.now }
 {
-    offers.is_sorted_by(|o, p| o.holder.number < p.holder.number)
+    lodged.iter().all(|x| x.is_ready())
 }
 
-// Whether offers are by rising lodging number, each in its ranges.
-#[tactic(auto, unfolding(crate::specs::Ranges::offers_ready))]
-pub fn offers_ready(offers: &[Offer]) -> bool
-    ensures { result ≡ offers_ready offers.now }
+// Whether they are by rising lodging number.
+fn rise<L: Lodged>(lodged: &[L]) -> bool
+    ensures { result ≡ rises (map L.number lodged.now) }
 {
-    offers_in_range(offers) && offers_rise(offers)
+    lodged.is_sorted_by(|x, y| x.number() < y.number())
 }
 
-// Whether each of some executions is in its ranges.
-fn executions_in_range(executions: &[Execution]) -> bool
-    ensures { result ≡ list_all (λ x. execution_ready (execution_in x)) executions.now }
+// Whether offers, or executions, are by rising lodging number, each in its ranges.
+#[tactic(auto, unfolding(crate::specs::Ranges::lodged_ready))]
+pub fn all_ready<L: Lodged>(lodged: &[L]) -> bool
+    ensures { result ≡ lodged_ready L.ready L.number lodged.now }
 {
-    executions.iter().all(|x| execution_ready(x))
-}
-
-// Whether executions are by rising lodging number.
-fn executions_rise(executions: &[Execution]) -> bool
-    ensures { result ≡ rises (map (λ x. x.holder.number) executions.now) }
-{
-    executions.is_sorted_by(|x, y| x.holder.number < y.holder.number)
-}
-
-// Whether executions are by rising lodging number, each in its ranges.
-#[tactic(auto, unfolding(crate::specs::Ranges::executions_ready))]
-pub fn executions_ready(executions: &[Execution]) -> bool
-    ensures { result ≡ executions_ready executions.now }
-{
-    executions_in_range(executions) && executions_rise(executions)
+    in_range(lodged) && rise(lodged)
 }
 
 // Whether a direction's capacity is in its range, where one is published.

@@ -1,6 +1,6 @@
 -- The loops of Share give the rules' Share.
-use Rattle.std.proofs.Common.{◌≡◌, cond, eqb, ltb, min, ℕ, zero, suc, ◌+◌, ◌*◌, ◌-◌, ◌/◌, ◌≤◌, ◌<◌, List, [], ◌∷◌, ◌++◌, map, length, get_or, take, drop, set, replicate, refl, sym, ap, ◌∙◌, append-nil, arith, add-one, drop-cons}
-use native.Mathlib.Nat.{div-zero, zero-div}
+use Rattle.std.proofs.Common.{◌≡◌, cond, eqb, ltb, min, ℕ, zero, suc, ◌+◌, ◌*◌, ◌-◌, ◌/◌, ◌≤◌, ◌<◌, List, [], ◌∷◌, ◌++◌, map, length, get_or, take, drop, set, replicate, refl, sym, ap, ap₂, ◌∙◌, append-nil, arith, add-one, drop-cons}
+use native.Mathlib.Nat.{zero-mul, div-zero, zero-div}
 use lib.ListN.{drop_of_length-le}
 use lib.Seq.{take-suc, take-suc-set, take_all, append_snoc, drop-set-lt}
 use Rattle.std.specs.List.{sum as fold_sum, refill}
@@ -105,6 +105,26 @@ add-assoc [] ls ms = refl
 add-assoc (k ∷ ks) [] ms = refl
 add-assoc (k ∷ ks) (l ∷ ls) [] = refl
 add-assoc (k ∷ ks) (l ∷ ls) (m ∷ ms) = let o : k + l + m ≡ k + (l + m) = omega arith in rw o (ap (λ x. (k + (l + m)) ∷ x) (add-assoc ks ls ms))
+
+-- An excess of 0 takes nothing
+
+none-handed : (G k : ℕ) → k ≡ 0 → (ms : List ℕ) → add_each (map (pro_rata 0 G) ms) (hand_out k ms) ≡ map (λ m. 0) ms
+unfolding add_each hand_out pro_rata
+none-handed G k z [] = refl
+none-handed G k z (m ∷ ms) = rw z (ap₂ (λ (n : ℕ) (l : List ℕ). n ∷ l) (rw (zero-mul m, zero-div G)) (none-handed G 0 refl ms))
+
+pub share_none : (ms : List ℕ) → share 0 ms ≡ map (λ m. 0) ms
+unfolding share
+share_none ms = none-handed (sum ms) (0 - sum (map (pro_rata 0 (sum ms)) ms)) (omega arith) ms
+
+pub add_none : {A : Type 0} (xs : List A) (ls : List ℕ) → length ls ≡ length xs → add_each (map (λ x. 0) xs) ls ≡ ls
+unfolding add_each
+add_none [] ls h = refl
+add_none (x ∷ xs) [] h = absurd (omega arith)
+add_none (x ∷ xs) (l ∷ ls) h = ap₂ (λ (n : ℕ) (r : List ℕ). n ∷ r) (omega arith) (add_none xs ls (omega arith))
+
+pub unshared : (r : ℕ) (ms ds : List ℕ) → r ≡ 0 → length ds ≡ length ms → ds ≡ add_each (share r ms) ds
+unshared r ms ds z e = rw (z, share_none ms) (sym (add_none ms ds e))
 
 -- The pro rata deductions are within their amounts, and come to r at most
 

@@ -96,6 +96,9 @@ pub fn share(excess: u32, amounts: &[u32], deductions: &mut [u32])
 {
     let g = total(amounts);
     let r = excess.min(g);
+    if r == 0 {
+        return;
+    }
     let floored = add_floors(r, g, amounts, deductions);
     hand_out(r - floored, amounts, deductions);
 }

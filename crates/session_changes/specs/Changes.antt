@@ -1,5 +1,5 @@
 -- What calls change of a session.
-use Rattle.std.specs.Prelude.{ℕ, zero, suc, ◌≤◌, ◌<◌, ◌≡◌, Bool, true, List, [], ◌∷◌, set}
+use Rattle.std.specs.Prelude.{ℕ, zero, suc, ◌≤◌, ◌<◌, Bool, true, List, [], ◌∷◌, set}
 use Rattle.session.specs.declared.Notice.{Notice}
 use Rattle.session.specs.declared.Unit.{Unit}
 use Rattle.session.specs.declared.Lodgement.{Lodgement}
@@ -140,9 +140,6 @@ moved zero (suc to) (x ∷ y ∷ l) = y ∷ moved zero to (y ∷ l)
 moved (suc from) zero l = l
 moved (suc from) (suc to) [] = []
 moved (suc from) (suc to) (x ∷ l) = x ∷ moved from to l
-
-abbrev pub moved_in : Session → ℕ → ℕ → Session
-moved_in s from to = with_lodgements s s.standing (moved from to s.lodgements) (moved from to s.energies) s.last
 
 abbrev pub standing_with : Session → StandingChange → Session
 standing_with s c =
