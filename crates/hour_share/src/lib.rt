@@ -1,7 +1,7 @@
 // Share: taking an energy from several amounts pro rata.
 #![tactic(auto)]
 
-ghost use Rattle.std.specs.Prelude.{◌≡◌, ◌*◌, ◌≤◌, ℕ, [], map, min, length, get_or, replicate};
+ghost use Rattle.std.specs.Prelude.{◌≡◌, ◌*◌, ◌≤◌, ℕ, [], map, min, length, get_or, replicate, position, ltb};
 ghost use Rattle.std.specs.Fn.{FnReturnsAt};
 ghost use Rattle.rules.specs.Lists.{All, add_each, sum};
 ghost use Rattle.rules.specs.Units.{max_energy};
@@ -69,20 +69,28 @@ fn add_floors(r: u32, g: u32, amounts: &[u32], deductions: &mut [u32]) -> u32
     floored
 }
 
+// The index of the lowest number with an amount above 0.
+fn next_index(amounts: &[u32]) -> Option<usize>
+    ensures { result ≡ position (ltb 0) amounts.now }
+{
+    amounts.iter().position(|m| 0 < *m)
+}
+
 // "the leftover units go out one each to the lowest lodging numbers with m above 0, and each hand-out leaves the rest to
-// the same rule over the higher numbers".
+// the same rule over the higher numbers": recursive, as document 01 names the form; the number left falls at each call.
 fn hand_out(left: u32, amounts: &[u32], deductions: &mut [u32])
     requires same_length { length deductions.old ≡ length amounts.now }
     requires room { (i : ℕ) → get_or deductions.old i 0 ≤ 9 * max_energy }
     ensures { deductions.new ≡ add_each deductions.old (hand_out left amounts.now) }
 {
-    let mut rest = left;
-    for (i, m) in amounts.iter().enumerate() {
-        if 0 < *m && 0 < rest {
-            deductions[i] += 1;
-            rest -= 1;
-        }
+    if left == 0 {
+        return;
     }
+    let Some(i) = next_index(amounts) else {
+        return;
+    };
+    deductions[i] += 1;
+    hand_out(left - 1, &amounts[i + 1..], &mut deductions[i + 1..]);
 }
 
 // To take an excess from amounts: what each of them loses, "the lesser of the excess and" their sum being taken, added to what it loses
