@@ -121,7 +121,8 @@ impl<'a> Closing<'a> {
         requires { at < self.old.standing.session.now.standing }
         ensures session { self.new.standing ≡ self.old.standing }
         ensures closing_at { let s = self.old.standing.session.now in (b : Book) → Sound b → s ≡ image b
-            → ClosingAt s b (number_of class) (at + 1) self.old.verdicts self.old.room.items → ClosingAt s b (number_of class) at self.new.verdicts self.new.room.items }
+            → ClosingAt s b (number_of class) (at + 1) self.old.verdicts self.old.room.items
+            → ClosingAt s b (number_of class) at self.new.verdicts self.new.room.items }
     {
         let session = self.standing.session;
         if !takes(session, class, &session.lodgements[at]) {
@@ -145,7 +146,8 @@ impl<'a> Closing<'a> {
     pub fn pass(&mut self, class: Class)
         ensures session { self.new.standing ≡ self.old.standing }
         ensures closing_at { let s = self.old.standing.session.now in (b : Book) → Sound b → s ≡ image b
-            → ClosingAt s b (number_of class) s.standing self.old.verdicts self.old.room.items → ClosingAt s b (number_of class) 0 self.new.verdicts self.new.room.items }
+            → ClosingAt s b (number_of class) s.standing self.old.verdicts self.old.room.items
+            → ClosingAt s b (number_of class) 0 self.new.verdicts self.new.room.items }
     {
         let mut others = ArrayVec::new();
         for at in (0..self.standing.session.standing).rev() {
