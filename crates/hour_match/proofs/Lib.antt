@@ -1,6 +1,7 @@
 pub mod SortLaws
 pub mod ViewLaws
 pub mod OrderLaws
+mod NameLaws
 pub mod KeyLaws
 pub mod WalkLaws
 pub mod TurnLaws

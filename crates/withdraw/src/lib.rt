@@ -46,7 +46,7 @@ fn step(
     withdraw_keep::keep_matched(abroad, over);
     withdraw_take::take_from(abroad, over, group);
     abroad::put(offers, places, abroad);
-    let volume = hour_match::match_offers(offers, sales, purchases);
+    let volume = hour_match::match_named(offers, sales, purchases);
     abroad::renew(abroad, offers, places);
     volume
 }

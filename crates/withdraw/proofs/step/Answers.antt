@@ -25,14 +25,14 @@ put-requires-clause-same_length c =
     sym (length-map c.take_from.new.offers offer_in)
     ∙ taken-length c.args.over.now c.requires.laid c.requires.places c.requires.abroad c.keep_matched.ensures.kept (group_in c.choose-group.result) c.take_from.ensures.taken
 
-pub match_offers-volume-requires-clause-energies : goal.match_offers-volume-requires-clause-energies
-match_offers-volume-requires-clause-energies c =
+pub match_named-volume-requires-clause-energies : goal.match_named-volume-requires-clause-energies
+match_named-volume-requires-clause-energies c =
     again-ranged c.args.over.now c.requires.laid c.requires.places c.requires.abroad c.keep_matched.ensures.kept (group_in c.choose-group.result) c.take_from.ensures.taken
     (ap offers_in c.put.ensures ∙ map-put offer_in c.args.places.now c.take_from.new.offers c.args.offers.now)
 
 pub renew-requires-clause-names : goal.renew-requires-clause-names
 renew-requires-clause-names c =
-    let n = c.match_offers-volume.auto.offers in
+    let n = c.match_named-volume.auto.offers in
     let m = c.put.auto.offers in
     places-named (offers_in c.args.offers.now) c.requires.places c.requires.laid.sound.few (omega (arith, length-map c.args.offers.now offer_in))
 
@@ -48,7 +48,7 @@ returns c =
     let s =
     step-again a.over.now l c.requires.places c.requires.abroad c.keep_matched.ensures.kept (group_in c.choose-group.result) c.take_from.ensures.taken
     (ap offers_in c.put.ensures ∙ map-put offer_in a.places.now c.take_from.new.offers a.offers.now)
-    c.choose-group.ensures c.match_offers-volume.ensures in
+    c.choose-group.ensures c.match_named-volume.ensures in
     record {
       stepped = s;
       places_after = places-after a.over.now l c.requires.places c.requires.abroad s.lowered;
