@@ -1,16 +1,14 @@
 -- The ways out of a call, by its step.
 use Prim.Native.Nat.{ℕ}
-use mathlib.Core.Path.{◌≡◌, refl, sym, ap, ◌∙◌}
+use mathlib.Core.Path.{◌≡◌, refl}
 use mathlib.Core.Bool.{false}
-use mathlib.Core.Option.{some, none}
 use Rattle.std.specs.declared.result.Result.{Result}
 use Rattle.std.specs.declared.result.Result.TheVariants.{Ok, Err}
-use Rattle.rules.specs.Refusals.{first_row}
 use Rattle.rules.specs.DayBook as D
 use Rattle.answer.specs.declared.Refusal.{Refusal}
 use Rattle.session.specs.declared.Session.{Session}
 use Rattle.session.specs.Steps.{Met}
-use Rattle.session.specs.Parts.{within, JudgesBy, by_refusal, given_by, refused_by, Entered}
+use Rattle.session.specs.Parts.{within, JudgesBy, by_refusal, Entered}
 use Rattle.session.proofs.StepLaws.{out-unsound, out-refused, out-entered}
 use Rattle.session_changes.specs.Effects.{effect_of, done}
 use Rattle.session_changes.specs.declared.Step.{Step}
