@@ -125,11 +125,7 @@ pub fn numbers_at(p: &[u8], i: usize) -> [u32; HOURS]
     requires { i ≤ 1000 }
     ensures { result ≡ numbers_at p.now i }
 {
-    let mut energies = [0u32; HOURS];
-    for (k, energy) in energies.iter_mut().enumerate() {
-        *energy = number_at(p, i + k * 4);
-    }
-    energies
+    std::array::from_fn(|k| number_at(p, i + k * 4))
 }
 
 // The unit that a registration is for.
@@ -177,21 +173,9 @@ fn direction_at(p: &[u8], i: usize) -> Published
     }
 }
 
-const NO_DIRECTION: Published = Published {
-    count: 0,
-    published: false,
-    reserved: 0,
-    reserved2: 0,
-    energies: [0; HOURS],
-};
-
 // A capacity notice's directions.
 pub fn directions_of(p: &[u8]) -> [Published; DIRECTIONS]
     ensures { capacities_in result ≡ directions_of p.now }
 {
-    let mut directions = [NO_DIRECTION; DIRECTIONS];
-    for (k, direction) in directions.iter_mut().enumerate() {
-        *direction = direction_at(p, k * 105);
-    }
-    directions
+    std::array::from_fn(|k| direction_at(p, k * 105))
 }

@@ -1,1 +1,2 @@
+mod SlotLaws
 mod SumLaws

@@ -54,7 +54,8 @@ fn line_row(border: u32) -> usize
 pub fn line_of(lines: &Lines, border: u32) -> [u64; HOURS]
     ensures { (cs : List Notice) → LinesOf cs lines.now → (h : ℕ) → h < 25 → get_or result h 0 ≡ line_at cs border h }
 {
-    lines[line_row(border)].map(u64::from)
+    let line = &lines[line_row(border)];
+    array::from_fn(|h| u64::from(line[h]))
 }
 
 // The least of the limits in the hour at index h: "without one, the maximum is available".

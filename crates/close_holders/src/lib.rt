@@ -9,8 +9,8 @@ use rules::LODGEMENTS;
 use session::units::index;
 use session::{Lodgement, Unit};
 
-// For each last byte of a number, the index of the first unit whose number ends in it. One look there in place of a search through
-// the units for each lodgement: closing would be slower by a fourth without it.
+// For each last byte of a number, the index of the first unit whose number ends in it. It keeps closing fast: one look there in place of a
+// search through the units for each lodgement.
 fn firsts_of(units: &[Unit]) -> [Option<usize>; 256]
     ensures { Firsts units.now result }
 {

@@ -1,22 +1,27 @@
 -- What is counted beside a lodgement: marks by index, and the indices of units.
 use Prim.Native.Nat.{ℕ, zero, suc, ◌+◌, ◌<◌}
 use mathlib.Core.Path.{◌≡◌, refl, sym, ap, ◌∙◌}
-use mathlib.Core.Bool.{Bool, true, false, cond, ◌&&◌}
+use mathlib.Core.Bool.{Bool, true, false, cond, ◌&&◌, ◌||◌}
 use mathlib.Core.List.{List, [], ◌∷◌, map}
 use native.Mathlib.Omega.{arith}
-use lib.Dec.{eqb}
-use lib.ListN.{length, get_or}
-use borrow.Author.Tests.{eqb-true, eqb-false, eq-eqb, ne_eqb}
+use lib.Dec.{eqb, ltb}
+use lib.ListN.{length, get_or, set, replicate, length-map, length-replicate, get_or-replicate, get_or-eq_default}
+use lib.Seq.{ext_get_or, get_or-set_same, get_or-set_other}
+use borrow.Author.Tests.{eqb-true, eqb-false, eq-eqb, ne_eqb, ltb-true, ltb-false}
 use Rattle.rules.specs.Lists.{from}
 use Rattle.rules.specs.Closing as C
-use Rattle.rules.proofs.BoolLaws.{by_bool}
+use Rattle.rules.proofs.BoolLaws.{by_bool, not-both}
 use Rattle.session.specs.Image.{verdict_as, no_verdict, no_unit}
 use Rattle.session.specs.Parts.{index_of, number_is}
 use Rattle.session.specs.declared.Unit.{Unit}
 use Rattle.session.specs.declared.Verdict.{Verdict}
 use Rattle.judge_loads.specs.Loads.{marked}
-use Rattle.close_judge.specs.Classes.{held_at, is_at}
-use Rattle.std.specs.Prelude.{None}
+use Rattle.judge_loads.proofs.MarkLaws.{marked-nothing}
+use Rattle.std.proofs.lemmas.Option.{cond_some}
+use Rattle.judge_loads.proofs.LoadLaws.{and-false}
+use Rattle.close_judge.specs.Classes.{held_at, accepted_for, Used}
+use Rattle.std.specs.Prelude.{Some, None}
+use Rattle.std.specs.Option.{option_eq}
 use Rattle.std.specs.declared.option.Option as O
 use Rattle.session.proofs.IndexLaws.{get_or-map}
 
@@ -86,6 +91,42 @@ marked-same (c ∷ cs) (b ∷ bs) (x ∷ xs) l f =
     rw (q, marked-same cs bs xs (omega arith) (λ j k. f (suc j) (omega arith)))
 
 -- whether an index is held
-pub held-is : (p : ℕ) (vs : List Verdict) (holders : List (O.Option ℕ)) (l : ℕ) → l < 128 → get_or (map (held_at p vs holders) (from 0 128)) l false ≡ ((get_or vs l no_verdict).accepted && is_at p (get_or holders l None))
+module _ (p : ℕ) (vs : List Verdict) (holders : List (O.Option ℕ)) (l : ℕ) (h : l < 128) where
+  held-is : get_or (map (held_at p vs holders) (from 0 128)) l false ≡ held_at p vs holders l
+  held-is = indices-at (held_at p vs holders) 128 false l h
+
+  pub not-accepted : (get_or vs l no_verdict).accepted ≡ false → get_or (map (held_at p vs holders) (from 0 128)) l false ≡ false
+  unfolding held_at
+  not-accepted e = held-is ∙ rw e
+
+  pub not-holder : option_eq eqb (get_or holders l None) (Some p) ≡ false → get_or (map (held_at p vs holders) (from 0 128)) l false ≡ false
+  unfolding held_at
+  not-holder e = held-is ∙ rw e (and-false (get_or vs l no_verdict).accepted false refl)
+
+  pub held_on : (get_or vs l no_verdict).accepted ≡ true → option_eq eqb (get_or holders l None) (Some p) ≡ true → get_or (map (held_at p vs holders) (from 0 128)) l false ≡ true
+  unfolding held_at
+  held_on e q = held-is ∙ rw (e, q)
+
+-- Units of which a lodgement is accepted
+
+pub used_start : (v : Verdict) (holders : List (O.Option ℕ)) (used : List Bool) → v ≡ no_verdict → Used (replicate 128 v) holders used
+used_start v holders used e j q t h = not-both t (by_bool (ltb j 128)
+    (λ l. ap (λ (x : Verdict). x.accepted) (get_or-replicate 128 j v no_verdict (ltb-true j 128 l) ∙ e))
+    (λ l. ap (λ (x : Verdict). x.accepted) (get_or-eq_default (replicate 128 v) no_verdict {n = j} (omega (arith, ltb-false j 128 l, length-replicate 128 v)))))
+
+-- of another none counts
+pub none-accepted : (p : ℕ) (vs : List Verdict) (holders : List (O.Option ℕ)) (used : List Bool) → Used vs holders used → get_or used p false ≡ false → [] ≡ accepted_for p vs holders
 unfolding held_at
-held-is p vs holders l h = indices-at (held_at p vs holders) 128 false l h
+none-accepted p vs holders used f u = sym (ap (λ bs. marked bs (from 0 (length holders))) blank ∙ marked-nothing 128 (from 0 (length holders)))
+  where
+    counts_not : (r : O.Option ℕ) → ((q : ℕ) → r ≡ Some q → get_or used q false ≡ true) → option_eq eqb r (Some p) ≡ false
+    counts_not None g = refl
+    counts_not (Some q) g = ne_eqb q p (λ n. not-both (rw n at (g q refl)) u)
+
+    none : (j : ℕ) → held_at p vs holders j ≡ false
+    none j = by_bool (get_or vs j no_verdict).accepted (λ a. rw (a, counts_not (get_or holders j None) (λ q b. f j q a b))) (λ a. rw a)
+
+    blank : map (held_at p vs holders) (from 0 128) ≡ replicate 128 false
+    blank = ext_get_or false (map (held_at p vs holders) (from 0 128)) (replicate 128 false) (length-map (from 0 128) (held_at p vs holders) ∙ length_from 0 128 ∙ sym (length-replicate 128 false))
+        (λ j m. let in_list : j < 128 = omega (arith, length-map (from 0 128) (held_at p vs holders), length_from 0 128) in
+        indices-at (held_at p vs holders) 128 false j in_list ∙ (none j ∙ sym (get_or-replicate 128 j false false in_list)))

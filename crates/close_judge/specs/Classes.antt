@@ -1,6 +1,9 @@
 -- How far a closing has come, and what the session's verdicts are there.
-use Rattle.std.specs.Prelude.{ℕ, ◌+◌, ◌≡◌, Bool, true, false, not, ◌&&◌, ◌||◌, List, [], map, ltb, leb, eqb, get_or, take, Some, None}
+use Rattle.std.specs.Prelude.{ℕ, ◌+◌, ◌≡◌, Bool, true, false, not, ◌&&◌, ◌||◌, List, [], map, ltb, leb, eqb, length, get_or, take, Some, None}
+use Rattle.rules.specs.Lists.{from}
+use Rattle.judge_loads.specs.Loads.{marked}
 use Rattle.std.specs.declared.option.Option as O
+use Rattle.std.specs.Option.{option_eq}
 use Rattle.rules.specs.Lodging as L
 use Rattle.rules.specs.Book.{Book}
 use Rattle.rules.specs.Closing as C
@@ -71,16 +74,17 @@ counts_on unit v l = v.accepted && eqb l.key.unit unit
 unfoldable pub counts_at : ℕ → List Verdict → List Lodgement → ℕ → Bool
 counts_at unit vs ls j = counts_on unit (get_or vs j no_verdict) (get_or ls j no_lodgement)
 
--- whether a unit is found at an index
-abbrev pub is_at : ℕ → O.Option ℕ → Bool
-is_at p = elim [
-  | None ↦ false
-  | Some q ↦ eqb q p
-]
-
 -- the same by the index of the unit
 unfoldable pub held_at : ℕ → List Verdict → List (O.Option ℕ) → ℕ → Bool
-held_at p vs holders j = (get_or vs j no_verdict).accepted && is_at p (get_or holders j None)
+held_at p vs holders j = (get_or vs j no_verdict).accepted && option_eq eqb (get_or holders j None) (Some p)
+
+-- the indices of those that are held
+abbrev pub accepted_for : ℕ → List Verdict → List (O.Option ℕ) → List ℕ
+accepted_for p vs holders = marked (map (held_at p vs holders) (from 0 128)) (from 0 (length holders))
+
+-- the units of which a lodgement is accepted are marked
+abbrev pub Used : List Verdict → List (O.Option ℕ) → List Bool → Type 0
+Used vs holders used = (j q : ℕ) → (get_or vs j no_verdict).accepted ≡ true → get_or holders j None ≡ Some q → get_or used q false ≡ true
 
 -- a judgement by the limits as a verdict
 unfoldable pub verdict_by : Option (ℕ × ℕ) → Verdict

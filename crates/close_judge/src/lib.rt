@@ -1,15 +1,15 @@
 // One lodgement's verdict at closing (document 01, "Closing").
 #![tactic(auto)]
 
-ghost use Rattle.std.specs.Prelude.{◌≡◌, false, ◌&&◌, map, ℕ, ◌<◌, ◌≤◌, get_or, take, length, Some, None};
-ghost use Rattle.rules.specs.Lists.{from};
-ghost use Rattle.judge_loads.specs.Loads.{IndicesIn, marked, load_by};
+ghost use Rattle.std.specs.Prelude.{◌≡◌, false, List, ℕ, ◌<◌, ◌≤◌, get_or, take, length, Some, None};
+ghost use Rattle.judge_loads.specs.Loads.{IndicesIn, load_by};
 ghost use Rattle.judge_limits.specs.Limits.{judged_in};
 ghost use Rattle.close_ceilings.specs.Ceilings.{LinesOf};
 ghost use Rattle.session.specs.Bare.{bare_notice, bare_energies};
 ghost use Rattle.session.specs.Image.{no_unit};
 ghost use Rattle.session.specs.Parts.{Within, said};
-ghost use Rattle.close_judge.specs.Classes.{HoldersOf, is_at, held_at, verdict_by, accepting, JudgesAt};
+ghost use Rattle.session.specs.declared.Verdict.{Verdict};
+ghost use Rattle.close_judge.specs.Classes.{HoldersOf, accepted_for, verdict_by, accepting, JudgesAt};
 
 use answer::Refusal;
 use arrayvec::ArrayVec;
@@ -66,13 +66,6 @@ pub fn accepted() -> Verdict
     verdict_by(Ok(()))
 }
 
-// Whether a lodgement, by its verdict and the index of its unit, is accepted and of the unit at index p.
-fn is_held(verdict: &Verdict, holder: Option<usize>, p: usize) -> bool
-    ensures { result ≡ (verdict.now.accepted && is_at p holder) }
-{
-    verdict.accepted && holder == Some(p)
-}
-
 impl<'a> Standing<'a> {
     pub fn of(session: &'a Session) -> Standing<'a>
         requires { Within session.now }
@@ -90,18 +83,21 @@ impl<'a> Standing<'a> {
 
     // "those accepted before it on its unit": the indices of those that are accepted and of the unit at index p are put into `others`,
     // so that no judgement makes a list of its own.
-    fn put_accepted(
+    pub fn put_accepted(
         &self,
         verdicts: &[Verdict; LODGEMENTS],
         p: usize,
         others: &mut ArrayVec<usize, LODGEMENTS>,
     )
-        ensures { let hs = self.now.holders.items in
-            others.new.items ≡ marked (map (held_at p verdicts.now hs) (from 0 128)) (from 0 (length hs)) }
+        ensures accepted { others.new.items ≡ accepted_for p verdicts.now self.now.holders.items }
+        ensures indices { IndicesIn self.now.energies.now others.new.items }
     {
         others.clear();
         for (i, holder) in self.holders.iter().enumerate() {
-            if !is_held(&verdicts[i], *holder, p) {
+            if !verdicts[i].accepted {
+                continue;
+            }
+            if *holder != Some(p) {
                 continue;
             }
             others.push(i);
@@ -138,19 +134,13 @@ impl<'a> Standing<'a> {
     }
 
     // The verdict of the lodgement at an index, of the unit at index p: "its energy, plus that of those accepted before it on its unit",
-    // against the limits of its unit.
-    pub fn judge(
-        &self,
-        verdicts: &[Verdict; LODGEMENTS],
-        at: usize,
-        p: usize,
-        others: &mut ArrayVec<usize, LODGEMENTS>,
-    ) -> Verdict
+    // which are the others, against the limits of its unit.
+    pub fn judge(&self, at: usize, p: usize, others: &[usize]) -> Verdict
         requires standing { at < self.now.session.now.standing }
         requires holder { get_or self.now.holders.items at None ≡ Some p }
-        ensures { JudgesAt self.now.session.now verdicts.now at result }
+        requires others { IndicesIn self.now.energies.now others.now }
+        ensures { (vs : List Verdict) → others.now ≡ accepted_for p vs self.now.holders.items → JudgesAt self.now.session.now vs at result }
     {
-        self.put_accepted(verdicts, p, others);
         let judged = self.judge_limits(at, p, others);
         verdict_by(judged)
     }

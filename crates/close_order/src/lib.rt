@@ -1,10 +1,12 @@
 // The order of closing: its three classes, and within each the latest number first.
 #![tactic(auto)]
 
-ghost use Rattle.std.specs.Prelude.{◌≡◌, ℕ, ◌+◌, ◌<◌, get_or, length};
+ghost use Rattle.std.specs.Prelude.{◌≡◌, ℕ, ◌+◌, ◌<◌, get_or, set, length, Some, None};
 ghost use Rattle.rules.specs.Book.{Book};
 ghost use Rattle.session.specs.Image.{image, Sound, no_lodgement};
 ghost use Rattle.session.specs.Parts.{Within};
+ghost use Rattle.judge_loads.specs.Loads.{IndicesIn};
+ghost use Rattle.close_judge.specs.Classes.{Used, accepted_for};
 ghost use Rattle.close_order.specs.Passes.{class_in, number_of, TakesAt, ClosingAt};
 
 pub mod room;
@@ -61,6 +63,9 @@ pub struct Closing<'a> {
     pub standing: Standing<'a>,
     pub room: ArrayVec<[u32; HOURS], UNITS>,
     pub verdicts: [Verdict; LODGEMENTS],
+    // The units of which a lodgement is accepted: of another none is looked for.
+    pub used: [bool; UNITS],
+    pub ghost marked: { Used verdicts standing.holders.items used },
     pub ghost full: { length verdicts ≡ 128 },
     pub ghost rows: { length room.items ≡ standing.session.now.enrolled },
 }
@@ -80,7 +85,34 @@ impl<'a> Closing<'a> {
             standing,
             room,
             verdicts: [no_verdict(); LODGEMENTS],
+            used: [false; UNITS],
         }
+    }
+
+    // "those accepted before it on its unit": their indices.
+    fn put_accepted(&self, p: usize, others: &mut ArrayVec<usize, LODGEMENTS>)
+        requires { p < 64 }
+        ensures accepted { others.new.items ≡ accepted_for p self.now.verdicts self.now.standing.holders.items }
+        ensures indices { IndicesIn self.now.standing.energies.now others.new.items }
+    {
+        if !self.used[p] {
+            others.clear();
+            return;
+        }
+        self.standing.put_accepted(&self.verdicts, p, others);
+    }
+
+    // The verdict of the lodgement at an index, of the unit at index p, is given.
+    fn give(&mut self, at: usize, p: usize, verdict: Verdict)
+        requires standing { at < 128 }
+        requires unit { p < 64 }
+        requires holder { get_or self.old.standing.holders.items at None ≡ Some p }
+        ensures session { self.new.standing ≡ self.old.standing }
+        ensures room { self.new.room ≡ self.old.room }
+        ensures verdicts { self.new.verdicts ≡ set self.old.verdicts at verdict }
+    {
+        self.verdicts[at] = verdict;
+        self.used[p] |= verdict.accepted;
     }
 
     // The lodgement at an index, if it is of the class, judged with what was accepted before it. One that the room under its unit's
@@ -89,7 +121,8 @@ impl<'a> Closing<'a> {
         requires { at < self.old.standing.session.now.standing }
         ensures session { self.new.standing ≡ self.old.standing }
         ensures closing_at { let s = self.old.standing.session.now in (b : Book) → Sound b → s ≡ image b
-            → ClosingAt s b (number_of class) (at + 1) self.old.verdicts self.old.room.items → ClosingAt s b (number_of class) at self.new.verdicts self.new.room.items }
+            → ClosingAt s b (number_of class) (at + 1) self.old.verdicts self.old.room.items
+            → ClosingAt s b (number_of class) at self.new.verdicts self.new.room.items }
     {
         let session = self.standing.session;
         if !takes(session, class, &session.lodgements[at]) {
@@ -101,18 +134,20 @@ impl<'a> Closing<'a> {
         };
         let own = &self.standing.energies[at].energies[..session.hours as usize];
         if admits(&mut self.room[p], own) {
-            self.verdicts[at] = accepted();
+            self.give(at, p, accepted());
             return;
         }
-        let verdict = self.standing.judge(&self.verdicts, at, p, others);
-        self.verdicts[at] = verdict;
+        self.put_accepted(p, others);
+        let verdict = self.standing.judge(at, p, others);
+        self.give(at, p, verdict);
     }
 
     // One class, from its last index to its first: "latest number first".
     pub fn pass(&mut self, class: Class)
         ensures session { self.new.standing ≡ self.old.standing }
         ensures closing_at { let s = self.old.standing.session.now in (b : Book) → Sound b → s ≡ image b
-            → ClosingAt s b (number_of class) s.standing self.old.verdicts self.old.room.items → ClosingAt s b (number_of class) 0 self.new.verdicts self.new.room.items }
+            → ClosingAt s b (number_of class) s.standing self.old.verdicts self.old.room.items
+            → ClosingAt s b (number_of class) 0 self.new.verdicts self.new.room.items }
     {
         let mut others = ArrayVec::new();
         for at in (0..self.standing.session.standing).rev() {

@@ -16,7 +16,7 @@ ghost use Rattle.notify_unavailability.specs.Notices.{available_in};
 ghost use Rattle.notify_capacity.specs.Capacities.{capacity_in};
 ghost use Rattle.query.specs.Replies.{Answered};
 
-use answer::{ClockName, Refusal, Response};
+use answer::{ClockName, Response};
 use calendar::{Clock, Date};
 use message::{Fields, Reading, Written};
 use notify_capacity::Capacities;
@@ -121,20 +121,13 @@ pub extern "C" fn gate_capacity(s: &mut Session, notice: Capacities) -> Response
     perform(s, notice)
 }
 
-// Lodges a message: 2, 3, 4, 5, 6, 9, 10, 11, 12. The energies that it is judged with are read through the reference: a step by
-// value would copy them all.
+// Lodges a message: 2, 3, 4, 5, 6, 9, 10, 11, 12.
 #[unsafe(no_mangle)]
 pub extern "C" fn gate_lodge(s: &mut Session, message: &[u8]) -> Response
     ensures { Met s.old (lodge message.now) (record { session = s.new; answer = result }) }
 {
-    match lodge_pending::pend(*s, message) {
-        Ok(p) => {
-            let judged = gate_store::judge(s, p);
-            let step = lodge::lodge::lodge_change(*s, p, judged);
-            settle(s, step)
-        }
-        Err(row) => Response::from(Refusal::from(row)),
-    }
+    let step = lodge::lodge::lodge_change(s, message);
+    settle(s, step)
 }
 
 // Annuls the lodgement of a key: 2, 5, 6, 13.

@@ -17,7 +17,7 @@ use Rattle.rules.specs.Borders.{Directed, Execution as RuleExecution, runs}
 use Rattle.rules.specs.Clearing as C
 use Rattle.rules.proofs.BoolLaws.{by_bool}
 use Rattle.rules.proofs.ListLaws.{all_keep, keep_same}
-use Rattle.rules.proofs.IndexLaws.{from_all, map-all}
+use Rattle.rules.proofs.IndexLaws.{from_all, from-at, map-all}
 use Rattle.hour_offers.specs.declared.Offer.{Offer}
 use Rattle.hour_offers.specs.declared.Execution.{Execution}
 use Rattle.hour_offers.specs.View.{offers_in, executions_in}
@@ -32,18 +32,7 @@ use Rattle.hour.proofs.ReadyLaws.{energy-of}
 -- What stands in an array of ten made by index
 
 pub ten-at : {A : Type 0} (f : ℕ → A) (d : A) (w : ℕ) → w < 10 → get_or (map f (from 0 10)) w d ≡ f w
-unfolding from
-ten-at f d zero l = refl
-ten-at f d (suc zero) l = refl
-ten-at f d (suc (suc zero)) l = refl
-ten-at f d (suc (suc (suc zero))) l = refl
-ten-at f d (suc (suc (suc (suc zero)))) l = refl
-ten-at f d (suc (suc (suc (suc (suc zero))))) l = refl
-ten-at f d (suc (suc (suc (suc (suc (suc zero)))))) l = refl
-ten-at f d (suc (suc (suc (suc (suc (suc (suc zero))))))) l = refl
-ten-at f d (suc (suc (suc (suc (suc (suc (suc (suc zero)))))))) l = refl
-ten-at f d (suc (suc (suc (suc (suc (suc (suc (suc (suc zero))))))))) l = refl
-ten-at f d (suc (suc (suc (suc (suc (suc (suc (suc (suc (suc w)))))))))) l = absurd (omega arith)
+ten-at f d w l = let o : 0 + w ≡ w = omega arith in from-at f d 0 10 w l ∙ ap f o
 
 -- an array of ten that has f at each index
 ten-same : {A : Type 0} (f : ℕ → A) (d : A) (a : List A) → length a ≡ 10 → ((w : ℕ) → w < 10 → get_or a w d ≡ f w) → a ≡ map f (from 0 10)

@@ -3,7 +3,6 @@ use Prim.Native.Nat.{ℕ, suc, ◌+◌, ◌-◌, ◌/◌, ◌≤◌, ◌<◌, mi
 use mathlib.Core.Path.{◌≡◌, refl, ap, ap₂, sym, ◌∙◌}
 use mathlib.Core.Bool.{Bool, cond}
 use mathlib.Core.List.{List, [], ◌∷◌, ◌++◌, map, map-map, map-append, append-nil}
-use native.Mathlib.Nat.{zero-mul, zero-div}
 use native.Mathlib.Numerals.{add-one}
 use native.Mathlib.Omega.{arith}
 use lib.Dec.{ltb}
@@ -12,8 +11,8 @@ use lib.Seq.{take-suc-set, take_all, append_snoc, drop-cons, drop-set-lt}
 use borrow.Author.Tests.{ltb-false}
 use Rattle.std.specs.Prelude.{Option, None, Some, is_some}
 use Rattle.std.specs.Option.{unwrap_or}
-use Rattle.rules.specs.Lists.{All, none, more, Each, each0, each, keep, sum, add_each}
-use Rattle.rules.specs.Share.{pro_rata, hand_out, share}
+use Rattle.rules.specs.Lists.{All, none, more, Each, each0, each, keep, add_each}
+use Rattle.rules.specs.Share.{share}
 use Rattle.rules.specs.Match.{Offer, Holder}
 use Rattle.rules.specs.Borders.{Directed, Execution, at_border, keeps}
 use Rattle.rules.specs.Executions.{bilateral_excess, cuts, all_cuts, less_each}
@@ -29,6 +28,7 @@ use Rattle.hour_offers.specs.Sound.{ExecutionInRange}
 use Rattle.hour_offers.specs.View.{execution_in, executions_in}
 use Rattle.hour_share.specs.declared.Amount.{Amount}
 use Rattle.hour_share.specs.Deductions.{energy_in, deductions_in, deductions_over, deductions_from}
+use Rattle.hour_share.proofs.Laws.{share_none, add_none}
 use Rattle.hour_borders.specs.Ways.{directed, energies_of, published_in}
 use Rattle.hour_borders.specs.Flows.{amount_of, MarketFlows, ExecutionFlows}
 use Rattle.hour_borders.specs.Limits.{across_of, excess_in}
@@ -45,21 +45,6 @@ pub enough-kept : (os : List Offer) (xs ys : List Execution) {cs : List Directed
 enough-kept os xs ys = all_map (λ c k. k.enough)
 
 -- A direction with no excess takes nothing
-
-none-handed : (G k : ℕ) → k ≡ 0 → (ms : List ℕ) → add_each (map (pro_rata 0 G) ms) (hand_out k ms) ≡ map (λ m. 0) ms
-unfolding add_each hand_out pro_rata
-none-handed G k z [] = refl
-none-handed G k z (m ∷ ms) = rw z (ap₂ (λ (n : ℕ) (l : List ℕ). n ∷ l) (rw (zero-mul m, zero-div G)) (none-handed G 0 refl ms))
-
-share-none : (ms : List ℕ) → share 0 ms ≡ map (λ m. 0) ms
-unfolding share
-share-none ms = none-handed (sum ms) (0 - sum (map (pro_rata 0 (sum ms)) ms)) (omega arith) ms
-
-add_none : {A : Type 0} (xs : List A) (ls : List ℕ) → length ls ≡ length xs → add_each (map (λ x. 0) xs) ls ≡ ls
-unfolding add_each
-add_none [] ls h = refl
-add_none (x ∷ xs) [] h = absurd (omega arith)
-add_none (x ∷ xs) (l ∷ ls) h = ap₂ (λ (n : ℕ) (r : List ℕ). n ∷ r) (omega arith) (add_none xs ls (omega arith))
 
 add-length : (ks ls : List ℕ) → length ks ≡ length ls → length (add_each ks ls) ≡ length ls
 unfolding add_each
@@ -80,7 +65,7 @@ module _ (os : List Offer) (xs : List Execution) where
   cut-none : (c : Directed) {cs : List Directed} → bilateral_excess os xs c ≡ 0 → All (Enough os xs) cs → all_cuts os xs (c ∷ cs) ≡ all_cuts os xs cs
   unfolding all_cuts cuts
   cut-none c {cs} z t =
-      rw z (ap (λ l. add_each l (all_cuts os xs cs)) (share-none (amounts_on c xs))
+      rw z (ap (λ l. add_each l (all_cuts os xs cs)) (share_none (amounts_on c xs))
       ∙ add_none (amounts_on c xs) (all_cuts os xs cs) (all-length t ∙ sym (length-map xs _)))
 
 -- The rules' cuts

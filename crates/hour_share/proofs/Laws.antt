@@ -1,6 +1,6 @@
 -- The loops of Share give the rules' Share.
-use Rattle.std.proofs.Common.{◌≡◌, cond, eqb, ltb, min, ℕ, zero, suc, ◌+◌, ◌*◌, ◌-◌, ◌/◌, ◌≤◌, ◌<◌, List, [], ◌∷◌, ◌++◌, map, length, get_or, take, drop, set, replicate, refl, sym, ap, ◌∙◌, append-nil, arith, add-one, drop-cons}
-use native.Mathlib.Nat.{div-zero, zero-div}
+use Rattle.std.proofs.Common.{◌≡◌, cond, eqb, ltb, min, ℕ, zero, suc, ◌+◌, ◌*◌, ◌-◌, ◌/◌, ◌≤◌, ◌<◌, List, [], ◌∷◌, ◌++◌, map, length, get_or, take, drop, set, replicate, refl, sym, ap, ap₂, ◌∙◌, append-nil, arith, add-one, drop-cons}
+use native.Mathlib.Nat.{zero-mul, div-zero, zero-div}
 use lib.ListN.{drop_of_length-le}
 use lib.Seq.{take-suc, take-suc-set, take_all, append_snoc, drop-set-lt}
 use Rattle.std.specs.List.{sum as fold_sum, refill}
@@ -13,6 +13,15 @@ use Rattle.rules.specs.Share.{pro_rata, hand_out, share}
 use Rattle.rules.proofs.SumLaws.{cond-le}
 use Rattle.rules.proofs.IndexLaws.{from_next}
 use borrow.Author.Tests.{lt-ltb, le-ltb}
+use mathlib.Core.Bool.{false≢true}
+use Rattle.std.specs.Prelude.{Some, None, position}
+use Rattle.std.specs.List.{position_or_len}
+use Rattle.std.proofs.lemmas.Option.{none-some}
+use Rattle.std.proofs.lemmas.List.{take_rest, length-drop}
+use Rattle.std.proofs.lemmas.Bool.{ltb-true, ltb-false}
+use Rattle.std.proofs.lemmas.List.Sums.{fails_before_first}
+use Rattle.std.proofs.lemmas.List.Quantifiers.{position-Some}
+use Rattle.rules.proofs.BoolLaws.{by_bool}
 use Rattle.hour_share.specs.declared.Amount.{Amount}
 use Rattle.hour_share.specs.Deductions.{Ranged, AmountInRange, energy_in, deductions_in, deductions_over, deductions_from}
 
@@ -85,10 +94,51 @@ module _ (ds ms : List ℕ) (i k : ℕ) (e : length ds ≡ length ms) (h : i < l
         o,
       )
 
+-- no unit goes to the first i
+pub passed_out : (ds ms : List ℕ) (i k : ℕ) → length ds ≡ length ms → i ≤ length ms → ((j : ℕ) → j < i → 0 < get_or ms j 0 → k ≤ 0)
+    → take i ds ++ add_each (drop i ds) (hand_out k (drop i ms)) ≡ add_each ds (hand_out k ms)
+passed_out ds ms zero k e h f = refl
+passed_out ds ms (suc i) k e h f =
+    let n = none_out ds ms i k e (omega arith) (f i (omega arith)) in
+    (rw (add-one i) at n) ∙ passed_out ds ms i k e (omega arith) (λ j l. f j (omega arith))
+
 pub all_out : (ds ms : List ℕ) (i k : ℕ) {x : List ℕ} → length ds ≡ length ms → length ms ≤ i → take i ds ++ add_each (drop i ds) (hand_out k (drop i ms)) ≡ x → ds ≡ x
 unfolding add_each hand_out
 all_out ds ms i k e h p =
     sym (append-nil ds) ∙ (rw (take_all i ds (omega arith), drop_of_length-le ds {i = i} (omega arith), drop_of_length-le ms {i = i} h) at p)
+
+-- the lowest index with an amount above 0: before it, and everywhere where there is none, they are 0
+before-none : (ms : List ℕ) → position (ltb 0) ms ≡ None → (j : ℕ) → j < length ms → 0 < get_or ms j 0 → ⊥
+before-none ms e j h g =
+    by_bool (ltb (position_or_len (ltb 0) ms) (length ms))
+    (λ t. absurd (none-some (position_or_len (ltb 0) ms) (sym e ∙ rw t refl)))
+    (λ t. false≢true (sym (fails_before_first (ltb 0) ms j 0 (omega (arith, ltb-false _ _ t))) ∙ lt-ltb 0 (get_or ms j 0) g))
+
+-- no amount takes a unit
+pub none-takes : (ds ms : List ℕ) (k : ℕ) → length ds ≡ length ms → position (ltb 0) ms ≡ None → ds ≡ add_each ds (hand_out k ms)
+none-takes ds ms k e n =
+    all_out ds ms (length ms) k e (omega arith) (passed_out ds ms (length ms) k e (omega arith) (λ j l g. absurd (before-none ms n j l g)))
+
+-- no unit is left
+pub none-left : (ds ms : List ℕ) → length ds ≡ length ms → ds ≡ add_each ds (hand_out 0 ms)
+none-left ds ms e = all_out ds ms (length ms) 0 e (omega arith) (passed_out ds ms (length ms) 0 e (omega arith) (λ j l g. omega arith))
+
+-- one goes to the lowest, and the rest over the higher numbers: parts of both slices, as the code has them
+pub one-taken : (ds ms : List ℕ) (k i : ℕ) {xs : List ℕ} → length ds ≡ length ms → 0 < k → position (ltb 0) ms ≡ Some i
+    → (let after = set ds i (get_or ds i 0 + 1) in
+    xs ≡ add_each (take (length after - (i + 1)) (drop (i + 1) after)) (hand_out (k - 1) (take (length ms - (i + 1)) (drop (i + 1) ms)))
+    → take (i + 1) after ++ (xs ++ drop (length after - (i + 1)) (drop (i + 1) after)) ≡ add_each ds (hand_out k ms))
+one-taken ds ms k i {xs} e p s q =
+    let f = position-Some (ltb 0) ms i 0 s in
+    let after = set ds i (get_or ds i 0 + 1) in
+    rw (
+      drop_of_length-le (drop (i + 1) after) {i = length after - (i + 1)} (omega (arith, length-drop (i + 1) after)),
+      append-nil xs,
+      q,
+      take_rest after (i + 1),
+      take_rest ms (i + 1),
+    ) (one_out ds ms i k e f.0 (ltb-true 0 (get_or ms i 0) f.1) p)
+    ∙ passed_out ds ms i k e (omega (arith, f.0)) (λ j l g. absurd (false≢true (sym (f.2 j l) ∙ lt-ltb 0 (get_or ms j 0) g)))
 
 -- Rows of deductions added, in any order
 
@@ -105,6 +155,26 @@ add-assoc [] ls ms = refl
 add-assoc (k ∷ ks) [] ms = refl
 add-assoc (k ∷ ks) (l ∷ ls) [] = refl
 add-assoc (k ∷ ks) (l ∷ ls) (m ∷ ms) = let o : k + l + m ≡ k + (l + m) = omega arith in rw o (ap (λ x. (k + (l + m)) ∷ x) (add-assoc ks ls ms))
+
+-- An excess of 0 takes nothing
+
+none-handed : (G k : ℕ) → k ≡ 0 → (ms : List ℕ) → add_each (map (pro_rata 0 G) ms) (hand_out k ms) ≡ map (λ m. 0) ms
+unfolding add_each hand_out pro_rata
+none-handed G k z [] = refl
+none-handed G k z (m ∷ ms) = rw z (ap₂ (λ (n : ℕ) (l : List ℕ). n ∷ l) (rw (zero-mul m, zero-div G)) (none-handed G 0 refl ms))
+
+pub share_none : (ms : List ℕ) → share 0 ms ≡ map (λ m. 0) ms
+unfolding share
+share_none ms = none-handed (sum ms) (0 - sum (map (pro_rata 0 (sum ms)) ms)) (omega arith) ms
+
+pub add_none : {A : Type 0} (xs : List A) (ls : List ℕ) → length ls ≡ length xs → add_each (map (λ x. 0) xs) ls ≡ ls
+unfolding add_each
+add_none [] ls h = refl
+add_none (x ∷ xs) [] h = absurd (omega arith)
+add_none (x ∷ xs) (l ∷ ls) h = ap₂ (λ (n : ℕ) (r : List ℕ). n ∷ r) (omega arith) (add_none xs ls (omega arith))
+
+pub unshared : (r : ℕ) (ms ds : List ℕ) → r ≡ 0 → length ds ≡ length ms → ds ≡ add_each (share r ms) ds
+unshared r ms ds z e = rw (z, share_none ms) (sym (add_none ms ds e))
 
 -- The pro rata deductions are within their amounts, and come to r at most
 

@@ -1,7 +1,7 @@
 // Share: taking an energy from several amounts pro rata.
 #![tactic(auto)]
 
-ghost use Rattle.std.specs.Prelude.{◌≡◌, ◌*◌, ◌≤◌, ℕ, map, min, length, get_or, replicate};
+ghost use Rattle.std.specs.Prelude.{◌≡◌, ◌*◌, ◌≤◌, ℕ, [], map, min, length, get_or, replicate, position, ltb};
 ghost use Rattle.std.specs.Fn.{FnReturnsAt};
 ghost use Rattle.rules.specs.Lists.{All, add_each, sum};
 ghost use Rattle.rules.specs.Units.{max_energy};
@@ -69,20 +69,28 @@ fn add_floors(r: u32, g: u32, amounts: &[u32], deductions: &mut [u32]) -> u32
     floored
 }
 
+// The index of the lowest number with an amount above 0.
+fn next_index(amounts: &[u32]) -> Option<usize>
+    ensures { result ≡ position (ltb 0) amounts.now }
+{
+    amounts.iter().position(|m| 0 < *m)
+}
+
 // "the leftover units go out one each to the lowest lodging numbers with m above 0, and each hand-out leaves the rest to
-// the same rule over the higher numbers".
+// the same rule over the higher numbers": recursive, as document 01 names the form; the number left falls at each call.
 fn hand_out(left: u32, amounts: &[u32], deductions: &mut [u32])
     requires same_length { length deductions.old ≡ length amounts.now }
     requires room { (i : ℕ) → get_or deductions.old i 0 ≤ 9 * max_energy }
     ensures { deductions.new ≡ add_each deductions.old (hand_out left amounts.now) }
 {
-    let mut rest = left;
-    for (i, m) in amounts.iter().enumerate() {
-        if 0 < *m && 0 < rest {
-            deductions[i] += 1;
-            rest -= 1;
-        }
+    if left == 0 {
+        return;
     }
+    let Some(i) = next_index(amounts) else {
+        return;
+    };
+    deductions[i] += 1;
+    hand_out(left - 1, &amounts[i + 1..], &mut deductions[i + 1..]);
 }
 
 // To take an excess from amounts: what each of them loses, "the lesser of the excess and" their sum being taken, added to what it loses
@@ -96,26 +104,33 @@ pub fn share(excess: u32, amounts: &[u32], deductions: &mut [u32])
 {
     let g = total(amounts);
     let r = excess.min(g);
+    if r == 0 {
+        return;
+    }
     let floored = add_floors(r, g, amounts, deductions);
     hand_out(r - floored, amounts, deductions);
 }
 
-// What each of some holders counts for in direction w: `of` says what it has, and in which direction it gives way.
-fn energies_in<T, F: Fn(&T) -> Amount>(w: usize, holders: &[T], of: &F) -> ArrayVec<u32, LODGEMENTS>
+// What each of some holders counts for in direction w, written to an empty list: `of` says what it has, and in which direction it gives way.
+fn energies_in<T, F: Fn(&T) -> Amount>(
+    w: usize,
+    holders: &[T],
+    of: &F,
+    energies: &mut ArrayVec<u32, LODGEMENTS>,
+)
     requires callable { F.IsAlwaysCallable of.now }
     requires few { length holders.now ≤ 128 }
+    requires empty { energies.old.items ≡ [] }
     requires ranged { All (λ x. (a : Amount) → FnReturnsAt F.Fn of.now x a → AmountInRange a) holders.now }
     ensures value { (amount : T → Amount)
         → All (λ x. (a : Amount) → FnReturnsAt F.Fn of.now x a → a ≡ amount x) holders.now
-        → result.items ≡ map (energy_in w) (map amount holders.now) }
-    ensures same_length { length result.items ≡ length holders.now }
-    ensures ranged_after { Ranged result.items }
+        → energies.new.items ≡ map (energy_in w) (map amount holders.now) }
+    ensures same_length { length energies.new.items ≡ length holders.now }
+    ensures ranged_after { Ranged energies.new.items }
 {
-    let mut energies = ArrayVec::new();
     for x in holders {
         energies.push(of(x).energy_in(w));
     }
-    energies
 }
 
 // Nothing lost by any of n.
@@ -147,7 +162,8 @@ pub fn deductions<T, F: Fn(&T) -> Amount>(
     let mut sums = nothing(holders.len());
     for w in (2..10).rev() {
         if 0 < over[w] {
-            let energies = energies_in(w, holders, &of);
+            let mut energies = ArrayVec::new();
+            energies_in(w, holders, &of, &mut energies);
             share(over[w], &energies, &mut sums);
         }
     }

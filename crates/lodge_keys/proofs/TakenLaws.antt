@@ -46,10 +46,6 @@ left-all : (n p : ℕ) → n ≤ p → left_at n p ≡ n
 unfolding left_at
 left-all n p h = rw (le-ltb p n h)
 
-left-most : (n p : ℕ) → left_at n p ≤ n
-left-most n p =
-    by_bool (ltb p n) (λ e. omega (arith, left_in n p (ltb-true p n e))) (λ e. omega (arith, left-all n p (ltb-false p n e)))
-
 left_behind : (n p : ℕ) → p ≤ n → p ≤ left_at n p
 left_behind n p h =
     by_bool (ltb p n) (λ e. let k = ltb-true p n e in omega (arith, left_in n p k)) (λ e. omega (arith, left-all n p (ltb-false p n e)))
@@ -189,16 +185,6 @@ module _ {A : Type 0} (q : A → Bool) (l : List A) (n : ℕ) (fit : n ≤ lengt
 -- How many are left, and where those behind begin
 
 module _ {A : Type 0} (q : A → Bool) (l : List A) (n : ℕ) where
-  pub left-found : (p : ℕ) → position q (take n l) ≡ Some p → left_of n (position q (take n l)) ≡ n - 1
-  left-found p e = ap (left_of n) e
-
-  pub left_most : left_of n (position q (take n l)) ≤ n
-  left_most = go (position q (take n l))
-    where
-      go : (o : Option ℕ) → left_of n o ≤ n
-      go None = omega arith
-      go (Some p) = omega arith
-
   pub from-before : n ≤ length l → from_at n (position q (take n l)) ≤ left_of n (position q (take n l))
   from-before fit = rw (from-as q l n fit, left-as q l n fit) (left_behind n (index_of q (take n l)) (most q l n fit))
 

@@ -1,9 +1,8 @@
 -- The lodgements that one is judged with.
-use Rattle.std.specs.Prelude.{ℕ, ◌≡◌, Bool, false, cond, not, ◌&&◌, List, [], map, eqb, take}
+use Rattle.std.specs.Prelude.{ℕ, ◌≡◌, Bool, cond, not, ◌&&◌, List, [], map, eqb, take}
 use Rattle.std.specs.Bool.{beq}
 use Rattle.std.specs.List.{list_any}
 use Rattle.rules.specs.Lists.{from}
-use Rattle.session.specs.Laid.{pad}
 use Rattle.session.specs.declared.Key.{Key}
 use Rattle.session.specs.declared.Lodgement.{Lodgement}
 use Rattle.session.specs.declared.Session.{Session}
@@ -17,7 +16,7 @@ counts ls k l = eqb l.key.unit k.unit && (not (beq l.key.execution k.execution) 
 
 -- a mark at the index of each that is counted; beside a default lodgement none is
 unfoldable pub beside_marks : List Lodgement → Key → List Bool
-beside_marks ls k = pad 128 false (cond k.default [] (map (counts ls k) ls))
+beside_marks ls k = cond k.default [] (map (counts ls k) ls)
 
 -- those for a message
 abbrev pub marks_for : Session → Fields → List Bool

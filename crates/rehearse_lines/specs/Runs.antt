@@ -1,5 +1,5 @@
 -- What a line that is run promises: the day book's answer and the session after it, or the reply to a query.
-use Rattle.std.specs.Prelude.{ℕ, ◌≡◌, List}
+use Rattle.std.specs.Prelude.{ℕ, ◌≡◌, List, Bool, false, eqb}
 use Rattle.rules.specs.Refusals.{Outcome, refused, given}
 use Rattle.rules.specs.Message as M
 use Rattle.rules.specs.DayBook as D
@@ -50,3 +50,9 @@ abbrev pub IfAnswer : Said → (Response → Type 0) → Type 0
 IfAnswer NotUnderstood P = Unit {0}
 IfAnswer (Answer a) P = P a
 IfAnswer Report P = Unit {0}
+
+-- kind 1 is that of a refusal
+abbrev pub is_refused : Said → Bool
+is_refused NotUnderstood = false
+is_refused (Answer a) = eqb a.kind 1
+is_refused Report = false

@@ -1,4 +1,7 @@
 // A rehearsal line's answer, and how it is written.
+ghost use Rattle.std.specs.Prelude.{◌≡◌};
+ghost use Rattle.rehearse_lines.specs.Runs.{is_refused};
+
 use answer::{Kind, Response};
 use rehearse_report::Report;
 use rehearse_report::replies::Told;
@@ -14,7 +17,9 @@ pub enum Said {
 }
 
 impl Said {
-    pub fn is_refused(&self) -> bool {
+    pub fn is_refused(&self) -> bool
+        ensures { result ≡ is_refused self.now }
+    {
         matches!(self, Said::Answer(answer) if answer.kind() == Some(Kind::Refused))
     }
 }

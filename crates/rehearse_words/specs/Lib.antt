@@ -1,1 +1,2 @@
 pub mod Blanks
+pub mod Words

@@ -1,9 +1,12 @@
 // The words of a line, and what a word says.
 
-ghost use Rattle.std.specs.Prelude.{◌≡◌, ◌↔◌, length, All, IsTrue, IsSome, IsNone, IfSome, Ok};
+ghost use Rattle.std.specs.Prelude.{◌≡◌, ◌⊎◌, ◌*◌, ◌<◌, ◌≤◌, [], ◌↔◌, length, All, IsTrue, IsSome, IsNone, IsErr, IfSome, OnSome, Ok, drop};
+ghost use Rattle.std.specs.Char.{is_ascii_digit};
 ghost use Rattle.std.specs.Iterator.{at_most};
+ghost use Rattle.std.specs.List.{list_all, position};
 ghost use Rattle.hex.specs.Hex.{decode_of};
 ghost use Rattle.rehearse_words.specs.Blanks.{is_blank};
+ghost use Rattle.rehearse_words.specs.Words.{behind_word, first_word, is_number, number_in, word_end, word_start};
 
 use arrayvec::ArrayVec;
 
@@ -12,6 +15,36 @@ pub fn is_blank(byte: u8) -> bool
     ensures { result ≡ is_blank byte }
 {
     matches!(byte, 9 | 11..=13 | 28..=32)
+}
+
+// Where a line's first word begins.
+fn word_start(line: &[u8]) -> Option<usize>
+    ensures { result ≡ word_start line.now }
+{
+    line.iter().position(|b| !is_blank(*b))
+}
+
+fn first_blank(text: &[u8]) -> Option<usize>
+    ensures { result ≡ position is_blank text.now }
+{
+    text.iter().position(|b| is_blank(*b))
+}
+
+// Where a word ends: at a blank, or with the line.
+fn word_end(text: &[u8]) -> usize
+    ensures end { result ≡ word_end text.now }
+    ensures inside { result ≤ length text.now }
+{
+    first_blank(text).unwrap_or(text.len())
+}
+
+fn past_first(text: &[u8]) -> &[u8]
+    ensures { result.now ≡ drop 1 text.now }
+{
+    match text {
+        [_, rest @ ..] => rest,
+        [] => text,
+    }
 }
 
 // The words of a line that are not read yet.
@@ -24,30 +57,37 @@ impl<'a> Iterator for Words<'a> {
     type Item = &'a [u8];
 
     // No word is left where all bytes are blanks.
-    ghost next_gives = { λ s r t. IsNone r ↔ All (λ b. IsTrue (is_blank b)) s.rest.now };
+    ghost next_gives = { λ s r t. (IsNone r ↔ All (λ b. IsTrue (is_blank b)) s.rest.now)
+        × IfSome r (λ w. (w.now ≡ first_word s.rest.now) × (t.rest.now ≡ behind_word s.rest.now)) };
 
     ghost remaining = { λ s. at_most (length s.rest.now) };
 
     fn next(&mut self) -> Option<&'a [u8]> {
-        let from = self.rest.iter().position(|b| !is_blank(*b))?;
-        let start = &self.rest[from..];
-        let Some(end) = start.iter().position(|b| is_blank(*b)) else {
-            self.rest = &[];
-            return Some(start);
+        let Some(from) = word_start(self.rest) else {
+            return None;
         };
-        self.rest = &start[end + 1..];
-        Some(&start[..end])
+        let (_, line) = self.rest.split_at(from);
+        let (word, behind) = line.split_at(word_end(line));
+        self.rest = past_first(behind);
+        Some(word)
     }
 }
 
 impl<'a> Words<'a> {
     // The next word is a number.
-    pub fn number(&mut self) -> Option<u32> {
+    pub fn number(&mut self) -> Option<u32>
+        ensures number { result ≡ number_in (first_word self.old.rest.now) }
+        ensures rest { OnSome result (self.new.rest.now ≡ behind_word self.old.rest.now) }
+    {
         number(self.next()?)
     }
 
     // The next word is some bytes in hexadecimal.
-    pub fn bytes<const N: usize>(&mut self) -> Option<ArrayVec<u8, N>> {
+    pub fn bytes<const N: usize>(&mut self) -> Option<ArrayVec<u8, N>>
+        ensures bytes { IfSome result (λ bytes. decode_of (first_word self.old.rest.now) ≡ Ok bytes.items) }
+        ensures none { IsNone result → IsErr (decode_of (first_word self.old.rest.now)) ⊎ (2 * N < length (first_word self.old.rest.now)) ⊎ (first_word self.old.rest.now ≡ []) }
+        ensures rest { OnSome result (self.new.rest.now ≡ behind_word self.old.rest.now) }
+    {
         bytes(self.next()?)
     }
 
@@ -89,17 +129,35 @@ impl<'a> Words<'a> {
     }
 }
 
+fn all_digits(word: &[u8]) -> bool
+    ensures { result ≡ list_all is_ascii_digit word.now }
+{
+    word.iter().all(|b| b.is_ascii_digit())
+}
+
 // A number has one to nine digits.
-pub(crate) fn number(word: &[u8]) -> Option<u32> {
-    if word.len() > 9 || !word.iter().all(|b| b.is_ascii_digit()) {
+fn is_number(word: &[u8]) -> bool
+    ensures { result ≡ is_number word.now }
+{
+    (1..=9).contains(&word.len()) && all_digits(word)
+}
+
+pub(crate) fn number(word: &[u8]) -> Option<u32>
+    ensures { result ≡ number_in word.now }
+{
+    if !is_number(word) {
         return None;
     }
-    str::from_utf8(word).ok()?.parse().ok()
+    match str::from_utf8(word) {
+        Ok(digits) => digits.parse().ok(),
+        Err(_) => None,
+    }
 }
 
 // Bytes in hexadecimal, two digits each, N at most.
 fn bytes<const N: usize>(word: &[u8]) -> Option<ArrayVec<u8, N>>
-    ensures { IfSome result (λ bytes. decode_of word.now ≡ Ok bytes.items) }
+    ensures bytes { IfSome result (λ bytes. decode_of word.now ≡ Ok bytes.items) }
+    ensures none { IsNone result → IsErr (decode_of word.now) ⊎ (2 * N < length word.now) }
 {
     let mut bytes = ArrayVec::from([0u8; N]);
     bytes.truncate(word.len() / 2);

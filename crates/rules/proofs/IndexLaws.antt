@@ -27,6 +27,13 @@ unfolding from
 from_all P i zero f = none
 from_all P i (suc n) f = more (f i (omega arith) (omega arith)) (from_all P (suc i) n (λ j h k. f j (omega arith) (omega arith)))
 
+-- what stands at an index of a list made by index
+pub from-at : {A : Type 0} (f : ℕ → A) (d : A) (i n j : ℕ) → j < n → get_or (map f (from i n)) j d ≡ f (i + j)
+unfolding from
+from-at f d i zero j h = absurd (omega arith)
+from-at f d i (suc n) zero h = let o : i + 0 ≡ i = omega arith in rw o
+from-at f d i (suc n) (suc j) h = let o : i + suc j ≡ suc i + j = omega arith in rw o (from-at f d (suc i) n j (omega arith))
+
 -- two maps that agree at each element
 pub map-all : {A B : Type 0} (f g : A → B) {xs : List A} → All (λ x. f x ≡ g x) xs → map f xs ≡ map g xs
 map-all f g none = refl

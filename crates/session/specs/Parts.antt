@@ -1,5 +1,5 @@
 -- What the parts of a call promise to each other: of use inside the crates of the session only.
-use Rattle.std.specs.Prelude.{ℕ, suc, ◌≤◌, ◌<◌, ◌≡◌, Bool, false, cond, ◌&&◌, List, [], ◌∷◌, leb, eqb, take, get_or, position, option_map}
+use Rattle.std.specs.Prelude.{ℕ, suc, ◌≤◌, ◌≡◌, Bool, false, cond, ◌&&◌, List, [], ◌∷◌, leb, eqb, take, get_or, position, option_map}
 use Rattle.std.proofs.Math.Option.{Option, some, none}
 use Rattle.std.specs.declared.option.Option as O
 use Rattle.std.specs.declared.result.Result.{Result}
@@ -26,7 +26,7 @@ refused_with s r = record { session = s; answer = refusal r }
 -- the row's number and hour that a judgement refuses by, if it does
 abbrev pub refused_by : {A E : Type 0} → (E → ℕ × ℕ) → Result A E → Option (ℕ × ℕ)
 refused_by of = elim [
-    Ok a ↦ none
+  | Ok a ↦ none
   | Err e ↦ some (of e)
 ]
 

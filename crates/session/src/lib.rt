@@ -20,7 +20,7 @@ pub mod units;
 
 // Number and agent are 1 to 65,535; border is 0 domestic, 1 France, 2 Andorra, 3 Portugal, 4 Morocco.
 #[repr(C)]
-#[derive(Clone, Copy)]
+#[derive(Clone, Copy, Default)]
 pub struct Unit {
     pub number: u32,
     pub agent: u32,
@@ -53,7 +53,7 @@ pub struct Published {
 }
 
 #[repr(C)]
-#[derive(Clone, Copy)]
+#[derive(Clone, Copy, Default)]
 pub struct Key {
     pub execution: bool,
     pub default: bool,
@@ -63,7 +63,7 @@ pub struct Key {
 }
 
 #[repr(C)]
-#[derive(Clone, Copy)]
+#[derive(Clone, Copy, Default)]
 pub struct Lodgement {
     pub key: Key,
     pub number: u32,
@@ -79,7 +79,7 @@ pub struct Energies {
 
 // A lodgement's verdict: accepted, refused by a limit in an hour, or neither, which is hidden.
 #[repr(C)]
-#[derive(Clone, Copy)]
+#[derive(Clone, Copy, Default)]
 pub struct Verdict {
     pub accepted: bool,
     pub reserved: u8,
@@ -150,17 +150,10 @@ pub struct Opened {
 pub fn no_unit() -> Unit
     ensures { result ≡ no_unit }
 {
-    Unit {
-        number: 0,
-        agent: 0,
-        border: 0,
-        maximum: 0,
-        purchase: false,
-        legacy: false,
-        reserved: 0,
-    }
+    Unit::default()
 }
 
+// Written out, as the others with arrays: of an array's default the prover has each element alone, and not the list.
 pub fn no_notice() -> Notice
     ensures { result ≡ no_notice }
 {
@@ -168,45 +161,29 @@ pub fn no_notice() -> Notice
         given: false,
         reserved: 0,
         reserved2: 0,
-        energies: [0u32; HOURS],
+        energies: [0; HOURS],
     }
 }
 
 pub fn no_lodgement() -> Lodgement
     ensures { result ≡ no_lodgement }
 {
-    let key = Key {
-        execution: false,
-        default: false,
-        reserved: 0,
-        unit: 0,
-        contract: 0,
-    };
-    Lodgement {
-        key: key,
-        number: 0,
-    }
+    Lodgement::default()
 }
 
 pub fn no_energies() -> Energies
     ensures { result ≡ no_energies }
 {
     Energies {
-        energies: [0u32; HOURS],
-        prices: [0u32; HOURS],
+        energies: [0; HOURS],
+        prices: [0; HOURS],
     }
 }
 
 pub fn no_verdict() -> Verdict
     ensures { result ≡ no_verdict }
 {
-    Verdict {
-        accepted: false,
-        reserved: 0,
-        reserved2: 0,
-        limit: 0,
-        hour: 0,
-    }
+    Verdict::default()
 }
 
 pub fn no_figures() -> HourFigures
@@ -214,11 +191,11 @@ pub fn no_figures() -> HourFigures
 {
     HourFigures {
         price: 0,
-        market: [0u32; 10],
-        bilateral: [0u32; 10],
-        maxima: [0u32; 10],
-        matched: [0u32; UNITS],
-        executed: [0u32; UNITS],
+        market: [0; 10],
+        bilateral: [0; 10],
+        maxima: [0; 10],
+        matched: [0; UNITS],
+        executed: [0; UNITS],
     }
 }
 
@@ -236,36 +213,22 @@ impl Session {
     pub fn fresh(date: Date) -> Session
         ensures { result ≡ image (fresh (date_in date)) }
     {
-        let unit = no_unit();
-        let notice = no_notice();
-        let lodgement = no_lodgement();
-        let none = no_energies();
-        let verdict = no_verdict();
-        let figure = no_figures();
-        let units = [unit; UNITS];
-        let notices = [notice; UNITS];
-        let capacities = [notice; DIRECTIONS];
-        let lodgements = [lodgement; LODGEMENTS];
-        let energies = [none; LODGEMENTS];
-        let verdicts = [verdict; LODGEMENTS];
-        let figures = [figure; HOURS];
-        let hours = calendar::hours_of(date);
         Session {
-            date: date,
-            hours: hours,
+            date,
+            hours: calendar::hours_of(date),
             enrolled: 0,
-            units: units,
-            notices: notices,
-            capacities: capacities,
+            units: [no_unit(); UNITS],
+            notices: [no_notice(); UNITS],
+            capacities: [no_notice(); DIRECTIONS],
             standing: 0,
-            lodgements: lodgements,
-            energies: energies,
+            lodgements: [no_lodgement(); LODGEMENTS],
+            energies: [no_energies(); LODGEMENTS],
             last: 0,
             closed: false,
             cleared: false,
             reserved: 0,
-            verdicts: verdicts,
-            figures: figures,
+            verdicts: [no_verdict(); LODGEMENTS],
+            figures: [no_figures(); HOURS],
             reserved2: 0,
         }
     }

@@ -56,9 +56,6 @@ moved (suc from) zero l = l
 moved (suc from) (suc to) [] = []
 moved (suc from) (suc to) (x ∷ l) = x ∷ moved from to l
 
-abbrev pub moved_in : Session → ℕ → ℕ → Session
-moved_in s from to = with_lodgements s s.standing (moved from to s.lodgements) (moved from to s.energies) s.last
-
 abbrev pub standing_with : Session → StandingChange → Session
 standing_with s c =
     with_lodgements s c.standing (set (moved c.from c.to s.lodgements) c.at c.lodgement) (set (moved c.from c.to s.energies) c.at c.energies) c.last

@@ -90,10 +90,9 @@ impl Change for StandingChange {
     ghost fits = { Indexed };
 
     fn apply(self, s: &mut Session) {
-        for i in self.from..self.to {
-            s.lodgements[i] = s.lodgements[i + 1];
-            s.energies[i] = s.energies[i + 1];
-        }
+        let StandingChange { from, to, .. } = self;
+        s.lodgements.copy_within(from + 1..to + 1, from);
+        s.energies.copy_within(from + 1..to + 1, from);
         s.lodgements[self.at] = self.lodgement;
         s.energies[self.at] = self.energies;
         s.standing = self.standing;

@@ -12,7 +12,7 @@ ghost use Rattle.withdraw_keep.specs.Abroad.{abroad_of, places_from};
 ghost use Rattle.withdraw.specs.Steps.{Laid, Stepped};
 ghost use Rattle.withdraw.specs.Rounds.{Withdrew};
 
-pub mod abroad;
+mod abroad;
 
 use hour_offers::Offer;
 

@@ -1,7 +1,8 @@
 -- Prices and sums along a list of offers are the rules'.
-use Rattle.std.proofs.Common.{zero-add, not, ◌&&◌, ltb, ℕ, ◌+◌, ◌≡◌, refl, sym, ◌∙◌, ap, ◌<◌, ◌≤◌, min, max, Bool, true, false, List, [], ◌∷◌, map, filter, fold, arith}
+use Rattle.std.proofs.Common.{zero-add, not, ◌&&◌, ltb, ℕ, ◌+◌, ◌^◌, ◌≡◌, refl, sym, ◌∙◌, ap, ◌<◌, ◌≤◌, min, max, Bool, true, false, cond, List, [], ◌∷◌, map, filter, fold, arith}
 use Rattle.std.specs.Prelude.{sum}
-use Rattle.std.specs.List.{reduce}
+use Rattle.std.specs.List.{reduce, sum_by}
+use Rattle.std.proofs.lemmas.List.Sums.{sum_by-le-sum_by}
 use Rattle.std.proofs.lemmas.Bool.{le-leb, lt-leb}
 use Rattle.std.proofs.Math.Option.{Option, some, none}
 use Rattle.std.specs.Prelude.{Option as Maybe}
@@ -12,6 +13,7 @@ use Rattle.hour_offers.specs.View.{offer_in, offers_in}
 use Rattle.rules.specs.Lists.{keep, sum_of, sum as sum-of}
 use Rattle.rules.specs.Withdrawal.{prices_over, further, extreme, purchases_below, sales_above, choose, group_of, at_price}
 use Rattle.rules.proofs.BoolLaws.{by_bool}
+use Rattle.rules.proofs.SumLaws.{cond-le}
 use Rattle.hour_borders.specs.Ways.{over_in}
 use Rattle.withdraw_keep.specs.Abroad.{abroad_of}
 use Rattle.withdraw_keep.proofs.AbroadLaws.{prices-abroad}
@@ -81,18 +83,25 @@ module _ (over : List ℕ) (os abroad : List Held) (at : offers_in abroad ≡ ab
       rw (a, b)
 
 -- "all matched purchases in the hour below the first" and "all matched sales above the second"
-summed : (f : Offer → Bool) (os : List Held) → sum (map (λ (o : Held). o.matched) (filter (λ o. f (offer_in o)) os)) ≡ sum_of (λ (o : Offer). o.matched) (keep f (offers_in os))
-unfolding sum_of
-summed f os =
-    sum-read _ ∙ ap sum-of (sym (ap (map (λ (o : Offer). o.matched)) (keep-read offer_in f os) ∙ map-read offer_in (λ (o : Offer). o.matched) (filter (λ o. f (offer_in o)) os)))
+summed : (f : Offer → Bool) (os : List Held) → sum (map (λ (o : Held). cond (f (offer_in o)) o.matched 0) os) ≡ sum_of (λ (o : Offer). o.matched) (keep f (offers_in os))
+unfolding sum_of sum-of keep
+summed f os = sum-read (map (λ (o : Held). cond (f (offer_in o)) o.matched 0) os) ∙ kept f os
+  where
+    kept : (f : Offer → Bool) (os : List Held) → sum-of (map (λ (o : Held). cond (f (offer_in o)) o.matched 0) os) ≡ sum_of (λ (o : Offer). o.matched) (keep f (offers_in os))
+    kept f [] = refl
+    kept f (o ∷ os) = by_bool (f (offer_in o)) (λ t. rw t (ap (λ n. o.matched + n) (kept f os))) (λ t. rw t (omega (arith, kept f os)))
 
-pub below-read : (p : ℕ) (os : List Held) → sum (map (λ (o : Held). o.matched) (filter (λ o. o.holder.purchase && ltb o.price p) os)) ≡ purchases_below p (offers_in os)
+pub below-read : (p : ℕ) (os : List Held) → sum (map (λ (o : Held). cond (o.holder.purchase && ltb o.price p) o.matched 0) os) ≡ purchases_below p (offers_in os)
 unfolding purchases_below
 below-read p os = summed (λ o. o.holder.purchase && ltb o.price p) os
 
-pub above-read : (q : ℕ) (os : List Held) → sum (map (λ (o : Held). o.matched) (filter (λ o. not o.holder.purchase && ltb q o.price) os)) ≡ sales_above q (offers_in os)
+pub above-read : (q : ℕ) (os : List Held) → sum (map (λ (o : Held). cond (not o.holder.purchase && ltb q o.price) o.matched 0) os) ≡ sales_above q (offers_in os)
 unfolding sales_above
 above-read q os = summed (λ o. not o.holder.purchase && ltb q o.price) os
+
+-- which are no more than all that is matched
+pub masked-fits : (f : Held → Bool) (os : List Held) → sum_by (λ o. o.matched) os < 2 ^ 32 → sum_by (λ o. cond (f o) o.matched 0) os < 2 ^ 32
+masked-fits f os h = omega (arith, sum_by-le-sum_by (λ (o : Held). cond (f o) o.matched 0) (λ o. o.matched) os (λ o. cond-le (f o) o.matched))
 
 -- "With both prices, purchases go if C ≤ V'"
 pub purchases-go : (p q : ℕ) (os : List Held) {c v : ℕ} → c ≡ purchases_below p (offers_in os) → v ≡ sales_above q (offers_in os) → c ≤ v

@@ -3,7 +3,7 @@ use Rattle.rules.specs.Share.{pro_rata}
 use Rattle.rules.specs.Lists.{sum}
 use Rattle.rules.specs.Units.{max_energy}
 use Rattle.rules.proofs.ShareLaws.{floors-le}
-use Rattle.hour_share.proofs.Laws.{floors-ranged, share-said, sums-small, add-comm}
+use Rattle.hour_share.proofs.Laws.{floors-ranged, share-said, unshared, sums-small, add-comm}
 use Rattle.hour_share.proofs.share.Goals as goal
 
 pub overflow_sub-r : goal.overflow_sub-r
@@ -21,6 +21,9 @@ hand_out-requires-clause-room c i =
       ap (λ l. get_or l i 0) (c.add_floors-floored.ensures.added ∙ add-comm ds fs),
       sums-small (8 * max_energy) fs ds (floors-ranged c.min-r.result c.total-g.result ms w c.requires.ranged) c.requires.room i,
     )
+
+pub returns-then-r-eq0 : goal.returns-then-r-eq0
+returns-then-r-eq0 c = unshared (min c.args.excess (sum c.args.amounts.now)) c.args.amounts.now c.args.deductions.now (omega (arith, c.min-r.ensures, c.total-g.ensures, c.if-r-eq0.true)) c.requires.same_length
 
 pub returns : goal.returns
 returns c =

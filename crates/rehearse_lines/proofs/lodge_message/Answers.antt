@@ -13,7 +13,7 @@ slice_bounds-message-end c =
 pub slice_bounds-lodge-end : goal.slice_bounds-lodge-end
 slice_bounds-lodge-end c =
     sym (length-take-le c.in-Ok.count c.write_fields.new.buf
-        (rw (ap (λ (w : Written). w.count) c.in-Ok.ensures.outcome, c.in-Ok.ensures.buffer) (count-fits (M.write 108 (fields_in c.args.fields)) _)))
+    (rw (ap (λ (w : Written). w.count) c.in-Ok.ensures.outcome, c.in-Ok.ensures.buffer) (count-fits (M.write 108 (fields_in c.args.fields)) _)))
 
 pub returns-in-Ok : goal.returns-in-Ok
 returns-in-Ok c =

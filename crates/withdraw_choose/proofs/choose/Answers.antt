@@ -1,7 +1,13 @@
-use Rattle.std.proofs.Common.{arith, sym, ◌∙◌}
+use Rattle.std.proofs.Common.{arith, sym, ◌∙◌, ◌&&◌, not, nat_lt}
 use Rattle.rules.specs.Withdrawal as W
-use Rattle.withdraw_choose.proofs.PriceLaws.{chosen, below-read, above-read, purchases-go, sales-go}
+use Rattle.withdraw_choose.proofs.PriceLaws.{chosen, masked-fits, below-read, above-read, purchases-go, sales-go}
 use Rattle.withdraw_choose.proofs.choose.Goals as goal
+
+pub purchases_below-requires : goal.purchases_below-requires
+purchases_below-requires c = masked-fits (λ o. o.holder.purchase && nat_lt o.price c.in-Some-Some.lowest) c.args.offers.now c.requires.fits
+
+pub sales_above-requires : goal.sales_above-requires
+sales_above-requires c = masked-fits (λ o. not o.holder.purchase && nat_lt c.in-Some-Some.highest o.price) c.args.offers.now c.requires.fits
 
 pub returns-in-None-None : goal.returns-in-None-None
 unfolding W.choose

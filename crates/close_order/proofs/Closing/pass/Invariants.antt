@@ -10,5 +10,5 @@ invariant-loop-at l =
     record {
       inside : l.at ≤ s.standing;
       same : l.self.standing ≡ l.fn.self.standing;
-      closing_at : (b : Book) → Sound b → s ≡ image b → ClosingAt s b (number_of l.class) s.standing l.fn.self.verdicts l.fn.self.room.items → ClosingAt s b (number_of l.class) l.at l.self.verdicts l.self.room.items;
+      closing_at : (b : Book) → Sound b → s ≡ image b → ClosingAt s b (number_of l.fn.class) s.standing l.fn.self.verdicts l.fn.self.room.items → ClosingAt s b (number_of l.fn.class) l.at l.self.verdicts l.self.room.items;
     }

@@ -8,7 +8,7 @@ use Rattle.lodge_keys.proofs.beside.beside_of.Goals as goal
 use Rattle.lodge_keys.proofs.beside.beside_of.Goals.{then-is_beside, else-is_beside}
 
 pub returns-then-key : goal.returns-then-key
-returns-then-key c = c.new-counted.ensures ∙ none-of-all c.args.key c.args.lodgements.now 0 c.if-key.true
+returns-then-key c = c.new-counted.ensures ∙ none-of-all c.args.key c.args.lodgements.now c.if-key.true
 
 pub loop-i-init : goal.loop-i-init
 loop-i-init c = rw c.new-counted.ensures (omega arith, index-start _)
@@ -16,7 +16,7 @@ loop-i-init c = rw c.new-counted.ensures (omega arith, index-start _)
 pub loop-i-preserved : goal.loop-i-preserved
 loop-i-preserved c =
     let s = c.loop-i in
-    let test = mark-of c.args.key c.args.lodgements.now 0 _ s.i c.if-key.false c.loop-i-test.true ∙ sym c.is_beside.ensures in
+    let test = mark-of c.args.key c.args.lodgements.now _ s.i c.if-key.false c.loop-i-test.true ∙ sym c.is_beside.ensures in
     elim c.if-is_beside.branch [
       | then-is_beside w ↦ rw (w.counted-is, w.push.ensures.items) (omega (arith, length-append {A = ℕ}), index-pushed _ _ s.i (test ∙ w.if-is_beside.true) s.invariant.1)
       | else-is_beside w ↦ rw w.counted-is (omega (arith, s.invariant.0), index-left _ _ s.i (test ∙ w.if-is_beside.false) s.invariant.1)

@@ -1,6 +1,6 @@
 use Rattle.std.proofs.Common.{◌≡◌, ◌≤◌, ◌+◌, ◌*◌, drop}
 use Rattle.clear_store.specs.Beside.{energy_beside}
-use Rattle.clear_store.proofs.energy_of.Given as goal
+use Rattle.clear_store.proofs.energy_beside.Given as goal
 
 abbrev pub invariant-loop-i : goal.invariant-loop-i
 invariant-loop-i l = record {
