@@ -19,6 +19,7 @@ use Rattle.rules.specs.Closing as C
 use Rattle.rules.specs.Clearing as R
 use Rattle.rules.specs.Queries.{matched_at, executed_at}
 use Rattle.rules.specs.DayBook as D
+use Rattle.rules.proofs.IndexLaws.{length_from}
 use Rattle.rules.proofs.BoolLaws.{by_bool, neither}
 use Rattle.rules.proofs.ListLaws.{all_head}
 use Rattle.rules.proofs.RefusalLaws.{accepted-rows}
@@ -102,11 +103,6 @@ figures-small h f q =
     (λ t. absurd (figures-none h f t q))
 
 -- The loop over the hours
-
-length_from : (a n : ℕ) → length (from a n) ≡ n
-unfolding from
-length_from a zero = refl
-length_from a (suc n) = ap suc (length_from (suc a) n)
 
 sum-last : (f : ℕ → ℕ) (l : List ℕ) (x : ℕ) → sum_of f (l ++ (x ∷ [])) ≡ sum_of f l + f x
 unfolding sum_of sum

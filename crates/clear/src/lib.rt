@@ -4,18 +4,16 @@
 ghost use Rattle.std.specs.Prelude.{◌<◌, ◌≤◌, length};
 ghost use Rattle.rules.specs.DayBook.{clear};
 ghost use Rattle.session.specs.Steps.{Met};
-ghost use Rattle.session.specs.Parts.{Within, JudgesRow, Entered};
-ghost use Rattle.session_changes.specs.Changes.{cleared_with};
-ghost use Rattle.session_changes.specs.Effects.{effect_of, done};
+ghost use Rattle.session.specs.Parts.{Within};
 ghost use Rattle.clear_gather.specs.Built.{Holders};
 ghost use Rattle.clear.specs.Hours.{HourAs, HoursAs};
 
-use answer::{Refusal, Response};
+use answer::Response;
 use hour_offers::Holder;
 use rules::HOURS;
 use rules::row::Row;
 use session::{Effect, HourFigures, Session};
-use session_changes::{ClearingChange, Step, effect};
+use session_changes::{Call, ClearingChange, Step, run};
 
 // An hour's withdrawal steps and figures.
 #[derive(Clone, Copy)]
@@ -68,46 +66,44 @@ fn clear_hours(s: &Session) -> DayEnd
     DayEnd { steps, figures }
 }
 
-// The row that refuses clearing: 2, "clearing [..] before closing", "closing or clearing twice".
-fn judge_clear(s: &Session) -> Result<(), Row>
-    ensures { JudgesRow s.now clear result }
-{
-    if !s.closed {
-        return Err(Row::Gate);
-    }
-    if s.cleared {
-        return Err(Row::Gate);
-    }
-    Ok(())
-}
+// The clearing of the day.
+#[derive(Clone, Copy)]
+pub struct Clearing;
 
-// "clearing gives the figures of Queries by the rules above and answers the step count"
-fn enter_clear(s: &Session) -> Step<ClearingChange>
-    requires { Within s.now }
-    ensures { Entered s.now clear (done cleared_with s.now result) }
-{
-    let day = clear_hours(s);
-    let figures = day.figures;
-    Step {
-        change: ClearingChange { figures },
-        answer: Response::steps(day.steps),
-    }
-}
+impl Call for Clearing {
+    type Found = ();
 
-// What clearing changes: 2.
-pub fn clear_change(s: &Session) -> Result<Step<ClearingChange>, Refusal>
-    ensures { Met s.now clear (effect_of cleared_with s.now result) }
-{
-    if !s.sound() {
-        return Err(Refusal::from(Row::Gate));
+    type Part = ClearingChange;
+
+    ghost call = { λ _. clear };
+
+    ghost is_found = { λ _ _ _. Unit {0} };
+
+    // The row that refuses clearing: 2, "clearing [..] before closing", "closing or clearing twice".
+    fn judge(self, s: &Session) -> Result<(), Row> {
+        if !s.closed {
+            return Err(Row::Gate);
+        }
+        if s.cleared {
+            return Err(Row::Gate);
+        }
+        Ok(())
     }
-    judge_clear(s)?;
-    Ok(enter_clear(s))
+
+    // "clearing gives the figures of Queries by the rules above and answers the step count"
+    fn enter(self, s: &Session, _found: ()) -> Step<ClearingChange> {
+        let day = clear_hours(s);
+        let figures = day.figures;
+        Step {
+            change: ClearingChange { figures },
+            answer: Response::steps(day.steps),
+        }
+    }
 }
 
 // Clears the day: 2.
 pub fn clear(s: Session) -> Effect
     ensures { Met s clear result }
 {
-    effect(s, clear_change(&s))
+    run(s, Clearing)
 }

@@ -1,6 +1,5 @@
-// The C interface (include/gate.h). "The session is lent to each call and changed in place": thin entries that apply the steps of the
-// calls, store what these change (`session_changes::settle`), and hand on the queries. The numbers at each are the rows of the refusal
-// table that it can answer with.
+// The C interface (include/gate.h). "The session is lent to each call and changed in place": thin entries that run the calls
+// (`session_changes::perform`), and hand on the queries. The numbers at each are the rows of the refusal table that it can answer with.
 #![tactic(auto)]
 
 ghost use Rattle.std.specs.Prelude.{◌≡◌, length};
@@ -23,7 +22,7 @@ use message::{Fields, Reading, Written};
 use notify_capacity::Capacities;
 use notify_unavailability::Availability;
 use session::{Key, Opened, Session, Unit};
-use session_changes::settle;
+use session_changes::{perform, settle};
 
 // What the archive is: a program asks before its first call whether it was compiled with the header of this archive.
 
@@ -103,8 +102,7 @@ pub extern "C" fn gate_write(fields: Fields, buffer: &mut [u8]) -> Written
 pub extern "C" fn gate_register(s: &mut Session, unit: Unit) -> Response
     ensures { Met s.old (register (unit_in unit)) (record { session = s.new; answer = result }) }
 {
-    let step = register::register_change(*s, unit);
-    settle(s, step)
+    perform(s, register::Registration { unit })
 }
 
 // Takes an unavailability notice of a unit: 2, 4, 5, 6.
@@ -112,8 +110,7 @@ pub extern "C" fn gate_register(s: &mut Session, unit: Unit) -> Response
 pub extern "C" fn gate_unavailability(s: &mut Session, notice: Availability) -> Response
     ensures { Met s.old (available_in notice) (record { session = s.new; answer = result }) }
 {
-    let step = notify_unavailability::available_change(*s, notice);
-    settle(s, step)
+    perform(s, notice)
 }
 
 // Takes a capacity notice, export and import of border 1, of 2, of 3, of 4: 2, 4, 5.
@@ -121,8 +118,7 @@ pub extern "C" fn gate_unavailability(s: &mut Session, notice: Availability) -> 
 pub extern "C" fn gate_capacity(s: &mut Session, notice: Capacities) -> Response
     ensures { Met s.old (capacity_in notice) (record { session = s.new; answer = result }) }
 {
-    let step = notify_capacity::capacity_change(*s, notice);
-    settle(s, step)
+    perform(s, notice)
 }
 
 // Lodges a message: 2, 3, 4, 5, 6, 9, 10, 11, 12.
@@ -139,8 +135,7 @@ pub extern "C" fn gate_lodge(s: &mut Session, message: &[u8]) -> Response
 pub extern "C" fn gate_annul(s: &mut Session, key: Key) -> Response
     ensures { Met s.old (annul (key_in key)) (record { session = s.new; answer = result }) }
 {
-    let step = annul::annul_change(*s, key);
-    settle(s, step)
+    perform(s, annul::Annulment { key })
 }
 
 // Closes the gate: 2.
@@ -157,8 +152,7 @@ pub extern "C" fn gate_close(s: &mut Session) -> Response
 pub extern "C" fn gate_clear(s: &mut Session) -> Response
     ensures { Met s.old clear (record { session = s.new; answer = result }) }
 {
-    let step = clear::clear_change(s);
-    settle(s, step)
+    perform(s, clear::Clearing)
 }
 
 // Queries

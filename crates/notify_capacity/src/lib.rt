@@ -4,17 +4,14 @@
 ghost use Rattle.std.specs.Prelude.{◌≡◌, map};
 ghost use Rattle.std.specs.List.{list_any};
 ghost use Rattle.session.specs.Steps.{Met};
-ghost use Rattle.session.specs.Parts.{JudgesRow, Entered};
-ghost use Rattle.session_changes.specs.Changes.{capacities_with};
-ghost use Rattle.session_changes.specs.Effects.{effect_of, done};
 ghost use Rattle.notify_capacity.specs.Capacities.{direction_as, off_hours, off_range, capacity_in};
 
-use answer::{Refusal, Response};
+use answer::Response;
 use notify_unavailability::{bad_energies, front, stored_notice};
 use rules::DIRECTIONS;
 use rules::row::Row;
 use session::{Effect, Notice, Published, Session, no_notice};
-use session_changes::{CapacityChange, Step, effect};
+use session_changes::{Call, CapacityChange, Step, run};
 
 // A capacity notice: export and import of border 1, of 2, of 3, of 4.
 #[repr(C)]
@@ -76,48 +73,43 @@ fn stored_directions(ps: &[Published; DIRECTIONS]) -> [Notice; DIRECTIONS]
     stored
 }
 
-// The row that refuses a capacity notice: 2, 4, 5.
-fn judge_capacity(s: Session, notice: Capacities) -> Result<(), Row>
-    ensures { JudgesRow s (capacity_in notice) result }
-{
-    if s.closed {
-        return Err(Row::Gate);
-    }
-    if any_off_hours(s.hours as usize, &notice.directions) {
-        return Err(Row::Hour);
-    }
-    if any_off_range(&notice.directions) {
-        return Err(Row::Range);
-    }
-    Ok(())
-}
+impl Call for Capacities {
+    type Found = ();
 
-// "It replaces the notice before it."
-fn note_capacity(s: Session, notice: Capacities) -> Step<CapacityChange>
-    ensures { Entered s (capacity_in notice) (done capacities_with s result) }
-{
-    Step {
-        change: CapacityChange {
-            capacities: stored_directions(&notice.directions),
-        },
-        answer: Response::accepted(),
-    }
-}
+    type Part = CapacityChange;
 
-// What a capacity notice changes.
-pub fn capacity_change(s: Session, notice: Capacities) -> Result<Step<CapacityChange>, Refusal>
-    ensures { Met s (capacity_in notice) (effect_of capacities_with s result) }
-{
-    if !s.sound() {
-        return Err(Refusal::from(Row::Gate));
+    ghost call = { capacity_in };
+
+    ghost is_found = { λ _ _ _. Unit {0} };
+
+    // The row that refuses a capacity notice: 2, 4, 5.
+    fn judge(self, s: &Session) -> Result<(), Row> {
+        if s.closed {
+            return Err(Row::Gate);
+        }
+        if any_off_hours(s.hours as usize, &self.directions) {
+            return Err(Row::Hour);
+        }
+        if any_off_range(&self.directions) {
+            return Err(Row::Range);
+        }
+        Ok(())
     }
-    judge_capacity(s, notice)?;
-    Ok(note_capacity(s, notice))
+
+    // "It replaces the notice before it."
+    fn enter(self, _s: &Session, _found: ()) -> Step<CapacityChange> {
+        Step {
+            change: CapacityChange {
+                capacities: stored_directions(&self.directions),
+            },
+            answer: Response::accepted(),
+        }
+    }
 }
 
 // Takes a capacity notice: 2, 4, 5.
 pub fn capacity(s: Session, notice: Capacities) -> Effect
     ensures { Met s (capacity_in notice) result }
 {
-    effect(s, capacity_change(s, notice))
+    run(s, notice)
 }

@@ -1,6 +1,6 @@
 -- The figures at the hours' indices.
-use Prim.Native.Nat.{ℕ, zero, suc, ◌+◌, ◌-◌, ◌<◌}
-use mathlib.Core.Path.{◌≡◌, refl, ap, ◌∙◌}
+use Prim.Native.Nat.{ℕ, ◌+◌, ◌-◌, ◌<◌}
+use mathlib.Core.Path.{◌≡◌, ap, ◌∙◌}
 use mathlib.Core.Bool.{true}
 use mathlib.Core.List.{List, map}
 use native.Mathlib.Omega.{arith}
@@ -9,6 +9,7 @@ use lib.ListN.{length, get_or, length-map, get_or-append}
 use Rattle.rules.specs.Lists.{from}
 use Rattle.rules.specs.Book.{Book, hours}
 use Rattle.rules.specs.Queries as Q
+use Rattle.rules.proofs.IndexLaws.{length_from, from_at}
 use Rattle.session.specs.Bare.{bare_figures}
 use Rattle.session.specs.Laid.{pad}
 use Rattle.session.specs.Image.{image, Sound, hours_in, figures_as, no_figures}
@@ -24,17 +25,6 @@ use Rattle.query.specs.Parts.{HourFits}
 pub pad-at : {A : Type 0} (n : ℕ) (d e : A) (l : List A) (i : ℕ) → i < length l → get_or (pad n d l) i e ≡ get_or l i e
 unfolding pad
 pad-at n d e l i h = get_or-append l _ e i h
-
-length_from : (i n : ℕ) → length (from i n) ≡ n
-unfolding from
-length_from i zero = refl
-length_from i (suc n) = ap suc (length_from (suc i) n)
-
-from_at : (i n k : ℕ) → k < n → get_or (from i n) k 0 ≡ i + k
-unfolding from
-from_at i zero k h = absurd (omega arith)
-from_at i (suc n) zero h = omega arith
-from_at i (suc n) (suc k) h = from_at (suc i) n k (omega arith) ∙ omega arith
 
 -- an element of what is made of the numbers from i on
 pub made_at : {A : Type 0} (f : ℕ → A) (e : A) (i n k : ℕ) → k < n → get_or (map f (from i n)) k e ≡ f (i + k)

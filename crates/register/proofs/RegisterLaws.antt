@@ -1,11 +1,11 @@
 -- Registering: each way out.
-use Prim.Native.Nat.{ℕ, ◌+◌, ◌≤◌, ◌<◌, min}
-use mathlib.Core.Path.{◌≡◌, refl, sym, ◌∙◌}
-use mathlib.Core.Bool.{Bool, true, false, ◌||◌}
-use mathlib.Core.List.{List, map}
+use Prim.Native.Nat.{◌+◌, ◌≤◌, ◌<◌}
+use mathlib.Core.Path.{◌≡◌, refl, sym}
+use mathlib.Core.Bool.{Bool, true, false}
+use mathlib.Core.List.{map}
 use mathlib.Core.Option.{none}
 use native.Mathlib.Omega.{arith}
-use lib.ListN.{take, length, get_or, set, length-map}
+use lib.ListN.{take, length, set, length-map}
 use borrow.Author.Tests.{le-leb, lt-leb}
 use Rattle.std.specs.List.{list_any}
 use Rattle.rules.specs.Lists.{any}
@@ -24,7 +24,7 @@ use Rattle.std.specs.declared.result.Result.{Result}
 use Rattle.std.specs.declared.result.Result.TheVariants.{Ok, Err}
 use Rattle.rules.specs.declared.row.Row as Code
 use Rattle.rules.specs.declared.row.Row.TheVariants.{Gate, Range, Taken, Second, Full}
-use Rattle.session.proofs.LaidLaws.{any_from, any-start, any_step, any-end, any-map, map_last, length_last, set-pad}
+use Rattle.session.proofs.LaidLaws.{any-map, map_last, length_last, set-pad}
 use Rattle.session.proofs.StepLaws.{open_row}
 use Rattle.session.proofs.SoundLaws.{open-stage}
 use Rattle.session.proofs.ImageLaws.{closed-as, enrolled-as, units-as, registered-as}

@@ -1,22 +1,20 @@
 // Registering units.
 #![tactic(auto)]
 
-ghost use Rattle.std.specs.Prelude.{◌≡◌, ◌<◌, IfOk, OnOk};
+ghost use Rattle.std.specs.Prelude.{◌≡◌, ◌<◌};
 ghost use Rattle.std.specs.List.{list_any};
 ghost use Rattle.rules.specs.Units.{bad_unit, same_border_side};
 ghost use Rattle.rules.specs.DayBook.{register};
-ghost use Rattle.session.specs.Image.{unit_in, unit_as};
+ghost use Rattle.session.specs.Image.{unit_in};
 ghost use Rattle.session.specs.Steps.{Met};
-ghost use Rattle.session.specs.Parts.{Within, JudgesRow, Entered, number_is};
-ghost use Rattle.session_changes.specs.Changes.{Placed, registry_with};
-ghost use Rattle.session_changes.specs.Effects.{effect_of, done};
+ghost use Rattle.session.specs.Parts.{number_is};
 ghost use Rattle.register.specs.Registry.{beside_unit};
 
-use answer::{Refusal, Response};
+use answer::Response;
 use rules::bad_number;
 use rules::row::Row;
 use session::{Effect, Session, Unit, no_notice};
-use session_changes::{RegistryChange, Step, effect};
+use session_changes::{Call, RegistryChange, Step, run};
 
 // Row 5: a value outside its range, or a legacy mark on a domestic unit.
 #[tactic(auto, unfolding(rules::specs::Units::bad_unit, rules::specs::Units::domestic))]
@@ -52,64 +50,61 @@ fn has_second(units: &[Unit], u: Unit) -> bool
     units.iter().any(|v| same_border_side(u, *v))
 }
 
-// The row that refuses u: 2, 5, 7, 8, 9.
-fn judge_register(s: Session, u: Unit) -> Result<(), Row>
-    requires { Within s }
-    ensures judges { JudgesRow s (register (unit_in u)) result }
-    ensures room { OnOk result (s.enrolled < 64) }
-{
-    if s.closed {
-        return Err(Row::Gate);
-    }
-    if bad_unit(u) {
-        return Err(Row::Range);
-    }
-    let units = &s.units[..s.enrolled];
-    if is_taken(units, u.number) {
-        return Err(Row::Taken);
-    }
-    if has_second(units, u) {
-        return Err(Row::Second);
-    }
-    if Session::MAX_UNITS <= s.enrolled {
-        return Err(Row::Full);
-    }
-    Ok(())
+// The registration of a unit.
+#[derive(Clone, Copy)]
+pub struct Registration {
+    pub unit: Unit,
 }
 
-// "registering adds the unit", after the others. What the session keeps of it has reserved bytes of 0, whatever the caller's hold.
-fn enrol(s: Session, u: Unit) -> Step<RegistryChange>
-    requires { s.enrolled < 64 }
-    ensures entered { Entered s (register (unit_in u)) (done registry_with s result) }
-    ensures placed { Placed result.change }
-{
-    Step {
-        change: RegistryChange {
-            enrolled: s.enrolled + 1,
-            at: s.enrolled,
-            unit: Unit { reserved: 0, ..u },
-            notice: no_notice(),
-        },
-        answer: Response::accepted(),
-    }
-}
+impl Call for Registration {
+    type Found = ();
 
-// What registering a unit changes.
-#[tactic(auto, using(session_changes::proofs::StepLaws::step_laws))]
-pub fn register_change(s: Session, u: Unit) -> Result<Step<RegistryChange>, Refusal>
-    ensures met { Met s (register (unit_in u)) (effect_of registry_with s result) }
-    ensures placed { IfOk result (λ t. Placed t.change) }
-{
-    if !s.sound() {
-        return Err(Refusal::from(Row::Gate));
+    type Part = RegistryChange;
+
+    ghost call = { λ c. register (unit_in c.unit) };
+
+    ghost is_found = { λ s _ _. s.enrolled < 64 };
+
+    // The row that refuses the unit: 2, 5, 7, 8, 9.
+    fn judge(self, s: &Session) -> Result<(), Row> {
+        let u = self.unit;
+        if s.closed {
+            return Err(Row::Gate);
+        }
+        if bad_unit(u) {
+            return Err(Row::Range);
+        }
+        let units = &s.units[..s.enrolled];
+        if is_taken(units, u.number) {
+            return Err(Row::Taken);
+        }
+        if has_second(units, u) {
+            return Err(Row::Second);
+        }
+        if Session::MAX_UNITS <= s.enrolled {
+            return Err(Row::Full);
+        }
+        Ok(())
     }
-    judge_register(s, u)?;
-    Ok(enrol(s, u))
+
+    // "registering adds the unit", after the others. What the session keeps of it has reserved bytes of 0, whatever the caller's hold.
+    fn enter(self, s: &Session, _found: ()) -> Step<RegistryChange> {
+        let u = self.unit;
+        Step {
+            change: RegistryChange {
+                enrolled: s.enrolled + 1,
+                at: s.enrolled,
+                unit: Unit { reserved: 0, ..u },
+                notice: no_notice(),
+            },
+            answer: Response::accepted(),
+        }
+    }
 }
 
 // Registers a unit: 2, 5, 7, 8, 9.
-pub fn register(s: Session, u: Unit) -> Effect
-    ensures { Met s (register (unit_in u)) result }
+pub fn register(s: Session, unit: Unit) -> Effect
+    ensures { Met s (register (unit_in unit)) result }
 {
-    effect(s, register_change(s, u))
+    run(s, Registration { unit })
 }

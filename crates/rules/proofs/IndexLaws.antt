@@ -1,15 +1,26 @@
 -- Laws of ranges of indices, and of lists that are written or mapped.
 use Prim.Native.Nat.{ℕ, zero, suc, ◌+◌, ◌-◌, ◌≤◌, ◌<◌}
-use mathlib.Core.Path.{◌≡◌, refl, ap₂}
+use mathlib.Core.Path.{◌≡◌, refl, ap, ap₂}
 use mathlib.Core.List.{List, [], ◌∷◌, map}
 use native.Mathlib.Numerals.{add-one}
 use native.Mathlib.Omega.{arith}
-use lib.ListN.{get_or, set}
+use lib.ListN.{get_or, set, length}
 use Rattle.rules.specs.Lists.{All, none, more, from}
 
 pub from_next : (n i : ℕ) → i < n → from i (n - i) ≡ i ∷ from (i + 1) (n - (i + 1))
 unfolding from
 from_next n i h = let e : n - i ≡ suc (n - (i + 1)) = omega arith in rw (e, add-one)
+
+pub length_from : (i n : ℕ) → length (from i n) ≡ n
+unfolding from
+length_from i zero = refl
+length_from i (suc n) = ap suc (length_from (suc i) n)
+
+pub from_at : (i n k : ℕ) → k < n → get_or (from i n) k 0 ≡ i + k
+unfolding from
+from_at i zero k h = absurd (omega arith)
+from_at i (suc n) zero h = omega arith
+from_at i (suc n) (suc k) h = omega (arith, from_at (suc i) n k (omega arith))
 
 pub from_all : (P : ℕ → Type 0) (i n : ℕ) → ((j : ℕ) → i ≤ j → j < i + n → P j) → All P (from i n)
 unfolding from

@@ -16,104 +16,19 @@ use Rattle.session_changes.specs.declared.ClearingChange.{ClearingChange}
 -- Sessions with other parts
 
 abbrev pub with_lodgements : Session → ℕ → List Lodgement → List Energies → ℕ → Session
-with_lodgements s n ls es last = record {
-  date = s.date;
-  hours = s.hours;
-  enrolled = s.enrolled;
-  units = s.units;
-  notices = s.notices;
-  capacities = s.capacities;
-  standing = n;
-  lodgements = ls;
-  energies = es;
-  last = last;
-  closed = s.closed;
-  cleared = s.cleared;
-  reserved = s.reserved;
-  verdicts = s.verdicts;
-  figures = s.figures;
-  reserved2 = s.reserved2;
-}
+with_lodgements s n ls es last = record s { standing = n; lodgements = ls; energies = es; last = last }
 
 abbrev pub with_registry : Session → ℕ → List Unit → List Notice → Session
-with_registry s n us ns = record {
-  date = s.date;
-  hours = s.hours;
-  enrolled = n;
-  units = us;
-  notices = ns;
-  capacities = s.capacities;
-  standing = s.standing;
-  lodgements = s.lodgements;
-  energies = s.energies;
-  last = s.last;
-  closed = s.closed;
-  cleared = s.cleared;
-  reserved = s.reserved;
-  verdicts = s.verdicts;
-  figures = s.figures;
-  reserved2 = s.reserved2;
-}
+with_registry s n us ns = record s { enrolled = n; units = us; notices = ns }
 
 abbrev pub with_capacities : Session → List Notice → Session
-with_capacities s cs = record {
-  date = s.date;
-  hours = s.hours;
-  enrolled = s.enrolled;
-  units = s.units;
-  notices = s.notices;
-  capacities = cs;
-  standing = s.standing;
-  lodgements = s.lodgements;
-  energies = s.energies;
-  last = s.last;
-  closed = s.closed;
-  cleared = s.cleared;
-  reserved = s.reserved;
-  verdicts = s.verdicts;
-  figures = s.figures;
-  reserved2 = s.reserved2;
-}
+with_capacities s cs = record s { capacities = cs }
 
 abbrev pub with_verdicts : Session → Bool → List Verdict → Session
-with_verdicts s closed vs = record {
-  date = s.date;
-  hours = s.hours;
-  enrolled = s.enrolled;
-  units = s.units;
-  notices = s.notices;
-  capacities = s.capacities;
-  standing = s.standing;
-  lodgements = s.lodgements;
-  energies = s.energies;
-  last = s.last;
-  closed = closed;
-  cleared = s.cleared;
-  reserved = s.reserved;
-  verdicts = vs;
-  figures = s.figures;
-  reserved2 = s.reserved2;
-}
+with_verdicts s closed vs = record s { closed = closed; verdicts = vs }
 
 abbrev pub with_figures : Session → Bool → List HourFigures → Session
-with_figures s cleared fs = record {
-  date = s.date;
-  hours = s.hours;
-  enrolled = s.enrolled;
-  units = s.units;
-  notices = s.notices;
-  capacities = s.capacities;
-  standing = s.standing;
-  lodgements = s.lodgements;
-  energies = s.energies;
-  last = s.last;
-  closed = s.closed;
-  cleared = cleared;
-  reserved = s.reserved;
-  verdicts = s.verdicts;
-  figures = fs;
-  reserved2 = s.reserved2;
-}
+with_figures s cleared fs = record s { cleared = cleared; figures = fs }
 
 -- Units and their notices
 

@@ -2,11 +2,15 @@
 #![tactic(auto)]
 
 ghost use Rattle.std.specs.Prelude.{◌≡◌, ◌<◌, IfOk};
+ghost use Rattle.rules.specs.DayBook as D;
 ghost use Rattle.session.specs.declared.Session.{Session};
+ghost use Rattle.session.specs.Steps.{Met};
+ghost use Rattle.session.specs.Parts.{Within, JudgesRow, Entered};
 ghost use Rattle.session_changes.specs.Changes.{Indexed, Placed, registry_with, capacities_with, standing_with, closed_with, cleared_with};
-ghost use Rattle.session_changes.specs.Effects.{effect_of};
+ghost use Rattle.session_changes.specs.Effects.{effect_of, done};
 
 use answer::{Refusal, Response};
+use rules::row::Row;
 use rules::{DIRECTIONS, HOURS, LODGEMENTS};
 use session::{Effect, Energies, HourFigures, Lodgement, Notice, Session, Unit, Verdict};
 
@@ -132,6 +136,42 @@ impl Change for ClearingChange {
     }
 }
 
+// A call that changes a session: the rows that refuse it, and what it changes where none does.
+pub trait Call: Copy {
+    // what the judgement finds on its way
+    type Found: Copy;
+
+    type Part: Change;
+
+    // the rules' call
+    ghost call: { Self → D.Call };
+
+    ghost is_found: { Session → Self → Self.Found → Type 0 };
+
+    fn judge(self, s: &Session) -> Result<Self::Found, Row>
+        requires { Within s.now }
+        ensures judges { JudgesRow s.now (call self) result }
+        ensures found { IfOk result (λ x. is_found s.now self x) };
+
+    fn enter(self, s: &Session, found: Self::Found) -> Step<Self::Part>
+        requires within { Within s.now }
+        requires found { is_found s.now self found }
+        ensures entered { Entered s.now (call self) (done Self.Part.applied s.now result) }
+        ensures fits { Self.Part.fits result.change };
+}
+
+// What a call changes: nothing of a session that no calls leave, nor where a row refuses it.
+pub fn step_of<C: Call>(s: &Session, call: C) -> Result<Step<C::Part>, Refusal>
+    ensures met { Met s.now (C.call call) (effect_of C.Part.applied s.now result) }
+    ensures fits { IfOk result (λ t. C.Part.fits t.change) }
+{
+    if !s.sound() {
+        return Err(Refusal::from(Row::Gate));
+    }
+    let found = call.judge(s)?;
+    Ok(call.enter(s, found))
+}
+
 // A step stored in the lent session, and the call's answer; a refusal stores nothing.
 pub fn settle<C: Change>(s: &mut Session, step: Result<Step<C>, Refusal>) -> Response
     requires { IfOk step (λ t. C.fits t.change) }
@@ -155,4 +195,19 @@ pub fn effect<C: Change>(s: Session, step: Result<Step<C>, Refusal>) -> Effect
     let mut session = s;
     let answer = settle(&mut session, step);
     Effect { session, answer }
+}
+
+// A call on a lent session, and its answer.
+pub fn perform<C: Call>(s: &mut Session, call: C) -> Response
+    ensures { Met s.old (C.call call) (record { session = s.new; answer = result }) }
+{
+    let step = step_of(s, call);
+    settle(s, step)
+}
+
+// A call on a session by value.
+pub fn run<C: Call>(s: Session, call: C) -> Effect
+    ensures { Met s (C.call call) result }
+{
+    effect(s, step_of(&s, call))
 }

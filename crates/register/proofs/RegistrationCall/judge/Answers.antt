@@ -1,6 +1,6 @@
 use mathlib.Core.Path.{sym, ◌∙◌}
 use Rattle.register.proofs.RegisterLaws.{register-0, register-2, register-5, register-7, register-8, register-9}
-use Rattle.register.proofs.judge_register.Goals as goal
+use Rattle.register.proofs.RegistrationCall.judge.Goals as goal
 
 pub returns-then-s-clause-judges : goal.returns-then-s-clause-judges
 returns-then-s-clause-judges c = register-2 _ _ c.if-s.true

@@ -1,7 +1,0 @@
-use native.Mathlib.Omega.{arith}
-use Rattle.annul.proofs.AnnulLaws.{annulled}
-use Rattle.annul.proofs.strike.Goals as goal
-
-pub returns-clause-entered : goal.returns-clause-entered
-returns-clause-entered c =
-    rw (c.no_lodgement.ensures, c.no_energies.ensures, c.accepted.ensures) (annulled _ c.args.key c.args.at c.requires.1 (omega (arith, c.requires.0.standing)))

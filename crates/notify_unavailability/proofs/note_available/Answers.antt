@@ -1,5 +1,0 @@
-use Rattle.notify_unavailability.proofs.NoticeLaws.{available-entered}
-use Rattle.notify_unavailability.proofs.note_available.Goals as goal
-
-pub returns-clause-entered : goal.returns-clause-entered
-returns-clause-entered c = rw (c.stored_notice.ensures, c.front.ensures, c.accepted.ensures) (available-entered _ c.args.notice _ c.requires.found)

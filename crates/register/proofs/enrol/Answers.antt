@@ -1,5 +1,0 @@
-use Rattle.register.proofs.RegisterLaws.{unit-entered}
-use Rattle.register.proofs.enrol.Goals as goal
-
-pub returns-clause-entered : goal.returns-clause-entered
-returns-clause-entered c = rw (c.no_notice.ensures, c.accepted.ensures) (unit-entered _ _ c.requires)
