@@ -26,7 +26,7 @@ pub fn available_energies(maximum: u32, notice: &Notice) -> [u64; HOURS]
     ensures { result ≡ cond notice.now.given notice.now.energies (replicate 25 maximum) }
 {
     if notice.given {
-        return notice.energies.map(u64::from);
+        return array::from_fn(|h| u64::from(notice.energies[h]));
     }
     maximum_energies(maximum)
 }
