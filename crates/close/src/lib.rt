@@ -3,17 +3,15 @@
 
 ghost use Rattle.rules.specs.DayBook.{close};
 ghost use Rattle.session.specs.Steps.{Met};
-ghost use Rattle.session.specs.Parts.{Within, JudgesRow, Entered};
-ghost use Rattle.session_changes.specs.Changes.{closed_with};
-ghost use Rattle.session_changes.specs.Effects.{effect_of};
+ghost use Rattle.session.specs.Parts.{Within, Entered};
 ghost use Rattle.close.specs.Closed.{closed_effect};
 
-use answer::{Refusal, Response};
+use answer::Response;
 use close_order::{Class, Closing};
 use rules::LODGEMENTS;
 use rules::row::Row;
 use session::{Effect, Session, Verdict};
-use session_changes::{ClosingChange, Step, effect};
+use session_changes::{Call, ClosingChange, Step, run};
 
 // The verdicts of the standing lodgements: "normal executions, default executions, offers". It is all that closing changes
 // beside the mark.
@@ -28,35 +26,39 @@ fn verdicts(s: &Session) -> [Verdict; LODGEMENTS]
     closing.verdicts
 }
 
-// The row that refuses closing: 2.
-fn judge_close(s: &Session) -> Result<(), Row>
-    ensures { JudgesRow s.now close result }
-{
-    if s.closed {
-        return Err(Row::Gate);
-    }
-    Ok(())
-}
+// The closing of the gate.
+#[derive(Clone, Copy)]
+pub struct Close;
 
-// What closing changes.
-pub fn close_change(s: Session) -> Result<Step<ClosingChange>, Refusal>
-    ensures { Met s close (effect_of closed_with s result) }
-{
-    if !s.sound() {
-        return Err(Refusal::from(Row::Gate));
+impl Call for Close {
+    type Found = ();
+
+    type Part = ClosingChange;
+
+    ghost call = { λ _. close };
+
+    ghost is_found = { λ _ _ _. Unit {0} };
+
+    // The row that refuses closing: 2, "closing or clearing twice".
+    fn judge(self, s: &Session) -> Result<(), Row> {
+        if s.closed {
+            return Err(Row::Gate);
+        }
+        Ok(())
     }
-    judge_close(&s)?;
-    Ok(Step {
-        change: ClosingChange {
-            verdicts: verdicts(&s),
-        },
-        answer: Response::accepted(),
-    })
+
+    fn enter(self, s: &Session, _found: ()) -> Step<ClosingChange> {
+        let verdicts = verdicts(s);
+        Step {
+            change: ClosingChange { verdicts },
+            answer: Response::accepted(),
+        }
+    }
 }
 
 // Closes the gate: 2.
 pub fn close(s: Session) -> Effect
     ensures { Met s close result }
 {
-    effect(s, close_change(s))
+    run(s, Close)
 }

@@ -143,8 +143,7 @@ pub extern "C" fn gate_annul(s: &mut Session, key: Key) -> Response
 pub extern "C" fn gate_close(s: &mut Session) -> Response
     ensures { Met s.old close (record { session = s.new; answer = result }) }
 {
-    let step = close::close_change(*s);
-    settle(s, step)
+    perform(s, close::Close)
 }
 
 // Clears the day: 2.
