@@ -48,7 +48,7 @@ fn clear_hour(s: &Session, holders: &[Holder], k: usize) -> HourEnd
     }
 }
 
-// Every hour of the day, 1 to H.
+// Every hour of the day, 1 to H. The index is the hour's, in the session and in the figures.
 fn clear_hours(s: &Session) -> DayEnd
     requires { Within s.now }
     ensures { HoursAs s.now s.now.hours result.figures result.steps }

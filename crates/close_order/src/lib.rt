@@ -43,6 +43,7 @@ impl Class {
 }
 
 // Whether a standing lodgement is of a class. "Unhidden lodgements are taken"; a normal one is hidden by none.
+// By ifs, since each way out has its own law.
 fn takes(s: &Session, class: Class, l: &Lodgement) -> bool
     requires { Within s.now }
     ensures { (i : ℕ) → i < s.now.standing → l.now ≡ get_or s.now.lodgements i no_lodgement → TakesAt s.now (number_of class) i result }

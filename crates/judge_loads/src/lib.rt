@@ -10,7 +10,8 @@ use rules::HOURS;
 use session::Energies;
 
 // "the lowest hour in which that limit is passed": in an hour that is named, by a lodgement's own energy with that of others, at their
-// indices. The sum only grows, so all is left where it first passes; of so few numbers it never wraps.
+// indices. The sum only grows, so all is left where it first passes; of so few numbers it never wraps. Two loops left by a label: document 01
+// names the form.
 pub fn lowest_hour(
     own: &[u32; HOURS],
     energies: &[Energies],

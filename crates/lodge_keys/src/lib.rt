@@ -30,7 +30,7 @@ pub fn key_of(m: &Fields) -> Key
     }
 }
 
-// Two keys that agree but for the default mark.
+// Two keys that agree but for the default mark. A derived equality would look at the reserved bytes, which C may leave at anything.
 #[tactic(auto, unfolding(rules::specs::Lodging::same_but_default))]
 fn same_but_default(a: Key, b: Key) -> bool
     ensures { result ≡ same_but_default (key_in a) (key_in b) }

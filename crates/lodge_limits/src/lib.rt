@@ -17,6 +17,7 @@ use rules::{DIRECTIONS, HOURS};
 use session::{Notice, Session, Unit};
 
 // Whether a limit is passed in no hour that is named, by a lodgement's own energy and a sum. In an hour that it does not name it has none.
+// The index is the hour's, in three arrays.
 fn keeps(own: &[u32; HOURS], sums: &[u64; HOURS], hours: usize, limit: &[u64; HOURS]) -> bool
     requires { hours ≤ 25 }
     ensures { result ≡ kept own.now (load_on own.now sums.now) hours limit.now }

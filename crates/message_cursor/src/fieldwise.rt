@@ -38,7 +38,7 @@ fn take_slot(reader: &mut Reader, execution: bool, named: bool) -> Slot
     }
 }
 
-// Fills in every hour's energy and price, after the fields before the slots were taken.
+// Fills in every hour's energy and price, after the fields before the slots were taken. The index is the hour's, in the map and in two arrays of C's struct.
 fn take_hours(reader: &mut Reader, m: &mut Fields)
     ensures taken { SlotsTaken (bits_of reader.old.message.now) form1.width m.old.execution (hour_bits m.old.map) reader.old.at m.new.energies m.new.prices reader.new.at }
     ensures others { m.new ≡ record m.old { energies = m.new.energies; prices = m.new.prices } }
