@@ -9,15 +9,14 @@ use lib.ListN.{get_or, set, length, replicate}
 use lib.Seq.{get_or-set_same, get_or-set_other}
 use borrow.Author.Tests.{eqb-true, eqb-false, ne_eqb}
 use mathlib.Core.Logic.{◌⊎◌, inl, inr}
-use Rattle.std.specs.List.{sum_by}
+use Rattle.std.specs.List.{sum_by, All as Every}
 use Rattle.std.proofs.lemmas.List.Sums.{sum_by-cons, sum_by-le}
-use Rattle.rules.specs.Lists.{All, keep, sum, sum_of}
+use Rattle.rules.specs.Lists.{keep, sum, sum_of}
 use Rattle.rules.specs.Units.{max_energy}
 use Rattle.rules.proofs.BoolLaws.{by_bool}
-use Rattle.rules.proofs.ListLaws.{all-at}
 use Rattle.rules.proofs.SumLaws.{cond-le}
-use Rattle.clear_store.specs.declared.Portion.{Portion}
-use Rattle.clear_store.specs.declared.Slots.{Slots}
+use Rattle.clear_store.specs.declared.portions.Portion.{Portion}
+use Rattle.clear_store.specs.declared.portions.Slots.{Slots}
 use Rattle.clear_store.specs.Slots.{energy_of, energy_held, nothing, Kept}
 
 cond-none : (b : Bool) → ◌≡◌ {A = ℕ} (cond b 0 0) 0
@@ -51,10 +50,8 @@ module _ (held : List Portion) (p : Portion) (u : ℕ) where
 -- more portions may come
 pub kept-more : {k m : ℕ} {s : Slots} → k ≤ m → Kept k s → Kept m s
 kept-more h kept = record {
-  long = kept.long;
   room = λ j. omega (arith, kept.room j);
   few = omega (arith, kept.few);
-  ranged = kept.ranged;
 }
 
 -- Nothing yet
@@ -74,9 +71,9 @@ none-room n i k = rw (blank n i) (omega arith)
 -- Sums
 
 -- portions in range sum to what fits
-pub beside-small : (u : ℕ) (ps : List Portion) → All (λ p. p.energy ≤ max_energy) ps → sum_by (energy_of u) ps ≤ length ps * max_energy
+pub beside-small : (u : ℕ) (ps : List Portion) → Every (λ p. p.energy ≤ max_energy) ps → sum_by (energy_of u) ps ≤ length ps * max_energy
 unfolding energy_of
-beside-small u ps h = sum_by-le (energy_of u) max_energy ps (λ i d k. omega (arith, cond-le (eqb (get_or ps i d).unit u) (get_or ps i d).energy, all-at i d h k))
+beside-small u ps h = sum_by-le (energy_of u) max_energy ps (λ i d k. omega (arith, cond-le (eqb (get_or ps i d).unit u) (get_or ps i d).energy, h i d k))
 
 -- a unit's portions are those of its holders
 pub of-holders : {A : Type 0} (portion : A → Portion) (u : ℕ) (xs : List A)
@@ -88,6 +85,6 @@ of-holders portion u (x ∷ xs) =
     (λ t. rw (sum_by-cons (energy_of u) (portion x) (map portion xs), t, of-holders portion u xs) refl)
     (λ t. rw (sum_by-cons (energy_of u) (portion x) (map portion xs), t, of-holders portion u xs) (omega arith))
 
-pub held-small : (u k : ℕ) (s : Slots) → Kept k s → energy_held u s.held ≤ max_energy * k
+pub held-small : (u : ℕ) (ps : List Portion) → u % 256 < length ps → Every (λ p. p.energy ≤ 128 * max_energy) ps → energy_held u ps ≤ 128 * max_energy
 unfolding energy_held energy_of
-held-small u k s kept = let p = get_or s.held (u % 256) nothing in omega (arith, cond-le (eqb p.unit u) p.energy, kept.room (u % 256))
+held-small u ps l h = let p = get_or ps (u % 256) nothing in omega (arith, cond-le (eqb p.unit u) p.energy, h (u % 256) nothing l)

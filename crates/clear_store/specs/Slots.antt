@@ -1,10 +1,9 @@
 -- What units have in all, at slots: a unit's energies stand at the remainder of its number, or beside where another unit's are there.
-use Rattle.std.specs.Prelude.{ℕ, ◌+◌, ◌*◌, ◌%◌, ◌≤◌, ◌≡◌, cond, List, eqb, get_or, length}
+use Rattle.std.specs.Prelude.{ℕ, ◌+◌, ◌*◌, ◌%◌, ◌≤◌, cond, List, eqb, get_or, length}
 use Rattle.std.specs.List.{sum_by}
-use Rattle.rules.specs.Lists.{All}
 use Rattle.rules.specs.Units.{max_energy}
-use Rattle.clear_store.specs.declared.Portion.{Portion}
-use Rattle.clear_store.specs.declared.Slots.{Slots}
+use Rattle.clear_store.specs.declared.portions.Portion.{Portion}
+use Rattle.clear_store.specs.declared.portions.Slots.{Slots}
 
 -- what a unit has of a portion
 unfoldable pub energy_of : ℕ → Portion → ℕ
@@ -24,7 +23,5 @@ energy_in unit s = energy_held unit s.held + sum_by (energy_of unit) s.others.it
 
 -- what k portions leave: slots that can be added to, and at most as many portions beside
 pub record Kept (k : ℕ) (s : Slots) : Type 0 where
-  pub long : length s.held ≡ 256
   pub room : (i : ℕ) → (get_or s.held i nothing).energy ≤ max_energy * k
   pub few : length s.others.items ≤ k
-  pub ranged : All (λ p. p.energy ≤ max_energy) s.others.items

@@ -1,6 +1,8 @@
 // The figures of an hour as the session keeps them.
 #![tactic(auto)]
 
+mod portions;
+
 ghost use Rattle.std.specs.Prelude.{◌≡◌, ◌≤◌, ◌<◌, ◌+◌, ◌*◌, ◌^◌, ℕ, map, length, unwrap_or};
 ghost use Rattle.std.specs.List.{sum_by};
 ghost use Rattle.std.specs.Fn.{FnReturnsAt};
@@ -11,20 +13,11 @@ ghost use Rattle.hour.specs.View.{figures_in, figures_as};
 ghost use Rattle.clear_store.specs.Slots.{energy_of, energy_in, Kept};
 ghost use Rattle.clear_store.specs.Shown.{cleared_as};
 
+use crate::portions::{Portion, SLOTS, Slots};
 use arrayvec::ArrayVec;
 use hour::Figures;
-use rules::{LODGEMENTS, UNITS};
+use rules::UNITS;
 use session::{HourFigures, Unit};
-
-// Units are found by slots, the remainders of their numbers: a pass over all for each unit would take most of a quiet hour's time.
-const SLOTS: usize = 256;
-
-// An energy, and the number of the unit that has it.
-#[derive(Clone, Copy, Debug, Default, PartialEq, Eq)]
-struct Portion {
-    unit: u32,
-    energy: u32,
-}
 
 impl Portion {
     // What a unit has of it.
@@ -42,13 +35,6 @@ fn energy_among(unit: u32, portions: &[Portion]) -> u32
     ensures { result ≡ sum_by (energy_of unit) portions.now }
 {
     portions.iter().map(|portion| portion.energy_of(unit)).sum()
-}
-
-// What units have in all: a unit's energies added up at its slot, and each by itself where another unit's stand there.
-#[derive(Drop)]
-struct Slots {
-    held: [Portion; SLOTS],
-    others: ArrayVec<Portion, LODGEMENTS>,
 }
 
 impl Slots {
@@ -87,10 +73,9 @@ impl Slots {
         requires callable { F.IsAlwaysCallable of }
         requires few { length holders.now ≤ 128 }
         requires ranged { All (λ x. (p : Portion) → FnReturnsAt F.Fn of x p → p.energy ≤ max_energy) holders.now }
-        ensures sums { (portion : T → Portion)
+        ensures { (portion : T → Portion)
             → All (λ x. (p : Portion) → FnReturnsAt F.Fn of x p → p ≡ portion x) holders.now
             → (u : ℕ) → energy_in u result ≡ sum_by (energy_of u) (map portion holders.now) }
-        ensures kept { Kept 128 result }
     {
         let mut slots = Slots::new();
         for x in holders {
@@ -101,7 +86,6 @@ impl Slots {
 
     // "a unit's matched [..] and executed energy in an hour": what stands at its slot, and beside.
     fn energy_of(&self, unit: u32) -> u32
-        requires { Kept 128 self.now }
         ensures { result ≡ energy_in unit self.now }
     {
         let held = self.held[unit as usize % SLOTS];
@@ -111,7 +95,6 @@ impl Slots {
     // Each unit's, at the unit's index.
     fn by_unit(&self, units: &[Unit]) -> [u32; UNITS]
         requires units { length units.now ≤ 64 }
-        requires kept { Kept 128 self.now }
         ensures { result ≡ pad 64 0 (map (λ u. energy_in u.number self.now) units.now) }
     {
         let mut energies = [0; UNITS];

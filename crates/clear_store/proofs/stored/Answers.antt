@@ -13,7 +13,7 @@ use Rattle.hour.specs.View.{figures_in, figures_as}
 use Rattle.session.specs.declared.Unit.{Unit}
 use Rattle.session.specs.Laid.{pad}
 use Rattle.clear_store.specs.Shown.{cleared_as}
-use Rattle.clear_store.specs.declared.Portion.{Portion}
+use Rattle.clear_store.specs.declared.portions.Portion.{Portion}
 use Rattle.clear_store.proofs.SumLaws.{kept-sum, maxima-as, cleared-same}
 use Rattle.clear_store.proofs.SlotLaws.{of-holders}
 use Rattle.clear_store.proofs.stored.Goals as goal
@@ -43,8 +43,8 @@ returns c = λ w.
     (ap (λ (g : Figures). g.bilateral) w)
     (c.plain.ensures ∙ (ap (λ (g : Figures). map (λ o. unwrap_or o 0) g.maxima) w ∙ maxima-as (published_in f.maxima)))
     (c.by_unit.ensures ∙ ap (pad 64 0) (map-all _ _ (all-every (λ (u : Unit).
-    c.of-matched.ensures.sums of-offer (all-every (λ x p h. search rules) os.result.now) u.number
+    c.of-matched.ensures of-offer (all-every (λ x p h. search rules) os.result.now) u.number
     ∙ rw os.ensures.value (of-holders of-offer u.number f.offers.items ∙ sym (kept-sum offer_in (λ o. o.matched) (λ o. eqb o.holder.unit u.number) f.offers.items))) us)))
     (c.by_unit-2.ensures ∙ ap (pad 64 0) (map-all _ _ (all-every (λ (u : Unit).
-    c.of-executed.ensures.sums of-execution (all-every (λ x p h. search rules) xs.result.now) u.number
+    c.of-executed.ensures of-execution (all-every (λ x p h. search rules) xs.result.now) u.number
     ∙ rw xs.ensures.value (of-holders of-execution u.number f.executions.items ∙ sym (kept-sum execution_in (λ x. x.energy) (λ x. eqb x.holder.unit u.number) f.executions.items))) us)))

@@ -2,9 +2,9 @@ use Rattle.std.proofs.Common.{◌≡◌, ℕ, map, take}
 use Rattle.std.specs.Fn.{FnReturnsAt}
 use Rattle.std.specs.List.{sum_by}
 use Rattle.rules.specs.Lists.{All}
-use Rattle.clear_store.specs.declared.Portion.{Portion}
+use Rattle.clear_store.specs.declared.portions.Portion.{Portion}
 use Rattle.clear_store.specs.Slots.{energy_of, energy_in, Kept}
-use Rattle.clear_store.proofs.Slots.of.Given as goal
+use Rattle.clear_store.proofs.portions.Slots.of.Given as goal
 
 abbrev pub invariant-loop-x : goal.invariant-loop-x
 invariant-loop-x g l = record {

@@ -1,16 +1,14 @@
 use Rattle.std.proofs.Common.{arith}
 use Rattle.std.proofs.lemmas.List.Sums.{sum_by_push}
-use Rattle.rules.specs.Lists.{none, more}
-use Rattle.rules.proofs.ListLaws.{all_append}
 use Rattle.clear_store.specs.Slots.{energy_of, energy_in}
 use Rattle.clear_store.proofs.SlotLaws.{held-more}
-use Rattle.clear_store.proofs.Slots.add.Goals as goal
+use Rattle.clear_store.proofs.portions.Slots.add.Goals as goal
 
 pub returns-then-held-eq0-clause-sums : goal.returns-then-held-eq0-clause-sums
 unfolding energy_in
 returns-then-held-eq0-clause-sums c u =
     let a = c.args in
-    omega (arith, held-more a.self.now.held a.portion u c.if-held-eq0.either (omega (arith, c.requires.kept.long)))
+    omega (arith, held-more a.self.now.held a.portion u c.if-held-eq0.either (omega (arith, a.self.now.long)))
 
 pub returns-else-held-eq0-clause-sums : goal.returns-else-held-eq0-clause-sums
 unfolding energy_in
@@ -20,8 +18,6 @@ returns-else-held-eq0-clause-sums c u =
 
 pub returns-else-held-eq0-clause-kept_after : goal.returns-else-held-eq0-clause-kept_after
 returns-else-held-eq0-clause-kept_after c k kept = record {
-  long = kept.long;
   room = λ i. omega (arith, kept.room i);
   few = omega (arith, c.push.ensures.len, kept.few);
-  ranged = rw c.push.ensures.items (all_append kept.ranged (more c.requires.ranged none));
 }

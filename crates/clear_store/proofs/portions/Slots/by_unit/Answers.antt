@@ -6,7 +6,7 @@ use Rattle.session.specs.Laid.{pad}
 use Rattle.session.specs.Image.{no_unit}
 use Rattle.clear_store.specs.Slots.{energy_in}
 use Rattle.clear_store.proofs.SumLaws.{laid-next}
-use Rattle.clear_store.proofs.Slots.by_unit.Goals as goal
+use Rattle.clear_store.proofs.portions.Slots.by_unit.Goals as goal
 
 pub loop-i-init : goal.loop-i-init
 unfolding pad

@@ -1,10 +1,10 @@
 use Rattle.std.proofs.Common.{arith, refl}
 use Rattle.clear_store.specs.Slots.{energy_held, energy_in}
 use Rattle.clear_store.proofs.SlotLaws.{beside-small, held-small}
-use Rattle.clear_store.proofs.Slots.energy_of.Goals as goal
+use Rattle.clear_store.proofs.portions.Slots.energy_of.Goals as goal
 
 pub energy_among-requires : goal.energy_among-requires
-energy_among-requires c = rw c.as_slice.ensures.value (omega (arith, beside-small c.args.unit c.args.self.now.others.items c.requires.ranged, c.requires.few))
+energy_among-requires c = omega (arith, beside-small c.args.unit c.as_slice.result.now (rw c.as_slice.ensures.value c.args.self.now.ranged), c.as_slice.ensures.fits)
 
 pub overflow_add-result : goal.overflow_add-result
 unfolding energy_held
@@ -13,10 +13,10 @@ overflow_add-result c =
     omega (
       arith,
       c.energy_of.ensures,
-      (rw c.as_slice.ensures.value at c.energy_among.ensures),
-      held-small c.args.unit 128 s c.requires,
-      beside-small c.args.unit s.others.items c.requires.ranged,
-      c.requires.few,
+      c.energy_among.ensures,
+      held-small c.args.unit s.held (omega (arith, s.long)) s.sums,
+      beside-small c.args.unit c.as_slice.result.now (rw c.as_slice.ensures.value s.ranged),
+      c.as_slice.ensures.fits,
     )
 
 pub returns : goal.returns
