@@ -10,7 +10,7 @@ use rules::LODGEMENTS;
 pub const SLOTS: usize = 256;
 
 // An energy, and the number of the unit that has it.
-#[derive(Clone, Copy, Debug, Default, PartialEq, Eq)]
+#[derive(Clone, Copy, Default)]
 pub struct Portion {
     pub unit: u32,
     pub energy: u32,
@@ -21,7 +21,6 @@ pub struct Portion {
 pub struct Slots {
     pub held: [Portion; SLOTS],
     pub others: ArrayVec<Portion, LODGEMENTS>,
-    pub ghost long: { length held ≡ 256 },
     // No sum is of more energies than there are lodgements.
     pub ghost sums: { All (λ p. p.energy ≤ 128 * max_energy) held },
     pub ghost ranged: { All (λ p. p.energy ≤ max_energy) others.items },

@@ -8,7 +8,7 @@ pub returns-then-held-eq0-clause-sums : goal.returns-then-held-eq0-clause-sums
 unfolding energy_in
 returns-then-held-eq0-clause-sums c u =
     let a = c.args in
-    omega (arith, held-more a.self.now.held a.portion u c.if-held-eq0.either (omega (arith, a.self.now.long)))
+    omega (arith, held-more a.self.now.held a.portion u c.if-held-eq0.either (omega arith))
 
 pub returns-else-held-eq0-clause-sums : goal.returns-else-held-eq0-clause-sums
 unfolding energy_in

@@ -14,7 +14,7 @@ overflow_add-result c =
       arith,
       c.energy_of.ensures,
       c.energy_among.ensures,
-      held-small c.args.unit s.held (omega (arith, s.long)) s.sums,
+      held-small c.args.unit s.held (omega arith) s.sums,
       beside-small c.args.unit c.as_slice.result.now (rw c.as_slice.ensures.value s.ranged),
       c.as_slice.ensures.fits,
     )

@@ -1,4 +1,4 @@
-use Rattle.std.proofs.Common.{arith, refl, ◌*◌, ◌≤◌}
+use Rattle.std.proofs.Common.{arith, ◌*◌, ◌≤◌}
 use Rattle.std.proofs.lemmas.List.Elements.{All-nil, All-replicate}
 use Rattle.rules.specs.Units.{max_energy}
 use Rattle.clear_store.specs.declared.portions.Portion.{Portion}
@@ -18,7 +18,6 @@ returns-clause-kept c = record {
 
 pub invariant_of-result : goal.invariant_of-result
 invariant_of-result c = record {
-  long = refl;
   sums = All-replicate (λ (p : Portion). p.energy ≤ 128 * max_energy) 256 nothing (omega arith);
   ranged = rw c.new-others.ensures (All-nil (λ (p : Portion). p.energy ≤ max_energy));
 }

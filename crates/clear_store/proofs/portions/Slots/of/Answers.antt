@@ -30,8 +30,8 @@ loop-x-preserved g c =
       said = λ f k u.
           let said : c.of.result ≡ f x =
           (rw (← c.x-item.is) at (all-at i x k (omega arith))) c.of.result (record { shown = _; shows = refl; says = record { met = c.of.ensures } }) in
-          c.add.ensures.sums u
-          ∙ rw (c.loop-x.invariant.said f k u, add-one i, take-suc holders i x (omega arith), map-append, ← c.x-item.is, said) (sym (sum_by_push (energy_of u) (map f (take i holders)) (f x)));
+          rw (c.add.ensures.sums u, c.loop-x.invariant.said f k u, add-one i, take-suc holders i x (omega arith), map-append, ← c.x-item.is, said)
+          (sym (sum_by_push (energy_of u) (map f (take i holders)) (f x)));
     }
 
 pub returns : goal.returns
