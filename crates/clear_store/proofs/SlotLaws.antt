@@ -1,6 +1,7 @@
 -- What one portion more adds, and what stays in range.
 use Prim.Native.Nat.{ℕ, zero, suc, ◌+◌, ◌*◌, ◌%◌, ◌≤◌, ◌<◌}
 use mathlib.Core.Path.{◌≡◌, refl, sym, ap}
+use mathlib.Core.Logic.{◌⊎◌, inl, inr}
 use mathlib.Core.Bool.{Bool, true, false, cond}
 use mathlib.Core.List.{List, [], ◌∷◌, map}
 use native.Mathlib.Omega.{arith}
@@ -8,7 +9,6 @@ use lib.Dec.{eqb}
 use lib.ListN.{get_or, set, length, replicate}
 use lib.Seq.{get_or-set_same, get_or-set_other}
 use borrow.Author.Tests.{eqb-true, eqb-false, ne_eqb}
-use mathlib.Core.Logic.{◌⊎◌, inl, inr}
 use Rattle.std.specs.List.{sum_by, All as Every}
 use Rattle.std.proofs.lemmas.List.Sums.{sum_by-cons, sum_by-le}
 use Rattle.rules.specs.Lists.{keep, sum, sum_of}
@@ -29,12 +29,12 @@ joined : (x p : Portion) (u : ℕ) → (x.unit ≡ p.unit) ⊎ ((x.unit ≡ p.un
 joined x p u (inl h) = rw h (by_bool (eqb p.unit u) (λ t. rw t refl) (λ t. rw t refl))
 joined x p u (inr z) = rw (z.1, cond-none (eqb x.unit u)) (by_bool (eqb p.unit u) (λ t. rw t (omega arith)) (λ t. rw t refl))
 
--- at its slot
 module _ (held : List Portion) (p : Portion) (u : ℕ) where
-  -- what stands at the slot
+  -- what stands at the portion's slot
   abbrev there : Portion
   there = get_or held (p.unit % 256) nothing
 
+  -- and with the portion
   abbrev both : Portion
   both = record { unit = p.unit; energy = there.energy + p.energy }
 
@@ -70,10 +70,15 @@ none-room n i k = rw (blank n i) (omega arith)
 
 -- Sums
 
--- portions in range sum to what fits
+-- a sum of portions in range is in range
 pub beside-small : (u : ℕ) (ps : List Portion) → Every (λ p. p.energy ≤ max_energy) ps → sum_by (energy_of u) ps ≤ length ps * max_energy
 unfolding energy_of
 beside-small u ps h = sum_by-le (energy_of u) max_energy ps (λ i d k. omega (arith, cond-le (eqb (get_or ps i d).unit u) (get_or ps i d).energy, h i d k))
+
+-- and so is what stands at a slot
+pub held-small : (u : ℕ) (ps : List Portion) → u % 256 < length ps → Every (λ p. p.energy ≤ 128 * max_energy) ps → energy_held u ps ≤ 128 * max_energy
+unfolding energy_held energy_of
+held-small u ps l h = let p = get_or ps (u % 256) nothing in omega (arith, cond-le (eqb p.unit u) p.energy, h (u % 256) nothing l)
 
 -- a unit's portions are those of its holders
 pub of-holders : {A : Type 0} (portion : A → Portion) (u : ℕ) (xs : List A)
@@ -84,7 +89,3 @@ of-holders portion u (x ∷ xs) =
     by_bool (eqb (portion x).unit u)
     (λ t. rw (sum_by-cons (energy_of u) (portion x) (map portion xs), t, of-holders portion u xs) refl)
     (λ t. rw (sum_by-cons (energy_of u) (portion x) (map portion xs), t, of-holders portion u xs) (omega arith))
-
-pub held-small : (u : ℕ) (ps : List Portion) → u % 256 < length ps → Every (λ p. p.energy ≤ 128 * max_energy) ps → energy_held u ps ≤ 128 * max_energy
-unfolding energy_held energy_of
-held-small u ps l h = let p = get_or ps (u % 256) nothing in omega (arith, cond-le (eqb p.unit u) p.energy, h (u % 256) nothing l)
