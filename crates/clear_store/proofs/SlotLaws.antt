@@ -1,99 +1,91 @@
--- Energies by slots: what one more adds, and what stays in range.
-use Prim.Native.Nat.{ℕ, zero, suc, ◌+◌, ◌%◌, ◌≤◌, ◌<◌}
+-- What one portion more adds, and what stays in range.
+use Prim.Native.Nat.{ℕ, zero, suc, ◌+◌, ◌*◌, ◌%◌, ◌≤◌, ◌<◌}
 use mathlib.Core.Path.{◌≡◌, refl, sym, ap}
+use mathlib.Core.Logic.{◌⊎◌, inl, inr}
 use mathlib.Core.Bool.{Bool, true, false, cond}
-use mathlib.Core.List.{List, [], ◌∷◌, ◌++◌}
+use mathlib.Core.List.{List, [], ◌∷◌, map}
 use native.Mathlib.Omega.{arith}
 use lib.Dec.{eqb}
 use lib.ListN.{get_or, set, length, replicate}
 use lib.Seq.{get_or-set_same, get_or-set_other}
 use borrow.Author.Tests.{eqb-true, eqb-false, ne_eqb}
-use Rattle.std.proofs.lemmas.List.{length-append}
-use Rattle.rules.specs.Lists.{none, more}
+use Rattle.std.specs.List.{sum_by, All as Every}
+use Rattle.std.proofs.lemmas.List.Sums.{sum_by-cons, sum_by-le}
+use Rattle.rules.specs.Lists.{keep, sum, sum_of}
 use Rattle.rules.specs.Units.{max_energy}
 use Rattle.rules.proofs.BoolLaws.{by_bool}
-use Rattle.rules.proofs.ListLaws.{all_append}
-use Rattle.clear_store.specs.Beside.{energy_beside, energy_held, energy_in, Kept}
+use Rattle.rules.proofs.SumLaws.{cond-le}
+use Rattle.clear_store.specs.declared.portions.Portion.{Portion}
+use Rattle.clear_store.specs.declared.portions.Slots.{Slots}
+use Rattle.clear_store.specs.Slots.{energy_of, energy_held, nothing, Kept}
 
-nothing-held : (b : Bool) → ◌≡◌ {A = ℕ} (cond b 0 0) 0
-nothing-held true = refl
-nothing-held false = refl
+cond-none : (b : Bool) → ◌≡◌ {A = ℕ} (cond b 0 0) 0
+cond-none true = refl
+cond-none false = refl
 
-module _ (held sums : List ℕ) (n e : ℕ) where
-  -- the slot is the number's
-  held-added : get_or held (n % 256) 0 ≡ n → n % 256 < length sums → (u : ℕ)
-      → energy_held held (set sums (n % 256) (get_or sums (n % 256) 0 + e)) u ≡ energy_held held sums u + cond (eqb n u) e 0
-  unfolding energy_held
-  held-added h l u =
-      by_bool (eqb (u % 256) (n % 256))
-      (λ t. rw (eqb-true (u % 256) (n % 256) t, get_or-set_same sums (n % 256) (get_or sums (n % 256) 0 + e) 0 l, h)
-      (by_bool (eqb n u) (λ d. rw d refl) (λ d. rw d (omega arith))))
-      (λ t. let d = eqb-false (u % 256) (n % 256) t in
-      rw (get_or-set_other sums (n % 256) (u % 256) (get_or sums (n % 256) 0 + e) 0 d, ne_eqb n u (λ z. d (ap (λ x. x % 256) (sym z)))) (omega arith))
+-- a portion joined to one of the same unit, or to nothing
+joined : (x p : Portion) (u : ℕ) → (x.unit ≡ p.unit) ⊎ ((x.unit ≡ p.unit → ⊥) × (x.energy ≡ 0))
+    → cond (eqb p.unit u) (x.energy + p.energy) 0 ≡ cond (eqb x.unit u) x.energy 0 + cond (eqb p.unit u) p.energy 0
+joined x p u (inl h) = rw h (by_bool (eqb p.unit u) (λ t. rw t refl) (λ t. rw t refl))
+joined x p u (inr z) = rw (z.1, cond-none (eqb x.unit u)) (by_bool (eqb p.unit u) (λ t. rw t (omega arith)) (λ t. rw t refl))
 
-  -- nothing stands at it
-  held-taken : get_or sums (n % 256) 0 ≡ 0 → n % 256 < length held → n % 256 < length sums → (u : ℕ)
-      → energy_held (set held (n % 256) n) (set sums (n % 256) e) u ≡ energy_held held sums u + cond (eqb n u) e 0
-  unfolding energy_held
-  held-taken z k l u =
-      by_bool (eqb (u % 256) (n % 256))
-      (λ t. rw (eqb-true (u % 256) (n % 256) t, get_or-set_same held (n % 256) n 0 k, get_or-set_same sums (n % 256) e 0 l, z, nothing-held (eqb (get_or held (n % 256) 0) u)) (omega arith))
-      (λ t. let d = eqb-false (u % 256) (n % 256) t in
-      rw (
-        get_or-set_other held (n % 256) (u % 256) n 0 d,
-        get_or-set_other sums (n % 256) (u % 256) e 0 d,
-        ne_eqb n u (λ x. d (ap (λ y. y % 256) (sym x))),
-      ) (omega arith))
+module _ (held : List Portion) (p : Portion) (u : ℕ) where
+  -- what stands at the portion's slot
+  abbrev there : Portion
+  there = get_or held (p.unit % 256) nothing
 
-  module _ (others rest : List ℕ) (u : ℕ) where
-    pub sum-held : get_or held (n % 256) 0 ≡ n → n % 256 < length sums
-        → energy_in held (set sums (n % 256) (get_or sums (n % 256) 0 + e)) others rest u ≡ energy_in held sums others rest u + cond (eqb n u) e 0
-    unfolding energy_in
-    sum-held h l = omega (arith, held-added h l u)
+  -- and with the portion
+  abbrev both : Portion
+  both = record { unit = p.unit; energy = there.energy + p.energy }
 
-    pub sum-taken : get_or sums (n % 256) 0 ≡ 0 → n % 256 < length held → n % 256 < length sums
-        → energy_in (set held (n % 256) n) (set sums (n % 256) e) others rest u ≡ energy_in held sums others rest u + cond (eqb n u) e 0
-    unfolding energy_in
-    sum-taken z k l = omega (arith, held-taken z k l u)
+  pub held-more : (there.unit ≡ p.unit) ⊎ ((there.unit ≡ p.unit → ⊥) × (there.energy ≡ 0)) → p.unit % 256 < length held
+      → energy_held u (set held (p.unit % 256) both) ≡ energy_held u held + energy_of u p
+  unfolding energy_held energy_of
+  held-more e l =
+      by_bool (eqb (u % 256) (p.unit % 256))
+      (λ t. rw (eqb-true (u % 256) (p.unit % 256) t, get_or-set_same held (p.unit % 256) both nothing l) (joined there p u e))
+      (λ t. let d = eqb-false (u % 256) (p.unit % 256) t in
+      rw (get_or-set_other held (p.unit % 256) (u % 256) both nothing d, ne_eqb p.unit u (λ z. d (ap (λ x. x % 256) (sym z)))) (omega arith))
 
-    pub sum-beside : length rest ≡ length others → energy_in held sums (others ++ (n ∷ [])) (rest ++ (e ∷ [])) u ≡ energy_in held sums others rest u + cond (eqb n u) e 0
-    unfolding energy_in energy_beside
-    sum-beside h = omega (arith, last others rest h)
-      where
-        last : (os rs : List ℕ) → length rs ≡ length os → energy_beside u (os ++ (n ∷ [])) (rs ++ (e ∷ [])) ≡ energy_beside u os rs + cond (eqb n u) e 0
-        last [] [] h = omega arith
-        last [] (r ∷ rs) h = absurd (omega arith)
-        last (o ∷ os) [] h = absurd (omega arith)
-        last (o ∷ os) (r ∷ rs) h = omega (arith, last os rs (omega arith))
-
-module _ (sums others rest : List ℕ) (k : ℕ) (kept : Kept k sums others rest) (e : ℕ) (h : e ≤ max_energy) where
-  pub kept-beside : (n : ℕ) → Kept (k + 1) sums (others ++ (n ∷ [])) (rest ++ (e ∷ []))
-  kept-beside n = record {
-    room = λ j. omega (arith, kept.room j);
-    few = omega (arith, length-append others (n ∷ []), kept.few);
-    same_length = omega (arith, length-append others (n ∷ []), length-append rest (e ∷ []), kept.same_length);
-    ranged = all_append kept.ranged (more {x = e} h none);
-  }
-
--- more energies may come
-pub kept-more : {k m : ℕ} {sums others rest : List ℕ} → k ≤ m → Kept k sums others rest → Kept m sums others rest
+-- more portions may come
+pub kept-more : {k m : ℕ} {s : Slots} → k ≤ m → Kept k s → Kept m s
 kept-more h kept = record {
   room = λ j. omega (arith, kept.room j);
   few = omega (arith, kept.few);
-  same_length = kept.same_length;
-  ranged = kept.ranged;
 }
 
 -- Nothing yet
 
-blank : (n i : ℕ) → ◌≡◌ {A = ℕ} (get_or (replicate n 0) i 0) 0
+blank : (n i : ℕ) → get_or (replicate n nothing) i nothing ≡ nothing
 blank zero i = refl
 blank (suc n) zero = refl
 blank (suc n) (suc i) = blank n i
 
-pub none-held : (m n u : ℕ) → energy_in (replicate m 0) (replicate n 0) [] [] u ≡ 0
-unfolding energy_in energy_held energy_beside
-none-held m n u = rw (blank n (u % 256), nothing-held (eqb (get_or (replicate m 0) (u % 256) 0) u)) (omega arith)
+pub none-held : (n u : ℕ) → energy_held u (replicate n nothing) ≡ 0
+unfolding energy_held energy_of
+none-held n u = rw (blank n (u % 256)) (cond-none (eqb 0 u))
 
-pub none-kept : (n : ℕ) → Kept 0 (replicate n 0) [] []
-none-kept n = record { room = λ j. omega (arith, blank n j); few = omega arith; same_length = refl; ranged = none }
+pub none-room : (n i k : ℕ) → (get_or (replicate n nothing) i nothing).energy ≤ k
+none-room n i k = rw (blank n i) (omega arith)
+
+-- Sums
+
+-- a sum of portions in range is in range
+pub beside-small : (u : ℕ) (ps : List Portion) → Every (λ p. p.energy ≤ max_energy) ps → sum_by (energy_of u) ps ≤ length ps * max_energy
+unfolding energy_of
+beside-small u ps h = sum_by-le (energy_of u) max_energy ps (λ i d k. omega (arith, cond-le (eqb (get_or ps i d).unit u) (get_or ps i d).energy, h i d k))
+
+-- and so is what stands at a slot
+pub held-small : (u : ℕ) (ps : List Portion) → u % 256 < length ps → Every (λ p. p.energy ≤ 128 * max_energy) ps → energy_held u ps ≤ 128 * max_energy
+unfolding energy_held energy_of
+held-small u ps l h = let p = get_or ps (u % 256) nothing in omega (arith, cond-le (eqb p.unit u) p.energy, h (u % 256) nothing l)
+
+-- a unit's portions are those of its holders
+pub of-holders : {A : Type 0} (portion : A → Portion) (u : ℕ) (xs : List A)
+    → sum_by (energy_of u) (map portion xs) ≡ sum_of (λ x. (portion x).energy) (keep (λ x. eqb (portion x).unit u) xs)
+unfolding energy_of keep sum_of sum
+of-holders portion u [] = refl
+of-holders portion u (x ∷ xs) =
+    by_bool (eqb (portion x).unit u)
+    (λ t. rw (sum_by-cons (energy_of u) (portion x) (map portion xs), t, of-holders portion u xs) refl)
+    (λ t. rw (sum_by-cons (energy_of u) (portion x) (map portion xs), t, of-holders portion u xs) (omega arith))

@@ -1,13 +1,12 @@
 -- Energies of a unit, added one after the other, and laid at the units' indices.
 use Prim.Native.Nat.{ℕ, zero, suc, ◌+◌, ◌-◌, ◌/◌, ◌%◌, ◌≤◌, ◌<◌}
 use mathlib.Core.Path.{◌≡◌, refl, sym, ap, ◌∙◌}
-use mathlib.Core.Bool.{Bool, cond, ◌&&◌, beq}
+use mathlib.Core.Bool.{Bool, ◌&&◌, beq}
 use mathlib.Core.List.{List, [], ◌∷◌, ◌++◌, map, map-map, append-nil}
 use native.Mathlib.Omega.{arith}
 use lib.Dec.{eqb}
-use lib.ListN.{get_or, set, length, take, drop, drop_of_length-le, length-map, length-take}
-use lib.Seq.{take_all, drop-cons}
-use native.Mathlib.Numerals.{add-one}
+use lib.ListN.{get_or, set, length, take, length-map, length-take}
+use lib.Seq.{take_all}
 use Rattle.std.specs.Prelude.{unwrap_or}
 use Rattle.rules.specs.Lists.{keep, sum, sum_of, from}
 use Rattle.rules.specs.Borders.{Directed}
@@ -15,8 +14,6 @@ use Rattle.rules.proofs.ElementLaws.{all-every}
 use Rattle.rules.proofs.IndexLaws.{map-all}
 use Rattle.rules.proofs.BoolLaws.{by_bool}
 use Rattle.rules.proofs.ListLaws.{keep-map}
-use Rattle.clear_store.specs.Beside.{energy_beside}
-use Rattle.session.specs.declared.Unit.{Unit}
 use Rattle.session.specs.declared.HourFigures.{HourFigures}
 use Rattle.session.specs.Laid.{pad}
 use Rattle.session.specs.Image.{by_way, energy_of}
@@ -27,32 +24,6 @@ pub take-last : {A : Type 0} (xs : List A) (i : ℕ) (d : A) → i < length xs �
 take-last [] i d h = absurd (omega arith)
 take-last (x ∷ xs) zero d h = refl
 take-last (x ∷ xs) (suc i) d h = let e : suc i + 1 ≡ suc (i + 1) = omega arith in rw e (ap (λ l. x ∷ l) (take-last xs i d (omega arith)))
-
--- Energies beside numbers
-
-module _ (unit : ℕ) where
-  -- one more of them
-  pub beside-next : (ns es : List ℕ) (i : ℕ) → i < length ns → length es ≡ length ns
-      → energy_beside unit (drop i ns) (drop i es) ≡ cond (eqb (get_or ns i 0) unit) (get_or es i 0) 0 + energy_beside unit (drop (i + 1) ns) (drop (i + 1) es)
-  unfolding energy_beside
-  beside-next ns es i h e = let n : i < length es = omega arith in rw (add-one i, drop-cons ns i 0 h, drop-cons es i 0 n)
-
-  pub beside-end : (ns es : List ℕ) (i : ℕ) → length ns ≤ i → energy_beside unit (drop i ns) (drop i es) ≡ 0
-  unfolding energy_beside
-  beside-end ns es i h = rw (drop_of_length-le ns {i = i} h)
-
-  -- those of holders
-  pub beside-read : {A : Type 0} (number energy : A → ℕ) (xs : List A) → energy_beside unit (map number xs) (map energy xs) ≡ sum_of energy (keep (λ x. eqb (number x) unit) xs)
-  unfolding energy_beside keep sum_of sum
-  beside-read number energy [] = refl
-  beside-read number energy (x ∷ xs) =
-      by_bool (eqb (number x) unit) (λ t. rw t (ap (λ n. energy x + n) (beside-read number energy xs))) (λ t. rw t (omega (arith, beside-read number energy xs)))
-
--- the sums of each unit, from columns of some holders
-pub units-read : {A : Type 0} (number energy : A → ℕ) (xs : List A) (us : List Unit) {ns es r : List ℕ}
-    → r ≡ pad 64 0 (map (λ (u : Unit). energy_beside u.number ns es) us) → ns ≡ map number xs → es ≡ map energy xs
-    → r ≡ pad 64 0 (map (λ (u : Unit). sum_of energy (keep (λ x. eqb (number x) u.number) xs)) us)
-units-read number energy xs us e n m = e ∙ rw (n, m) (ap (pad 64 0) (map-all _ _ (all-every (λ u. beside-read u.number number energy xs) us)))
 
 -- an energy more, at the index of the next element
 pub laid-next : {A : Type 0} (size : ℕ) (f : A → ℕ) (xs : List A) (i : ℕ) (d : A) (es : List ℕ) (e : ℕ) → i < length xs → i < size → es ≡ pad size 0 (map f (take i xs)) → e ≡ f (get_or xs i d)

@@ -1,2 +1,2 @@
-pub mod Beside
 pub mod Shown
+pub mod Slots
