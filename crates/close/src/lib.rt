@@ -28,9 +28,9 @@ fn verdicts(s: &Session) -> [Verdict; LODGEMENTS]
 
 // The closing of the gate.
 #[derive(Clone, Copy)]
-pub struct Close;
+pub struct GateClosing;
 
-impl Call for Close {
+impl Call for GateClosing {
     type Found = ();
 
     type Part = ClosingChange;
@@ -60,5 +60,5 @@ impl Call for Close {
 pub fn close(s: Session) -> Effect
     ensures { Met s close result }
 {
-    run(s, Close)
+    run(s, GateClosing)
 }

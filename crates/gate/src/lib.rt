@@ -143,7 +143,7 @@ pub extern "C" fn gate_annul(s: &mut Session, key: Key) -> Response
 pub extern "C" fn gate_close(s: &mut Session) -> Response
     ensures { Met s.old close (record { session = s.new; answer = result }) }
 {
-    perform(s, close::Close)
+    perform(s, close::GateClosing)
 }
 
 // Clears the day: 2.

@@ -20,12 +20,12 @@ pub record BorderFits (s : Session) (border hour at : ℕ) : Type 0 where
 -- the query of a balance, and the energies that it is made of
 abbrev pub balance_query : Balance → ℕ → ℕ → Q.Query
 balance_query = elim [
-    Market ↦ λ border hour. Q.market border hour
+  | Market ↦ λ border hour. Q.market border hour
   | Bilateral ↦ λ border hour. Q.bilateral border hour
 ]
 
 abbrev pub balance_of : Balance → HourFigures → List ℕ
 balance_of = elim [
-    Market ↦ λ figures. figures.market
+  | Market ↦ λ figures. figures.market
   | Bilateral ↦ λ figures. figures.bilateral
 ]

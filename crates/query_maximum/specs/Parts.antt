@@ -28,12 +28,12 @@ pub record DirectionFits (s : Session) (border : ℕ) (export : Bool) (hour : �
 -- the query of a maximum, and its figure where the capacity's energy is given
 abbrev pub maximum_query : Maximum → ℕ → Bool → ℕ → Q.Query
 maximum_query = elim [
-    Market ↦ λ border export hour. Q.market_max border export hour
+  | Market ↦ λ border export hour. Q.market_max border export hour
   | Bilateral ↦ λ border export hour. Q.bilateral_max border export hour
 ]
 
 abbrev pub maximum_of : Maximum → HourFigures → Asked → ℕ → ℤ
 maximum_of = elim [
-    Market ↦ λ x p energy. pos (get_or x.maxima p.way 0)
+  | Market ↦ λ x p energy. pos (get_or x.maxima p.way 0)
   | Bilateral ↦ λ x p energy. sub_ℕ (energy + get_or x.market p.other 0) (get_or x.market p.way 0)
 ]

@@ -1,5 +1,5 @@
 use Rattle.close.proofs.CloseLaws.{close-0, close-2}
-use Rattle.close.proofs.CloseCall.judge.Goals as goal
+use Rattle.close.proofs.GateClosingCall.judge.Goals as goal
 
 pub returns-then-s-clause-judges : goal.returns-then-s-clause-judges
 returns-then-s-clause-judges c = close-2 c.args.s.now c.if-s.true
