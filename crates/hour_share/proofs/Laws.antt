@@ -7,7 +7,7 @@ use Rattle.std.specs.List.{sum as fold_sum, refill}
 use Rattle.std.proofs.lemmas.List.Recursion.{is_sum_by}
 use Rattle.rules.specs.Lists.{sum, add_each, from}
 use Rattle.rules.specs.Units.{max_energy}
-use Rattle.rules.proofs.ShareLaws.{pro-rata-le, share-le}
+use Rattle.rules.proofs.ShareLaws.{pro-rata-le, share-le, share-length}
 use Rattle.rules.proofs.IndexLaws.{map-small}
 use Rattle.rules.specs.Share.{pro_rata, hand_out, share}
 use Rattle.rules.proofs.SumLaws.{cond-le}
@@ -17,7 +17,7 @@ use mathlib.Core.Bool.{false≢true}
 use Rattle.std.specs.Prelude.{Some, None, position}
 use Rattle.std.specs.List.{position_or_len}
 use Rattle.std.proofs.lemmas.Option.{none-some}
-use Rattle.std.proofs.lemmas.List.{take_rest, length-drop}
+use Rattle.std.proofs.lemmas.List.{take_rest, length-drop, length-replicate}
 use Rattle.std.proofs.lemmas.Bool.{ltb-true, ltb-false}
 use Rattle.std.proofs.lemmas.List.Sums.{fails_before_first}
 use Rattle.std.proofs.lemmas.List.Quantifiers.{position-Some}
@@ -192,6 +192,21 @@ share-said r ms ds {g} {s} eg es el ex =
 
 pub refilled : (ds xs : List ℕ) → length xs ≡ length ds → refill (length ds) ds xs ≡ xs
 refilled ds xs e = rw (drop_of_length-le ds {i = length xs} (omega arith), append-nil xs) (take_all (length ds) xs (omega arith))
+
+-- added to zeros, each row stays as it is
+add_zeros : (n : ℕ) (ks : List ℕ) → length ks ≡ n → add_each ks (replicate n 0) ≡ ks
+unfolding add_each
+add_zeros zero [] h = refl
+add_zeros (suc n) [] h = absurd (omega arith)
+add_zeros zero (k ∷ ks) h = absurd (omega arith)
+add_zeros (suc n) (k ∷ ks) h = ap₂ (λ (m : ℕ) (r : List ℕ). m ∷ r) (omega arith) (add_zeros n ks (omega arith))
+
+-- Share added to zeros, and written over them
+pub shared-alone : (r : ℕ) (ms : List ℕ) {ds xs : List ℕ} → r ≤ sum ms → ds ≡ replicate (length ms) 0 → xs ≡ add_each (share r ms) ds → refill (length ds) ds xs ≡ share r ms
+shared-alone r ms {ds} {xs} h e q =
+    let l = share-length r ms h in
+    let x : xs ≡ share r ms = q ∙ ap (add_each (share r ms)) e ∙ add_zeros (length ms) (share r ms) l in
+    refilled ds xs (ap length x ∙ l ∙ sym (length-replicate (length ms) 0) ∙ sym (ap length e)) ∙ x
 
 -- One more amount passed, as the pro rata deductions are added
 

@@ -95,7 +95,7 @@ fn hand_out(left: u32, amounts: &[u32], deductions: &mut [u32])
 
 // To take an excess from amounts: what each of them loses, "the lesser of the excess and" their sum being taken, added to what it loses
 // already. The deductions are added where they stand, since a withdrawal shares at each of its steps.
-pub fn share(excess: u32, amounts: &[u32], deductions: &mut [u32])
+fn add_share(excess: u32, amounts: &[u32], deductions: &mut [u32])
     requires few { length amounts.now ≤ 128 }
     requires ranged { Ranged amounts.now }
     requires same_length { length deductions.old ≡ length amounts.now }
@@ -109,6 +109,29 @@ pub fn share(excess: u32, amounts: &[u32], deductions: &mut [u32])
     }
     let floored = add_floors(r, g, amounts, deductions);
     hand_out(r - floored, amounts, deductions);
+}
+
+// Nothing lost by any of n.
+fn nothing(n: usize) -> ArrayVec<u32, LODGEMENTS>
+    requires { n ≤ 128 }
+    ensures { result.items ≡ replicate n 0 }
+{
+    let mut deductions = ArrayVec::new();
+    for _ in 0..n {
+        deductions.push(0);
+    }
+    deductions
+}
+
+// Share: what each amount loses of an excess, "the lesser of the excess and" their sum being taken.
+pub fn share(excess: u32, amounts: &[u32]) -> ArrayVec<u32, LODGEMENTS>
+    requires few { length amounts.now ≤ 128 }
+    requires ranged { Ranged amounts.now }
+    ensures { result.items ≡ share_of (min excess (sum amounts.now)) amounts.now }
+{
+    let mut deductions = nothing(amounts.len());
+    add_share(excess, amounts, &mut deductions);
+    deductions
 }
 
 // What each of some holders counts for in direction w, written to an empty list: `of` says what it has, and in which direction it gives way.
@@ -133,18 +156,6 @@ fn energies_in<T, F: Fn(&T) -> Amount>(
     }
 }
 
-// Nothing lost by any of n.
-fn nothing(n: usize) -> ArrayVec<u32, LODGEMENTS>
-    requires { n ≤ 128 }
-    ensures { result.items ≡ replicate n 0 }
-{
-    let mut deductions = ArrayVec::new();
-    for _ in 0..n {
-        deductions.push(0);
-    }
-    deductions
-}
-
 // What each holder loses in all directions, of their excesses; the directions are added from the last to the first, as the rules do.
 pub fn deductions<T, F: Fn(&T) -> Amount>(
     over: &[u32; 10],
@@ -164,7 +175,7 @@ pub fn deductions<T, F: Fn(&T) -> Amount>(
         if 0 < over[w] {
             let mut energies = ArrayVec::new();
             energies_in(w, holders, &of, &mut energies);
-            share(over[w], &energies, &mut sums);
+            add_share(over[w], &energies, &mut sums);
         }
     }
     sums
