@@ -29,7 +29,7 @@ impl Call for Annulment {
     ghost is_found = { λ s c at. key_index s c.key ≡ Some at };
 
     // The index of the key's lodgement, or the row that refuses to annul it: 2, 5, 6, 13.
-    fn judge(self, s: &Session) -> Result<usize, Row> {
+    fn judge(&self, s: &Session) -> Result<usize, Row> {
         let key = self.key;
         if s.closed {
             return Err(Row::Gate);
@@ -42,7 +42,7 @@ impl Call for Annulment {
     }
 
     // "annulling drops the key's lodgement": those after it go forward, and the last index is empty.
-    fn enter(self, s: &Session, at: usize) -> Step<StandingChange> {
+    fn enter(&self, s: &Session, at: usize) -> Step<StandingChange> {
         let left = s.standing - 1;
         Step {
             change: StandingChange {
@@ -63,5 +63,5 @@ impl Call for Annulment {
 pub fn annul(s: Session, key: Key) -> Effect
     ensures { Met s (annul (key_in key)) result }
 {
-    run(s, Annulment { key })
+    run(s, &Annulment { key })
 }

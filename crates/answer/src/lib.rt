@@ -9,7 +9,8 @@ ghost use Rattle.rules.specs.Rows.{number_of};
 
 use rules::row::Row;
 
-// A call, a query or a judgement that is refused: the table's row, and its hour, 0 where the table gives none.
+// A call, a query or a judgement that is refused: the table's row and its hour. The hour is 0 where the table gives none, as document 01 has it:
+// every answer says this number, and none asks whether there is one.
 #[derive(Clone, Copy, Debug, PartialEq, Eq)]
 pub struct Refusal {
     pub row: Row,
@@ -55,8 +56,8 @@ impl Kind {
     }
 }
 
-// An answer. Its kind says which of the other fields hold something; those that do not are 0, and so is what is reserved, which leaves
-// no padding for C.
+// An answer, as C has it: numbers for the kind and the row. Its kind says which of the other fields hold something; those that do not are 0,
+// and so is what is reserved, which leaves no padding.
 #[repr(C)]
 #[derive(Clone, Copy, Debug, Default, PartialEq, Eq)]
 pub struct Response {
@@ -72,7 +73,7 @@ pub struct Response {
     pub count: u64,
 }
 
-// An hour's clock name and mark with row 0, or the refusal table's number with name 0 and no mark.
+// As C has it: an hour's clock name and mark with row 0, or the refusal table's number with name 0 and no mark.
 #[repr(C)]
 #[derive(Clone, Copy, Debug, Default, PartialEq, Eq)]
 pub struct ClockName {
@@ -94,7 +95,7 @@ fn plain(kind: Kind) -> Response
 }
 
 impl Response {
-    // What its kind says; none where C's number is no kind's.
+    // What its kind says; none where C's number is no kind's. Nothing else reads a kind's number, so it is no TryFrom, whose error nobody would read.
     pub fn kind(&self) -> Option<Kind>
         ensures { result ≡ kind_of self.now.kind }
     {
@@ -116,6 +117,17 @@ impl Response {
         ensures { result ≡ T.accepted }
     {
         plain(Kind::Accepted)
+    }
+
+    // A refusal: the table's number and its hour.
+    pub fn refused(row: u32, hour: u32) -> Response
+        ensures { result ≡ T.refused row hour }
+    {
+        Response {
+            row,
+            hour,
+            ..plain(Kind::Refused)
+        }
     }
 
     // A lodging number.
@@ -188,11 +200,16 @@ impl From<Refusal> for Response {
     ghost from_gives = { λ refusal r. r ≡ T.refusal refusal };
 
     fn from(refusal: Refusal) -> Response {
-        Response {
-            row: refusal.row.number(),
-            hour: refusal.hour,
-            ..plain(Kind::Refused)
-        }
+        Response::refused(refusal.row.number(), refusal.hour)
+    }
+}
+
+// A refusal without an hour.
+impl From<Row> for Response {
+    ghost from_gives = { λ row r. r ≡ T.refusal (of_row row) };
+
+    fn from(row: Row) -> Response {
+        Response::from(Refusal::from(row))
     }
 }
 

@@ -96,7 +96,7 @@ pub fn run(s: Session, kind: u8, p: &[u8]) -> Effect
 {
     match Kind::of(kind, p.len()) {
         Some(kind) => run_call(s, kind, p),
-        None => s.refused(Refusal::from(Row::Form)),
+        None => s.refused(Row::Form.number(), 0),
     }
 }
 

@@ -6,7 +6,7 @@ ghost use Rattle.rules.specs.Hours.{leap, days_of_month, is_date, days_before, d
 ghost use Rattle.answer.specs.Told.{counted, clock_told, named};
 ghost use Rattle.calendar.specs.View.{date_in, clock_in, hour_if_any};
 
-use answer::{ClockName, Refusal, Response};
+use answer::{ClockName, Response};
 use rules::row::Row;
 use rules::{LONG_DAY, SHORT_DAY};
 
@@ -17,6 +17,13 @@ pub struct Date {
     pub month: u32,
     pub day: u32,
 }
+
+// The first date that a session can have.
+pub const FIRST: Date = Date {
+    year: 2002,
+    month: 1,
+    day: 1,
+};
 
 // A clock name with its mark: the starting local hour, and whether it is marked "second". Reserved fields leave no padding for C.
 #[repr(C)]
@@ -108,7 +115,7 @@ pub fn hours_at(d: Date) -> Response
     ensures { result ≡ counted (hours_at (date_in d)) }
 {
     if !is_date(d) {
-        return Response::from(Refusal::from(Row::Date));
+        return Response::from(Row::Date);
     }
     Response::from(hours_of(d))
 }
@@ -184,10 +191,10 @@ pub fn hour_at(d: Date, c: Clock) -> Response
     ensures { result ≡ counted (hour_at (date_in d) (clock_in c)) }
 {
     if !is_date(d) {
-        return Response::from(Refusal::from(Row::Date));
+        return Response::from(Row::Date);
     }
     match hour_of(hours_of(d), c) {
         Some(hour) => Response::from(hour),
-        None => Response::from(Refusal::from(Row::Hour)),
+        None => Response::from(Row::Hour),
     }
 }

@@ -80,7 +80,7 @@ impl Call for Clearing {
     ghost is_found = { λ _ _ _. Unit {0} };
 
     // The row that refuses clearing: 2, "clearing [..] before closing", "closing or clearing twice".
-    fn judge(self, s: &Session) -> Result<(), Row> {
+    fn judge(&self, s: &Session) -> Result<(), Row> {
         if !s.closed {
             return Err(Row::Gate);
         }
@@ -91,7 +91,7 @@ impl Call for Clearing {
     }
 
     // "clearing gives the figures of Queries by the rules above and answers the step count"
-    fn enter(self, s: &Session, _found: ()) -> Step<ClearingChange> {
+    fn enter(&self, s: &Session, _found: ()) -> Step<ClearingChange> {
         let day = clear_hours(s);
         let figures = day.figures;
         Step {
@@ -105,5 +105,5 @@ impl Call for Clearing {
 pub fn clear(s: Session) -> Effect
     ensures { Met s clear result }
 {
-    run(s, Clearing)
+    run(s, &Clearing)
 }

@@ -40,14 +40,14 @@ impl Call for GateClosing {
     ghost is_found = { λ _ _ _. Unit {0} };
 
     // The row that refuses closing: 2, "closing or clearing twice".
-    fn judge(self, s: &Session) -> Result<(), Row> {
+    fn judge(&self, s: &Session) -> Result<(), Row> {
         if s.closed {
             return Err(Row::Gate);
         }
         Ok(())
     }
 
-    fn enter(self, s: &Session, _found: ()) -> Step<ClosingChange> {
+    fn enter(&self, s: &Session, _found: ()) -> Step<ClosingChange> {
         let verdicts = verdicts(s);
         Step {
             change: ClosingChange { verdicts },
@@ -60,5 +60,5 @@ impl Call for GateClosing {
 pub fn close(s: Session) -> Effect
     ensures { Met s close result }
 {
-    run(s, GateClosing)
+    run(s, &GateClosing)
 }

@@ -102,7 +102,7 @@ pub extern "C" fn gate_write(fields: Fields, buffer: &mut [u8]) -> Written
 pub extern "C" fn gate_register(s: &mut Session, unit: Unit) -> Response
     ensures { Met s.old (register (unit_in unit)) (record { session = s.new; answer = result }) }
 {
-    perform(s, register::Registration { unit })
+    perform(s, &register::Registration { unit })
 }
 
 // Takes an unavailability notice of a unit: 2, 4, 5, 6.
@@ -110,7 +110,7 @@ pub extern "C" fn gate_register(s: &mut Session, unit: Unit) -> Response
 pub extern "C" fn gate_unavailability(s: &mut Session, notice: Availability) -> Response
     ensures { Met s.old (available_in notice) (record { session = s.new; answer = result }) }
 {
-    perform(s, notice)
+    perform(s, &notice)
 }
 
 // Takes a capacity notice, export and import of border 1, of 2, of 3, of 4: 2, 4, 5.
@@ -118,7 +118,7 @@ pub extern "C" fn gate_unavailability(s: &mut Session, notice: Availability) -> 
 pub extern "C" fn gate_capacity(s: &mut Session, notice: Capacities) -> Response
     ensures { Met s.old (capacity_in notice) (record { session = s.new; answer = result }) }
 {
-    perform(s, notice)
+    perform(s, &notice)
 }
 
 // Lodges a message: 2, 3, 4, 5, 6, 9, 10, 11, 12.
@@ -135,7 +135,7 @@ pub extern "C" fn gate_lodge(s: &mut Session, message: &[u8]) -> Response
 pub extern "C" fn gate_annul(s: &mut Session, key: Key) -> Response
     ensures { Met s.old (annul (key_in key)) (record { session = s.new; answer = result }) }
 {
-    perform(s, annul::Annulment { key })
+    perform(s, &annul::Annulment { key })
 }
 
 // Closes the gate: 2.
@@ -143,7 +143,7 @@ pub extern "C" fn gate_annul(s: &mut Session, key: Key) -> Response
 pub extern "C" fn gate_close(s: &mut Session) -> Response
     ensures { Met s.old close (record { session = s.new; answer = result }) }
 {
-    perform(s, close::GateClosing)
+    perform(s, &close::GateClosing)
 }
 
 // Clears the day: 2.
@@ -151,7 +151,7 @@ pub extern "C" fn gate_close(s: &mut Session) -> Response
 pub extern "C" fn gate_clear(s: &mut Session) -> Response
     ensures { Met s.old clear (record { session = s.new; answer = result }) }
 {
-    perform(s, clear::Clearing)
+    perform(s, &clear::Clearing)
 }
 
 // Queries

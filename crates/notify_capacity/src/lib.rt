@@ -66,11 +66,7 @@ fn stored_direction(p: &Published) -> Notice
 fn stored_directions(ps: &[Published; DIRECTIONS]) -> [Notice; DIRECTIONS]
     ensures { result ≡ map direction_as ps.now }
 {
-    let mut stored = [no_notice(); DIRECTIONS];
-    for (i, p) in ps.iter().enumerate() {
-        stored[i] = stored_direction(p);
-    }
-    stored
+    std::array::from_fn(|i| stored_direction(&ps[i]))
 }
 
 impl Call for Capacities {
@@ -83,7 +79,7 @@ impl Call for Capacities {
     ghost is_found = { λ _ _ _. Unit {0} };
 
     // The row that refuses a capacity notice: 2, 4, 5.
-    fn judge(self, s: &Session) -> Result<(), Row> {
+    fn judge(&self, s: &Session) -> Result<(), Row> {
         if s.closed {
             return Err(Row::Gate);
         }
@@ -97,7 +93,7 @@ impl Call for Capacities {
     }
 
     // "It replaces the notice before it."
-    fn enter(self, _s: &Session, _found: ()) -> Step<CapacityChange> {
+    fn enter(&self, _s: &Session, _found: ()) -> Step<CapacityChange> {
         Step {
             change: CapacityChange {
                 capacities: stored_directions(&self.directions),
@@ -111,5 +107,5 @@ impl Call for Capacities {
 pub fn capacity(s: Session, notice: Capacities) -> Effect
     ensures { Met s (capacity_in notice) result }
 {
-    run(s, notice)
+    run(s, &notice)
 }

@@ -62,7 +62,7 @@ impl Call for Availability {
     ghost is_found = { λ s c x. held (take s.enrolled s.units) c.unit ≡ Some x };
 
     // The row that refuses a notice, or else its unit: 2, 4, 5, 6.
-    fn judge(self, s: &Session) -> Result<Holder, Row> {
+    fn judge(&self, s: &Session) -> Result<Holder, Row> {
         if s.closed {
             return Err(Row::Gate);
         }
@@ -76,7 +76,7 @@ impl Call for Availability {
     }
 
     // "a notice replaces its earlier one": the unit stays at its index.
-    fn enter(self, s: &Session, holder: Holder) -> Step<RegistryChange> {
+    fn enter(&self, s: &Session, holder: Holder) -> Step<RegistryChange> {
         Step {
             change: RegistryChange {
                 enrolled: s.enrolled,
@@ -93,5 +93,5 @@ impl Call for Availability {
 pub fn available(s: Session, notice: Availability) -> Effect
     ensures { Met s (available_in notice) result }
 {
-    run(s, notice)
+    run(s, &notice)
 }

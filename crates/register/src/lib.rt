@@ -66,7 +66,7 @@ impl Call for Registration {
     ghost is_found = { λ s _ _. s.enrolled < 64 };
 
     // The row that refuses the unit: 2, 5, 7, 8, 9.
-    fn judge(self, s: &Session) -> Result<(), Row> {
+    fn judge(&self, s: &Session) -> Result<(), Row> {
         let u = self.unit;
         if s.closed {
             return Err(Row::Gate);
@@ -88,7 +88,7 @@ impl Call for Registration {
     }
 
     // "registering adds the unit", after the others. What the session keeps of it has reserved bytes of 0, whatever the caller's hold.
-    fn enter(self, s: &Session, _found: ()) -> Step<RegistryChange> {
+    fn enter(&self, s: &Session, _found: ()) -> Step<RegistryChange> {
         let u = self.unit;
         Step {
             change: RegistryChange {
@@ -106,5 +106,5 @@ impl Call for Registration {
 pub fn register(s: Session, unit: Unit) -> Effect
     ensures { Met s (register (unit_in unit)) result }
 {
-    run(s, Registration { unit })
+    run(s, &Registration { unit })
 }

@@ -10,7 +10,7 @@ use Rattle.rules.specs.Refusals.{Row, first_row}
 use Rattle.rules.specs.Book.{Book}
 use Rattle.rules.specs.DayBook as D
 use Rattle.session.specs.Image.{image, Sound, no_unit}
-use Rattle.answer.specs.Told.{refusal, is_refusal}
+use Rattle.answer.specs.Told.{refused, refusal, is_refusal}
 use Rattle.answer.specs.declared.Refusal.{Refusal}
 use Rattle.session.specs.Steps.{As}
 use Rattle.session.specs.declared.Unit.{Unit}
@@ -19,6 +19,9 @@ use Rattle.session.specs.declared.Session.{Session}
 use Rattle.session.specs.declared.Effect.{Effect}
 
 -- Guard, judgement, entry
+
+abbrev pub refused_as : Session → ℕ → ℕ → Effect
+refused_as s row hour = record { session = s; answer = refused row hour }
 
 abbrev pub refused_with : Session → Refusal → Effect
 refused_with s r = record { session = s; answer = refusal r }

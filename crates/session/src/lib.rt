@@ -6,10 +6,10 @@ ghost use Rattle.rules.specs.Book.{fresh};
 ghost use Rattle.calendar.specs.View.{date_in};
 ghost use Rattle.session.specs.Image.{image, no_unit, no_notice, no_lodgement, no_energies, no_verdict, no_figures};
 ghost use Rattle.session.specs.Steps.{Opens};
-ghost use Rattle.session.specs.Parts.{within, refused_with};
+ghost use Rattle.session.specs.Parts.{within, refused_as};
 
-use answer::{Refusal, Response};
-use calendar::Date;
+use answer::Response;
+use calendar::{Date, FIRST};
 use rules::row::Row;
 use rules::{DIRECTIONS, HOURS, LODGEMENTS, LONG_DAY, UNITS};
 
@@ -31,7 +31,7 @@ pub struct Unit {
     pub reserved: u16,
 }
 
-// A notice that the session keeps: energies by hour, 0 after the last hour.
+// A notice that the session keeps, as C has it (a flag in place of an Option): energies by hour, 0 after the last hour.
 #[repr(C)]
 #[derive(Clone, Copy)]
 pub struct Notice {
@@ -41,7 +41,7 @@ pub struct Notice {
     pub energies: [u32; HOURS],
 }
 
-// A direction of a capacity notice: absent, or `count` energies.
+// A direction of a capacity notice, as C has it: absent, or `count` energies of an array.
 #[repr(C)]
 #[derive(Clone, Copy)]
 pub struct Published {
@@ -69,7 +69,7 @@ pub struct Lodgement {
     pub number: u32,
 }
 
-// Energies and prices of a lodgement by hour.
+// Energies and prices of a lodgement by hour, two arrays as C has them.
 #[repr(C)]
 #[derive(Clone, Copy)]
 pub struct Energies {
@@ -77,7 +77,7 @@ pub struct Energies {
     pub prices: [u32; HOURS],
 }
 
-// A lodgement's verdict: accepted, refused by a limit in an hour, or neither, which is hidden.
+// A lodgement's verdict, as C has it: accepted, refused by a limit (0 for none) in an hour, or neither, which is hidden.
 #[repr(C)]
 #[derive(Clone, Copy, Default)]
 pub struct Verdict {
@@ -88,7 +88,7 @@ pub struct Verdict {
     pub hour: u32,
 }
 
-// An hour's figures. Energies at the borders are by direction (`hour_borders::way`), those of units by the index of the unit.
+// An hour's figures, arrays as C has them. Energies at the borders are by direction (`hour_borders::way`), those of units by the index of the unit.
 #[repr(C)]
 #[derive(Clone, Copy)]
 pub struct HourFigures {
@@ -100,7 +100,7 @@ pub struct HourFigures {
     pub executed: [u32; UNITS],
 }
 
-// `enrolled` units stand in front of their array, and `standing` lodgements of theirs, in the order of their numbers.
+// As C has it, with arrays and their counts. `enrolled` units stand in front of their array, and `standing` lodgements of theirs, in the order of their numbers.
 // `capacities` are export and import of border 1, of 2, of 3, of 4. Verdicts stand at the lodgements' indices once closed,
 // figures at the hours' indices once cleared.
 #[repr(C)]
@@ -234,8 +234,8 @@ impl Session {
     }
 
     // The guard: counts that fit their arrays.
-    pub fn sound(self) -> bool
-        ensures { result ≡ within self }
+    pub fn sound(&self) -> bool
+        ensures { result ≡ within self.now }
     {
         self.hours <= LONG_DAY
             && self.enrolled <= Self::MAX_UNITS
@@ -244,12 +244,12 @@ impl Session {
     }
 
     // A refused call hands the session back.
-    pub fn refused(self, refusal: Refusal) -> Effect
-        ensures { result ≡ refused_with self refusal }
+    pub fn refused(self, row: u32, hour: u32) -> Effect
+        ensures { result ≡ refused_as self row hour }
     {
         Effect {
             session: self,
-            answer: Response::from(refusal),
+            answer: Response::refused(row, hour),
         }
     }
 }
@@ -259,14 +259,9 @@ pub fn open(date: Date) -> Opened
     ensures { Opens (date_in date) result }
 {
     if !calendar::is_date(date) {
-        let first = Date {
-            year: 2002,
-            month: 1,
-            day: 1,
-        };
         return Opened {
-            answer: Response::from(Refusal::from(Row::Date)),
-            session: Session::fresh(first),
+            answer: Response::from(Row::Date),
+            session: Session::fresh(FIRST),
         };
     }
     Opened {

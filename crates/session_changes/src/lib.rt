@@ -22,9 +22,9 @@ pub trait Change: Copy {
     // its indices are those of the arrays
     ghost fits: { Self → Type 0 };
 
-    fn apply(self, s: &mut Session)
-        requires { fits self }
-        ensures { s.new ≡ applied s.old self };
+    fn apply(&self, s: &mut Session)
+        requires { fits self.now }
+        ensures { s.new ≡ applied s.old self.now };
 }
 
 // What a call that no row refuses changes, and what it answers.
@@ -48,7 +48,7 @@ impl Change for RegistryChange {
 
     ghost fits = { Placed };
 
-    fn apply(self, s: &mut Session) {
+    fn apply(&self, s: &mut Session) {
         s.enrolled = self.enrolled;
         s.units[self.at] = self.unit;
         s.notices[self.at] = self.notice;
@@ -66,7 +66,7 @@ impl Change for CapacityChange {
 
     ghost fits = { λ _. Unit {0} };
 
-    fn apply(self, s: &mut Session) {
+    fn apply(&self, s: &mut Session) {
         let capacities = self.capacities;
         s.capacities = capacities;
     }
@@ -89,8 +89,8 @@ impl Change for StandingChange {
 
     ghost fits = { Indexed };
 
-    fn apply(self, s: &mut Session) {
-        let StandingChange { from, to, .. } = self;
+    fn apply(&self, s: &mut Session) {
+        let StandingChange { from, to, .. } = *self;
         s.lodgements.copy_within(from + 1..to + 1, from);
         s.energies.copy_within(from + 1..to + 1, from);
         s.lodgements[self.at] = self.lodgement;
@@ -111,7 +111,7 @@ impl Change for ClosingChange {
 
     ghost fits = { λ _. Unit {0} };
 
-    fn apply(self, s: &mut Session) {
+    fn apply(&self, s: &mut Session) {
         let verdicts = self.verdicts;
         s.verdicts = verdicts;
         s.closed = true;
@@ -129,7 +129,7 @@ impl Change for ClearingChange {
 
     ghost fits = { λ _. Unit {0} };
 
-    fn apply(self, s: &mut Session) {
+    fn apply(&self, s: &mut Session) {
         let figures = self.figures;
         s.figures = figures;
         s.cleared = true;
@@ -148,21 +148,21 @@ pub trait Call: Copy {
 
     ghost is_found: { Session → Self → Self.Found → Type 0 };
 
-    fn judge(self, s: &Session) -> Result<Self::Found, Row>
+    fn judge(&self, s: &Session) -> Result<Self::Found, Row>
         requires { Within s.now }
-        ensures judges { JudgesRow s.now (call self) result }
-        ensures found { IfOk result (λ x. is_found s.now self x) };
+        ensures judges { JudgesRow s.now (call self.now) result }
+        ensures found { IfOk result (λ x. is_found s.now self.now x) };
 
-    fn enter(self, s: &Session, found: Self::Found) -> Step<Self::Part>
+    fn enter(&self, s: &Session, found: Self::Found) -> Step<Self::Part>
         requires within { Within s.now }
-        requires found { is_found s.now self found }
-        ensures entered { Entered s.now (call self) (done Self.Part.applied s.now result) }
+        requires found { is_found s.now self.now found }
+        ensures entered { Entered s.now (call self.now) (done Self.Part.applied s.now result) }
         ensures fits { Self.Part.fits result.change };
 }
 
 // What a call changes: nothing of a session that no calls leave, nor where a row refuses it.
-pub fn step_of<C: Call>(s: &Session, call: C) -> Result<Step<C::Part>, Refusal>
-    ensures met { Met s.now (C.call call) (effect_of C.Part.applied s.now result) }
+pub fn step_of<C: Call>(s: &Session, call: &C) -> Result<Step<C::Part>, Refusal>
+    ensures met { Met s.now (C.call call.now) (effect_of C.Part.applied s.now result) }
     ensures fits { IfOk result (λ t. C.Part.fits t.change) }
 {
     if !s.sound() {
@@ -198,16 +198,16 @@ pub fn effect<C: Change>(s: Session, step: Result<Step<C>, Refusal>) -> Effect
 }
 
 // A call on a lent session, and its answer.
-pub fn perform<C: Call>(s: &mut Session, call: C) -> Response
-    ensures { Met s.old (C.call call) (record { session = s.new; answer = result }) }
+pub fn perform<C: Call>(s: &mut Session, call: &C) -> Response
+    ensures { Met s.old (C.call call.now) (record { session = s.new; answer = result }) }
 {
     let step = step_of(s, call);
     settle(s, step)
 }
 
 // A call on a session by value.
-pub fn run<C: Call>(s: Session, call: C) -> Effect
-    ensures { Met s (C.call call) result }
+pub fn run<C: Call>(s: Session, call: &C) -> Effect
+    ensures { Met s (C.call call.now) result }
 {
     effect(s, step_of(&s, call))
 }

@@ -3,7 +3,7 @@ use Rattle.notify_capacity.proofs.CapacityLaws.{capacity-0, capacity-2, capacity
 use Rattle.notify_capacity.proofs.CapacitiesCall.judge.Goals as goal
 
 pub returns-then-s-clause-judges : goal.returns-then-s-clause-judges
-returns-then-s-clause-judges c = capacity-2 _ c.args.self c.if-s.true
+returns-then-s-clause-judges c = capacity-2 _ c.args.self.now c.if-s.true
 
 pub returns-then-any_off_hours-clause-judges : goal.returns-then-any_off_hours-clause-judges
 returns-then-any_off_hours-clause-judges c = capacity-4 _ _ c.if-s.false (sym c.any_off_hours.ensures ∙ c.if-any_off_hours.true)
