@@ -10,7 +10,7 @@ ghost use Rattle.book_log.specs.Calls.{call_of};
 ghost use Rattle.book_log.specs.Kinds.{number_of};
 ghost use Rattle.book.specs.Replays.{StartsWith, RunsRecord, ReplaysOn, Replays};
 
-use answer::{Refusal, Response};
+use answer::Response;
 use book_log::{Kind, answer_word};
 use calendar::Date;
 use notify_capacity::Capacities;

@@ -1,7 +1,7 @@
 // Dates, the hours of a day and their clock names (document 01, "Hours of the day").
 #![tactic(auto)]
 
-ghost use Rattle.std.specs.Prelude.{◌≡◌, true, ◌≤◌, ◌-◌};
+ghost use Rattle.std.specs.Prelude.{◌≡◌, ◌≤◌, ◌-◌};
 ghost use Rattle.rules.specs.Hours.{leap, days_of_month, is_date, days_before, day_number, last_sunday, hours_of, clock_name, clock_of, hour_of, hours_at, clock_at, hour_at};
 ghost use Rattle.answer.specs.Told.{counted, clock_told, named};
 ghost use Rattle.calendar.specs.View.{date_in, clock_in, hour_if_any};

@@ -11,8 +11,8 @@ pub mod judge;
 use rules::HOURS;
 use rules::row::Row;
 
-// What a message says, and what a writer is given. Energies and prices are by hour, hour 1 first. What is reserved, here and below,
-// leaves no padding for C.
+// What a message says, and what a writer is given, as C has it. Energies and prices are by hour, hour 1 first. What is reserved, here and
+// below, leaves no padding.
 #[repr(C)]
 #[derive(Clone, Copy, Debug, PartialEq, Eq)]
 pub struct Fields {

@@ -35,7 +35,8 @@ pub fn word_at(s: &[u8], i: usize) -> u32
     ])
 }
 
-// The number in `width` bits of a word, with `below` bits after them.
+// The number in `width` bits of a word, with `below` bits after them. Each asks the bounds of its numbers by itself: a type for a width would
+// be opened wherever one is counted with.
 pub fn part(word: u64, below: usize, width: usize) -> u32
     requires below { below < 64 }
     requires width { width ≤ 32 }

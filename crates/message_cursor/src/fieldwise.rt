@@ -1,6 +1,5 @@
 // A lodging message read field by field, by a reader set over it.
-ghost use Rattle.std.specs.Prelude.{◌≡◌, length};
-ghost use Rattle.rules.specs.Refusals.{given};
+ghost use Rattle.std.specs.Prelude.{◌≡◌};
 ghost use Rattle.rules.specs.Message.{form1, bit, bits_of, hour_bits, message_of, read as reading};
 ghost use Rattle.message.specs.View.{fields_as, reading_as, reading_of};
 ghost use Rattle.message_cursor.specs.Taking.{SlotTaken, SlotsTaken};

@@ -74,7 +74,8 @@ impl<'a> Pen<'a> {
     }
 }
 
-// Form, kind, default mark, unit and contract as one number of 39 bits.
+// Form, kind, default mark, unit and contract as one number of 39 bits. Ranges are asked of C's struct, which any caller may write: the writer
+// has looked at them, and an invariant in the type would ask them of C.
 pub fn head_word(m: &Fields) -> u64
     requires { InRanges (fields_in m.now) }
     ensures small { result < 2 ^ 39 }

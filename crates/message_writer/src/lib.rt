@@ -1,7 +1,7 @@
 // Writing the lodging message: judged first, then written bit after bit into the caller's buffer.
 #![tactic(auto)]
 
-ghost use Rattle.std.specs.Prelude.{◌≡◌, ◌≤◌, length};
+ghost use Rattle.std.specs.Prelude.{◌≡◌, length};
 ghost use Rattle.rules.specs.Message.{form1, head_bits, write as writing};
 ghost use Rattle.rules.specs.Message.{buffer_after};
 ghost use Rattle.message.specs.View.{fields_in, written_as, written_of};

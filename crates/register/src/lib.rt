@@ -28,7 +28,7 @@ fn bad_unit(u: Unit) -> bool
         || u.legacy && u.border == 0
 }
 
-// Whether v is of the agent, border (1 to 4) and side of u.
+// Whether v is of the agent, border (1 to 4) and side of u: no equality of units, since nothing else of them counts.
 #[tactic(auto, unfolding(rules::specs::Units::same_border_side, rules::specs::Units::domestic))]
 fn same_border_side(u: Unit, v: Unit) -> bool
     ensures { result ≡ same_border_side (unit_in u) (unit_in v) }
@@ -36,7 +36,7 @@ fn same_border_side(u: Unit, v: Unit) -> bool
     u.border != 0 && u.agent == v.agent && u.border == v.border && u.purchase == v.purchase
 }
 
-// Row 7: one of the units has the number.
+// Row 7: one of the units has the number, at whatever index.
 fn is_taken(units: &[Unit], number: u32) -> bool
     ensures { result ≡ list_any (number_is number) units.now }
 {

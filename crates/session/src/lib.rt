@@ -233,7 +233,8 @@ impl Session {
         }
     }
 
-    // The guard: counts that fit their arrays.
+    // The guard: counts that fit their arrays. Contracts ask for it as `Within`. It is no invariant of the type, which is C's and any caller
+    // may write; a wrapper around it would be opened at each field that is read.
     pub fn sound(&self) -> bool
         ensures { result ≡ within self.now }
     {

@@ -17,6 +17,3 @@ overflow_add-days c = omega (arith, before-most c.args.year (c.loop-m.m - 1))
 pub loop-m-preserved : goal.loop-m-preserved
 loop-m-preserved c =
     (omega arith, omega arith, rw (c.from-days.ensures, c.loop-m.invariant.2, c.days_of_month.ensures) (sym (month-more c.args.year c.loop-m.m c.loop-m.invariant.0)))
-
-pub returns : goal.returns
-returns c = c.loop-m.invariant.2 ∙ ap (λ m. days_before c.args.year (m - 1)) (omega arith)
