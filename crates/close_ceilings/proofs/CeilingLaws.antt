@@ -29,10 +29,10 @@ use Rattle.close_ceilings.specs.Ceilings.{most, line_of, line_at, line_row, ceil
 -- Limit 12
 
 -- one that does not apply is as much as any
-pub line_as : (cs : List Notice) (b : ℕ) (l : O.Option (List ℕ)) (h : ℕ) → h < 25 → border_at l (suc h) ≡ border_sum (map notice_in cs) b (suc h) → min (get_or (unwrap_or l (replicate 25 most)) h 0) most ≡ line_at cs b h
+pub line_as : (cs : List Notice) (b : ℕ) (l : O.Option (List ℕ)) (a h : ℕ) → most ≤ a → h < 25 → border_at l (suc h) ≡ border_sum (map notice_in cs) b (suc h) → min (get_or (unwrap_or l (replicate 25 a)) h 0) most ≡ line_at cs b h
 unfolding line_at line_of border_at
-line_as cs b None h i e = ap (λ n. min n most) (get_or-replicate {A = ℕ} 25 h most 0 i) ∙ ap line_of e
-line_as cs b (Some sums) h i e = ap (λ n. min n most) (sym (hourly-suc sums h)) ∙ ap line_of e
+line_as cs b None a h m i e = ap (λ n. min n most) (get_or-replicate {A = ℕ} 25 h a 0 i) ∙ (let k : min a most ≡ most = omega arith in k) ∙ ap line_of e
+line_as cs b (Some sums) a h m i e = ap (λ n. min n most) (sym (hourly-suc sums h)) ∙ ap line_of e
 
 -- a number that no border has
 row-none : (cs : List Notice) (b h : ℕ) → length cs ≡ 8 → 4 < b → line_at cs 0 h ≡ line_at cs b h

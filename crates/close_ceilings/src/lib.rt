@@ -12,22 +12,20 @@ use rules::{BORDERS, DIRECTIONS, HOURS, UNITS};
 use session::{Notice, Unit};
 use std::array;
 
-// As much as a maximum can be.
-const MOST: u64 = 4_294_967_295;
-
 // Limit 12 by border and hour; row 0 is of domestic units.
 pub type Lines = [[u32; HOURS]; BORDERS + 1];
 
-// Limit 12 of a border by hour, as much as a maximum can be where it does not apply.
+// Limit 12 of a border by hour, cut at what a maximum can be. One that does not apply is as much as any.
 fn capped_line(border: u32, capacities: &[Notice; DIRECTIONS]) -> [u32; HOURS]
     ensures { result ≡ map (line_at capacities.now border) (range_with_len 0 25) }
 {
     border_limit(border, capacities)
-        .unwrap_or([MOST; HOURS])
-        .map(|sum| sum.min(MOST) as u32)
+        .unwrap_or([u64::MAX; HOURS])
+        .map(|sum| u32::try_from(sum).unwrap_or(u32::MAX))
 }
 
-// Limit 12 by border and hour.
+// Limit 12 by border and hour. A loop, and a cast of its index: `map` over the borders' numbers was tried, and its proof did not close, as
+// nothing is inferred of a closure that gives an array.
 pub fn lines_of(capacities: &[Notice; DIRECTIONS]) -> Lines
     ensures { LinesOf capacities.now result }
 {
@@ -38,7 +36,7 @@ pub fn lines_of(capacities: &[Notice; DIRECTIONS]) -> Lines
     lines
 }
 
-// The row of a border; a number that no border has has no line either, as a domestic unit.
+// The row of a border. Row 0, that of domestic units, is also for a number above 4: no border has it, and so limit 12 does not apply.
 #[tactic(auto, unfolding(crate::specs::Ceilings::line_row))]
 fn line_row(border: u32) -> usize
     ensures row { result ≡ line_row border }
@@ -54,8 +52,7 @@ fn line_row(border: u32) -> usize
 pub fn line_of(lines: &Lines, border: u32) -> [u64; HOURS]
     ensures { (cs : List Notice) → LinesOf cs lines.now → (h : ℕ) → h < 25 → get_or result h 0 ≡ line_at cs border h }
 {
-    let line = &lines[line_row(border)];
-    array::from_fn(|h| u64::from(line[h]))
+    lines[line_row(border)].map(|sum| u64::from(sum))
 }
 
 // The least of the limits in the hour at index h: "without one, the maximum is available".
@@ -80,7 +77,7 @@ fn ceilings_at(unit: Unit, notice: &Notice, lines: &Lines) -> [u32; HOURS]
     array::from_fn(|h| ceiling_at(unit, notice, line, h))
 }
 
-// The ceilings of units by hour.
+// The ceilings of units by hour. What it asks of lengths no slice's type has.
 pub fn ceilings_of(
     units: &[Unit],
     notices: &[Notice],
