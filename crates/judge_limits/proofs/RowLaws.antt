@@ -1,27 +1,33 @@
 -- Judging: each way out, by the lowest hours in which the limits are passed.
 use Prim.Native.Nat.{ℕ, zero, suc, ◌+◌, ◌-◌, ◌≤◌, ◌<◌}
-use mathlib.Core.Path.{◌≡◌, refl, ap, sym, subst, ◌∙◌}
+use mathlib.Core.Path.{◌≡◌, refl, ap, ap₂, sym, subst, ◌∙◌}
 use mathlib.Core.Bool.{Bool, true, false, cond, not, false≢true}
-use mathlib.Core.List.{List, map}
+use mathlib.Core.List.{List, [], ◌∷◌, map}
 use mathlib.Core.Option.{some, none}
 use native.Mathlib.Omega.{arith}
 use lib.Dec.{eqb}
-use lib.ListN.{replicate, get_or-replicate}
+use lib.ListN.{length, get_or, drop, replicate, get_or-replicate}
+use lib.Seq.{drop-cons}
+use Rattle.std.proofs.lemmas.List.{drop_all}
 use borrow.Author.Tests.{eqb-true}
 use Rattle.rules.proofs.BoolLaws.{by_bool}
 use Rattle.rules.specs.Lists.{first, from, lowest, hourly}
-use Rattle.rules.specs.Refusals.{limit_row, first_row}
-use Rattle.rules.specs.Units.{Limit, passes, available_at, border_sum, maximum_limit, available_limit, own_limits, border_limit, border_limits, limits}
+use Rattle.rules.specs.Refusals.{Row, limit_row, first_row}
+use Rattle.rules.specs.Rows.{number_of}
+use Rattle.rules.specs.declared.row.Row.TheVariants.{Maximum, Available, Border}
+use Rattle.rules.specs.Units.{Registered, Limit, passes, available_at, border_sum, maximum_limit, available_limit, own_limits, border_limit, border_limits, limits}
 use Rattle.rules.specs.Lodging.{passed_at, judged_by, limit_rows}
 use Rattle.rules.proofs.LowestLaws.{lowest-none}
 use Rattle.session.specs.declared.Unit.{Unit}
 use Rattle.session.specs.declared.Notice.{Notice}
 use Rattle.session.specs.Parts.{given_by}
 use Rattle.judge_loads.specs.Loads.{hour_at, laid}
-use Rattle.judge_limits.specs.Limits.{notice_in, registered_in, lines_in, row_at, lowest_row, judged_in, border_at}
+use Rattle.judge_limits.specs.Limits.{notice_in, registered_in, lines_in, row_at, lowest_row, judged_in, border_at, limit_in, limits_for, first_passed}
+use Rattle.judge_limits.specs.declared.Limit as Code
 use Rattle.std.specs.declared.option.Option as O
 use Rattle.std.specs.Prelude.{Some, None}
-use Rattle.std.specs.Option.{is_some}
+use Rattle.std.specs.Option.{is_some, unwrap_or}
+use Rattle.std.proofs.lemmas.Option.{none-some}
 use Rattle.judge_loads.proofs.LoadLaws.{and-false}
 
 -- tests that agree on each number have the same lowest
@@ -155,3 +161,109 @@ module _ (H : ℕ) (own : List ℕ) (load : ℕ → ℕ) where
         -- all three
         pub judge-on : {z : O.Option ℕ} (sums : List ℕ) → b ≡ Some sums → z ≡ hour_by (laid sums) → lowest_row x y z ≡ judged_in u n cs default H own load
         judge-on {z} sums k g = rw (t, judged-normal, twelve-on sums k, e, f, g)
+
+-- The judgement by a list of limits
+
+-- what applies is given, whatever is behind it
+first-one : (a : Row) (xs ys : List Row) → a.applies ≡ true → first_row (a ∷ xs) ≡ first_row (a ∷ ys)
+unfolding first_row
+first-one a xs ys e = rw e
+
+-- what does not apply is as nothing
+first-alone : (a b c : Row) → b.applies ≡ false → c.applies ≡ false → first_row (a ∷ b ∷ c ∷ []) ≡ first_row (a ∷ [])
+unfolding first_row
+first-alone a b c e f = rw (e, f)
+
+rows-three : {a x b y c z : Row} → a ≡ x → b ≡ y → c ≡ z → first_row (a ∷ b ∷ c ∷ []) ≡ first_row (x ∷ y ∷ z ∷ [])
+rows-three p q r = rw (p, q, r)
+
+module _ (H : ℕ) (own : List ℕ) (load : ℕ → ℕ) where
+  abbrev row_by : Limit → Row
+  row_by l = limit_row l.number H (passed_at own load l)
+
+  row-same : (l m : Limit) → l.number ≡ m.number → ((h : ℕ) → 1 ≤ h → h ≤ H → l.at h ≡ m.at h) → row_by l ≡ row_by m
+  unfolding limit_row
+  row-same l m e f = ap₂ (λ (n h : ℕ). record { number = n; hour = h; applies = not (eqb h 0) }) e (limit-same H own load l m f)
+
+  row-absent : (l : Limit) → ((h : ℕ) → l.at h ≡ none) → (row_by l).applies ≡ false
+  unfolding limit_row
+  row-absent l f = rw (limit-absent H own load l f)
+
+  -- the loop over them: one that does not apply, one that is passed, and one that is not
+  module _ (l : Code.Limit) (ls : List Code.Limit) where
+    pub first-absent : l.by_hour ≡ None → first_passed (l ∷ ls) H own load ≡ first_passed ls H own load
+    unfolding first_passed limit_rows first_row border_at
+    first-absent e = rw (row-absent (limit_in l) (λ h. rw e refl))
+
+    module _ (es : List ℕ) (is : l.by_hour ≡ Some es) where
+      abbrev low : ℕ
+      low = lowest (passed_at own load (laid es)) H
+
+      low-is : lowest (passed_at own load (limit_in l)) H ≡ low
+      unfolding border_at
+      low-is = limit-same H own load (limit_in l) (laid es) (λ h a b. rw is refl)
+
+      pub first-passed : (h : ℕ) → hour_at low ≡ Some h → first_passed (l ∷ ls) H own load ≡ some (number_of l.row, h)
+      unfolding first_passed limit_rows limit_row first_row given_by
+      first-passed h e =
+          by_bool (eqb low 0) (λ t. absurd (none-some h (rw t at e)))
+          (λ t. let f : Some low ≡ Some h = rw t at e in rw (low-is, t) (ap (λ o. some (number_of l.row, unwrap_or o 0)) f))
+
+      pub first-kept : hour_at low ≡ None → first_passed (l ∷ ls) H own load ≡ first_passed ls H own load
+      unfolding first_passed limit_rows limit_row first_row given_by
+      first-kept e = by_bool (eqb low 0) (λ t. rw (low-is, t)) (λ t. absurd (none-some low (sym (rw t at e))))
+
+  -- that at an index
+  module _ (ls : List Code.Limit) (i : ℕ) (d : Code.Limit) (inside : i < length ls) where
+    abbrev l : Code.Limit
+    l = get_or ls i d
+
+    from-here : first_passed (drop i ls) H own load ≡ first_passed (l ∷ drop (i + 1) ls) H own load
+    from-here = let e : suc i ≡ i + 1 = omega arith in ap (λ (xs : List Code.Limit). first_passed xs H own load) (rw e at (drop-cons ls i d inside))
+
+    pub at-absent : l.by_hour ≡ None → first_passed (drop i ls) H own load ≡ first_passed (drop (i + 1) ls) H own load
+    at-absent e = from-here ∙ first-absent l (drop (i + 1) ls) e
+
+    module _ (es : List ℕ) (is : l.by_hour ≡ Some es) where
+      pub at-passed : (h : ℕ) → hour_at (lowest (passed_at own load (laid es)) H) ≡ Some h → first_passed (drop i ls) H own load ≡ some (number_of l.row, h)
+      at-passed h e = from-here ∙ first-passed l (drop (i + 1) ls) es is h e
+
+      pub at-kept : hour_at (lowest (passed_at own load (laid es)) H) ≡ None → first_passed (drop i ls) H own load ≡ first_passed (drop (i + 1) ls) H own load
+      at-kept e = from-here ∙ first-kept l (drop (i + 1) ls) es is e
+
+  pub at-end : (ls : List Code.Limit) (n : ℕ) → length ls ≤ n → first_passed (drop n ls) H own load ≡ none
+  unfolding first_passed limit_rows first_row given_by
+  at-end ls n e = rw (drop_all n ls e) refl
+
+  module _ (most : H ≤ 25) (u : Unit) (n : Notice) (cs : List Notice) where
+    abbrev r : Registered
+    r = registered_in u n
+
+    maximum-row : row_by (limit_in (record { row = Maximum; by_hour = Some (replicate 25 u.maximum) })) ≡ row_by (maximum_limit r)
+    unfolding maximum_limit border_at
+    maximum-row = row-same _ _ refl (λ h a b. ap some (sym (maximum-hourly H own load most u n cs u.maximum h a b)))
+
+    available-row : row_by (limit_in (record { row = Available; by_hour = Some (cond n.given n.energies (replicate 25 u.maximum)) })) ≡ row_by (available_limit r)
+    unfolding available_limit available_at notice_in border_at
+    available-row = row-same _ _ refl (λ h a b. ap some (sym (available-hourly H own load most u n cs n.given n.energies u.maximum h a b)))
+
+    -- those of a unit, with the line of its border
+    pub judged-limits : (default : Bool) (line : O.Option (List ℕ)) → ((h : ℕ) → border_at line h ≡ border_sum (map notice_in cs) u.border h)
+        → first_passed (limits_for u n line default) H own load ≡ judged_in u n cs default H own load
+    unfolding first_passed limits_for limit_rows judged_in judged_by limits own_limits border_limits border_limit border_at
+    judged-limits true line is =
+        ap given_by (first-alone _ (row_by (limit_in (record { row = Available; by_hour = None }))) (row_by (limit_in (record { row = Border; by_hour = None }))) (row-absent _ none-at) (row-absent _ none-at) ∙ ap (λ (x : Row). first_row (x ∷ [])) maximum-row)
+      where
+        none-at : (h : ℕ) → border_at None h ≡ none
+        none-at h = refl
+    judged-limits false line is = ap given_by (rows-three maximum-row available-row (row-same _ _ refl (λ h a b. is h)))
+
+    -- the same of a line that is passed as its border's sum is, where limit 10 is not passed
+    pub judged-laid : (line : List ℕ)
+        → (lowest (passed_at own load (laid (replicate 25 u.maximum))) H ≡ 0 → lowest (passed_at own load (laid line)) H ≡ lowest (passed_at own load (border_limit (lines_in cs) r)) H)
+        → first_passed (limits_for u n (Some line) false) H own load ≡ judged_in u n cs false H own load
+    unfolding first_passed limits_for limit_rows limit_row judged_in judged_by limits own_limits border_limits border_limit border_at passed_at
+    judged-laid line f =
+        by_bool (eqb (lowest (passed_at own load (laid (replicate 25 u.maximum))) H) 0)
+        (λ t. ap given_by (rows-three maximum-row available-row (ap (λ (h : ℕ). record { number = 12; hour = h; applies = not (eqb h 0) }) (f (eqb-true _ 0 t)))))
+        (λ t. ap given_by (first-one _ _ _ (rw t refl) ∙ rows-three maximum-row available-row refl))

@@ -1,14 +1,18 @@
 -- What a unit, its notice and the capacities of a session say, and the judgement by their limits.
-use Rattle.std.specs.Prelude.{ℕ, Bool, true, false, cond, List, [], ◌∷◌, map, Some, None}
+use Rattle.std.specs.Prelude.{ℕ, Bool, true, false, cond, List, [], ◌∷◌, map, replicate, Some, None}
 use Rattle.std.proofs.Math.Option.{Option, some, none}
 use Rattle.rules.specs.Lists.{hourly}
 use Rattle.rules.specs.Refusals.{Row, first_row}
+use Rattle.rules.specs.Rows.{number_of}
+use Rattle.rules.specs.declared.row.Row.TheVariants.{Maximum, Available, Border}
 use Rattle.rules.specs.Units.{Registered, Lines}
+use Rattle.rules.specs.Units as U
 use Rattle.rules.specs.Lodging.{judged_by, limit_rows}
 use Rattle.session.specs.Image.{unit_in}
 use Rattle.session.specs.Parts.{given_by}
 use Rattle.session.specs.declared.Unit.{Unit}
 use Rattle.session.specs.declared.Notice.{Notice}
+use Rattle.judge_limits.specs.declared.Limit.{Limit}
 use Rattle.std.specs.declared.option.Option as O
 use Rattle.std.specs.Option.{option_map_or}
 
@@ -38,6 +42,24 @@ row_at n = elim [
 unfoldable pub lowest_row : O.Option ℕ → O.Option ℕ → O.Option ℕ → Option (ℕ × ℕ)
 lowest_row ten eleven twelve = given_by (first_row (row_at 10 ten ∷ row_at 11 eleven ∷ row_at 12 twelve ∷ []))
 
--- limit 12 in an hour, none where it does not apply
+-- a limit by hour in an hour, none where it does not apply
 unfoldable pub border_at : O.Option (List ℕ) → ℕ → Option ℕ
 border_at b h = option_map_or (λ (es : List ℕ). some (hourly es h)) b none
+
+-- A list of limits
+
+-- a limit, as the rules have it
+abbrev pub limit_in : Limit → U.Limit
+limit_in l = record { number = number_of l.row; at = border_at l.by_hour }
+
+-- the limits of a unit with its notice and the line of its border, a default lodgement's "against 10 only"
+unfoldable pub limits_for : Unit → Notice → O.Option (List ℕ) → Bool → List Limit
+limits_for u n line default =
+    record { row = Maximum; by_hour = Some (replicate 25 u.maximum) }
+    ∷ record { row = Available; by_hour = cond default None (Some (cond n.given n.energies (replicate 25 u.maximum))) }
+    ∷ record { row = Border; by_hour = cond default None line }
+    ∷ []
+
+-- the judgement by some limits: the first that is passed, with the lowest hour in which it is
+unfoldable pub first_passed : List Limit → ℕ → List ℕ → (ℕ → ℕ) → Option (ℕ × ℕ)
+first_passed ls H own load = given_by (first_row (limit_rows H own load (map limit_in ls)))

@@ -5,7 +5,7 @@ ghost use Rattle.std.specs.Prelude.{◌≡◌, cond, map, ℕ, ◌+◌, ◌<◌,
 ghost use Rattle.rules.specs.Units.{border_sum};
 ghost use Rattle.judge_loads.specs.Loads.{IndicesIn, load_by};
 ghost use Rattle.session.specs.Parts.{said};
-ghost use Rattle.judge_limits.specs.Limits.{notice_in, lowest_row, judged_in, border_at};
+ghost use Rattle.judge_limits.specs.Limits.{notice_in, lowest_row, limits_for, first_passed, border_at};
 
 use answer::Refusal;
 use judge_loads::lowest_hour;
@@ -70,30 +70,63 @@ pub fn lowest_row(ten: Option<u32>, eleven: Option<u32>, twelve: Option<u32>) ->
     Err(Refusal { row, hour })
 }
 
-// The first of a unit's limits that is passed, a default lodgement's "against 10 only", with the lowest hour in which it is.
-pub fn judge_energy(
+// A limit by hour, none where it does not apply, and the row that refuses what passes it.
+#[derive(Clone, Copy)]
+pub struct Limit {
+    pub row: Row,
+    pub by_hour: Option<[u64; HOURS]>,
+}
+
+// The limits that energy of a unit is judged by, in the table's order: a default lodgement's "against 10 only". The line is limit 12.
+#[tactic(auto, unfolding(crate::specs::Limits::limits_for))]
+pub fn limits_of(
     unit: &Unit,
     notice: &Notice,
-    capacities: &[Notice; DIRECTIONS],
+    line: Option<[u64; HOURS]>,
     default: bool,
+) -> [Limit; 3]
+    ensures { result ≡ limits_for unit.now notice.now line default }
+{
+    let maximum = maximum_energies(unit.maximum);
+    let available = available_energies(unit.maximum, notice);
+    [
+        Limit {
+            row: Row::Maximum,
+            by_hour: Some(maximum),
+        },
+        Limit {
+            row: Row::Available,
+            by_hour: if default { None } else { Some(available) },
+        },
+        Limit {
+            row: Row::Border,
+            by_hour: if default { None } else { line },
+        },
+    ]
+}
+
+// The first of the limits that is passed, with the lowest hour in which it is: "The lowest applicable number is given", so those behind it
+// are not looked at.
+pub fn judge_energy(
+    limits: &[Limit],
     own: &[u32; HOURS],
     energies: &[Energies],
     others: &[usize],
     hours: usize,
 ) -> Result<(), Refusal>
     requires { (hours ≤ 25) × IndicesIn energies.now others.now }
-    ensures { said result ≡ judged_in unit.now notice.now capacities.now default hours own.now (load_by own.now energies.now others.now) }
+    ensures { said result ≡ first_passed limits.now hours own.now (load_by own.now energies.now others.now) }
 {
-    let most = maximum_energies(unit.maximum);
-    let ten = lowest_hour(own, energies, others, hours, &most);
-    if default {
-        return lowest_row(ten, None, None);
+    for limit in limits {
+        let Some(by_hour) = &limit.by_hour else {
+            continue;
+        };
+        if let Some(hour) = lowest_hour(own, energies, others, hours, by_hour) {
+            return Err(Refusal {
+                row: limit.row,
+                hour,
+            });
+        }
     }
-    let available = available_energies(unit.maximum, notice);
-    let eleven = lowest_hour(own, energies, others, hours, &available);
-    let Some(sums) = border_limit(unit.border, capacities) else {
-        return lowest_row(ten, eleven, None);
-    };
-    let twelve = lowest_hour(own, energies, others, hours, &sums);
-    lowest_row(ten, eleven, twelve)
+    Ok(())
 }

@@ -5,13 +5,16 @@ use mathlib.Core.Bool.{Bool, true, false, cond}
 use mathlib.Core.List.{List, map}
 use native.Mathlib.Omega.{arith}
 use lib.Dec.{ltb}
-use lib.ListN.{take, length, get_or, replicate, length-append, length-map}
-use lib.Seq.{length-take-le}
+use lib.ListN.{take, length, get_or, replicate, length-append, length-map, length-take}
+use lib.Seq.{length-take-le, get_or-take}
 use borrow.Author.Tests.{lt-ltb, ltb-true, eq-eqb, ne_eqb}
-use Rattle.std.specs.Prelude.{Some, None}
+use Rattle.std.specs.Prelude.{Some, None, IfOk, IfErr}
 use Rattle.std.specs.List.{position}
+use Rattle.std.specs.Option.{ok_or}
 use Rattle.std.specs.declared.option.Option.{Option}
+use Rattle.std.specs.declared.result.Result.TheVariants.{Ok, Err}
 use Rattle.std.proofs.lemmas.Option.{none-some, cond_some}
+use Rattle.std.proofs.lemmas.Result.{IfOk-at_ok, IfErr-at_err}
 use Rattle.rules.specs.Lists.{any}
 use Rattle.rules.specs.Units as U
 use Rattle.rules.specs.Lodging as L
@@ -19,7 +22,7 @@ use Rattle.rules.specs.Book as B
 use Rattle.rules.specs.DayBook as D
 use Rattle.rules.proofs.BoolLaws.{by_bool}
 use Rattle.session.specs.Laid.{pad}
-use Rattle.session.specs.Image.{image, key_in, lodgement_as, no_lodgement, no_unit}
+use Rattle.session.specs.Image.{image, key_in, lodgement_as, unit_of, no_lodgement, no_unit}
 use Rattle.session.specs.Parts.{index_of, held, number_is}
 use Rattle.session.specs.declared.Key.{Key}
 use Rattle.session.specs.declared.Unit.{Unit}
@@ -27,9 +30,10 @@ use Rattle.session.specs.declared.Holder.{Holder}
 use Rattle.session.specs.declared.Session.{Session}
 use Rattle.session.proofs.LaidLaws.{any-map}
 use Rattle.session.proofs.IndexLaws.{indexed, unindexed, position-as}
-use Rattle.session.proofs.ImageLaws.{lodgements-as, holder-none, holder-registered, holder-unit}
+use Rattle.session.proofs.ImageLaws.{lodgements-as, unit-as, holder-none, holder-registered, holder-unit}
 use Rattle.judge_loads.proofs.LoadLaws.{and-false}
 use Rattle.lodge_keys.specs.Keys.{of_key, key_index, hiding}
+use Rattle.lodge_keys.specs.Holding.{FoundAt}
 
 -- What the library's search finds
 
@@ -46,6 +50,23 @@ module _ {A : Type 0} (q : A → Bool) (xs : List A) where
       let i = ltb-true (index_of q xs) (length xs) got.0 in
       (by_bool (any q xs) (λ e. e) (λ e. absurd (omega (arith, i, unindexed q xs e))), omega (arith, i, got.1))
 
+-- What is looked for, or a row
+
+module _ {A E : Type 0} where
+  looked-found : (o : Option A) (e : E) → IfOk (ok_or o e) (λ x. o ≡ Some x)
+  looked-found None e = tt
+  looked-found (Some x) e = refl
+
+  looked-missed : (o : Option A) (e : E) → IfErr (ok_or o e) (λ y. (o ≡ None) × (y ≡ e))
+  looked-missed None e = (refl, refl)
+  looked-missed (Some x) e = tt
+
+  pub some-found : (o : Option A) (e : E) (x : A) → ok_or o e ≡ Ok x → o ≡ Some x
+  some-found o e x h = IfOk-at_ok _ h (looked-found o e)
+
+  pub none-missed : (o : Option A) (e f : E) → ok_or o e ≡ Err f → (o ≡ None) × (f ≡ e)
+  none-missed o e f h = IfErr-at_err _ h (looked-missed o e)
+
 module _ (us : List Unit) (n : ℕ) (x : Holder) (h : held us n ≡ Some x) where
   abbrev first_at : ℕ
   first_at = index_of (number_is n) us
@@ -59,11 +80,25 @@ module _ (us : List Unit) (n : ℕ) (x : Holder) (h : held us n ≡ Some x) wher
   got : (ltb first_at (length us) ≡ true) × (first_holder ≡ x)
   got = cond_some (ltb first_at (length us)) first_holder x (sym held-as ∙ h)
 
-  pub found-at : x.at ≡ first_at
+  found-at : x.at ≡ first_at
   found-at = sym (ap (λ (y : Holder). y.at) got.1)
 
-  pub found-inside : x.at < length us
+  found-inside : x.at < length us
   found-inside = rw found-at (ltb-true first_at (length us) got.0)
+
+  found-unit : x.unit ≡ get_or us x.at no_unit
+  found-unit = rw found-at (sym (ap (λ (y : Holder). y.unit) got.1))
+
+-- the unit that the search finds among those that are registered
+pub found-by : (s : Session) (n : ℕ) (x : Holder) → held (take s.enrolled s.units) n ≡ Some x → FoundAt s n x
+found-by s n x h =
+    let units = take s.enrolled s.units in
+    let inside : x.at < s.enrolled = omega (arith, found-inside units n x h, length-take s.enrolled s.units) in
+    record { index = found-at units n x h; inside = inside; unit = found-unit units n x h ∙ get_or-take s.enrolled s.units x.at no_unit inside }
+
+-- and as the book has it
+pub found-as : (s : Session) (b : B.Book) → s ≡ image b → (n : ℕ) (x : Holder) → FoundAt s n x → x.unit ≡ unit_of (U.unit_of b.units n)
+found-as s b e n x f = f.unit ∙ unit-as s b e n x.at f.index f.inside no_unit
 
 module _ (s : Session) (b : B.Book) (e : s ≡ image b) where
   -- a lodgement of the key stands

@@ -90,9 +90,7 @@ pub fn holder_for(s: &Session, key: Key) -> Result<Holder, Row>
     requires { Within s.now }
     ensures { HolderFor s.now key result }
 {
-    let Some(holder) = holder_of(&s.units[..s.enrolled], key.unit) else {
-        return Err(Row::Unit);
-    };
+    let holder = holder_of(&s.units[..s.enrolled], key.unit).ok_or(Row::Unit)?;
     if key.execution && holder.unit.border == 0 {
         return Err(Row::Unit);
     }

@@ -16,6 +16,7 @@ use Rattle.judge_loads.specs.Loads.{load_in}
 use Rattle.judge_limits.proofs.NoticeLaws.{judged-by}
 use Rattle.lodge_keys.specs.Beside.{marks_for}
 use Rattle.lodge_keys.proofs.BesideLaws.{load-as}
+use Rattle.lodge_keys.proofs.KeyLaws.{found-as}
 use Rattle.lodge_judge.specs.Judging.{last_rows, JudgesLimits}
 use Rattle.lodge_pending.specs.Awaiting.{Awaits}
 use Rattle.lodge_pending.specs.declared.Pending.{Pending}
@@ -30,5 +31,5 @@ judged-for s p j a t b e =
     let i = p.holder.at in
     t
     ∙ (judged-by registered (lines_of b) s.hours m.energies (load_in m.energies (marks_for s m) (take s.standing s.energies)) _ _ _ m.default (L.judged_at b.standing (fields_in m))
-    (a.holder.unit b e) (notice-as s b e m.unit i a.holder.index a.holder.inside bare_notice) (capacities-as s b e) (λ h low high. load-as s b e m h)
+    (found-as s b e m.unit p.holder a.holder) (notice-as s b e m.unit i a.holder.index a.holder.inside bare_notice) (capacities-as s b e) (λ h low high. load-as s b e m h)
     ∙ ap (λ H. given_by (first_row (L.limit_rows H m.energies (L.judged_at b.standing (fields_in m)) (L.judged_by (lines_of b) registered m.default)))) (sym (hours-as s b e)))

@@ -4,20 +4,20 @@
 
 ghost use Rattle.std.specs.Prelude.{◌≡◌, ◌≤◌};
 ghost use Rattle.session.specs.Parts.{said};
-ghost use Rattle.judge_limits.specs.Limits.{judged_in};
+ghost use Rattle.judge_limits.specs.Limits.{first_passed};
 ghost use Rattle.lodge_keys.specs.Sums.{load_on};
 ghost use Rattle.lodge_pending.specs.Awaiting.{Awaits};
 ghost use Rattle.lodge_limits.specs.Judging.{kept, is_clear, judged_for};
 
 use answer::Refusal;
-use judge_limits::{available_energies, border_limit, judge_energy, maximum_energies};
+use judge_limits::{Limit, border_limit, judge_energy, limits_of};
 use lodge_keys::beside::sums_of;
 use lodge_pending::Pending;
-use rules::{DIRECTIONS, HOURS};
-use session::{Notice, Session, Unit};
+use rules::HOURS;
+use session::Session;
 
-// Whether a limit is passed in no hour that is named, by a lodgement's own energy and a sum. In an hour that it does not name it has none.
-// The index is the hour's, in three arrays.
+// Whether a limit is passed in none of the hours 1 to `hours`, by a lodgement's own energy and a sum. In an hour that it does not name its
+// energy is 0, which passes nothing. The index is the hour's, in three arrays.
 fn keeps(own: &[u32; HOURS], sums: &[u64; HOURS], hours: usize, limit: &[u64; HOURS]) -> bool
     requires { hours ≤ 25 }
     ensures { result ≡ kept own.now (load_on own.now sums.now) hours limit.now }
@@ -30,34 +30,20 @@ fn keeps(own: &[u32; HOURS], sums: &[u64; HOURS], hours: usize, limit: &[u64; HO
     true
 }
 
-// The same of all limits, of a default lodgement of 10 only: then its judgement is clear.
-fn keeps_all(
-    unit: &Unit,
-    notice: &Notice,
-    capacities: &[Notice; DIRECTIONS],
-    default: bool,
-    own: &[u32; HOURS],
-    sums: &[u64; HOURS],
-    hours: usize,
-) -> bool
+// Whether none of the limits is passed: then the judgement by them is clear.
+fn keeps_all(limits: &[Limit], own: &[u32; HOURS], sums: &[u64; HOURS], hours: usize) -> bool
     requires { hours ≤ 25 }
-    ensures { result ≡ is_clear (judged_in unit.now notice.now capacities.now default hours own.now (load_on own.now sums.now)) }
+    ensures { result ≡ is_clear (first_passed limits.now hours own.now (load_on own.now sums.now)) }
 {
-    let maximum = maximum_energies(unit.maximum);
-    if !keeps(own, sums, hours, &maximum) {
-        return false;
+    for limit in limits {
+        let Some(by_hour) = &limit.by_hour else {
+            continue;
+        };
+        if !keeps(own, sums, hours, by_hour) {
+            return false;
+        }
     }
-    if default {
-        return true;
-    }
-    let available = available_energies(unit.maximum, notice);
-    if !keeps(own, sums, hours, &available) {
-        return false;
-    }
-    match border_limit(unit.border, capacities) {
-        Some(line) => keeps(own, sums, hours, &line),
-        None => true,
-    }
+    true
 }
 
 // The judgement of a message by the limits of its unit. "The lowest hour in which that limit is passed" is looked for only where one is.
@@ -66,23 +52,14 @@ pub fn judge(s: &Session, p: &Pending) -> Result<(), Refusal>
     ensures { said result ≡ judged_for s.now p.now }
 {
     let unit = &p.holder.unit;
-    let notice = &s.notices[p.holder.at];
-    let default = p.fields.default;
     let own = &p.fields.energies;
     let counted = p.beside.as_slice();
     let hours = s.hours as usize;
+    let line = border_limit(unit.border, &s.capacities);
+    let limits = limits_of(unit, &s.notices[p.holder.at], line, p.fields.default);
     let sums = sums_of(&s.energies, counted);
-    if keeps_all(unit, notice, &s.capacities, default, own, &sums, hours) {
+    if keeps_all(&limits, own, &sums, hours) {
         return Ok(());
     }
-    judge_energy(
-        unit,
-        notice,
-        &s.capacities,
-        default,
-        own,
-        &s.energies,
-        counted,
-        hours,
-    )
+    judge_energy(&limits, own, &s.energies, counted, hours)
 }

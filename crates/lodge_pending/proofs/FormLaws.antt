@@ -76,6 +76,7 @@ module _ (s : Session) (bytes : List ℕ) where
     pends-read (Err r) g h = refused r (given r g)
     pends-read (Ok p) g h = record {
       ready = h.ready;
+      good = h.good;
       left = λ j l. left p g j (subst (λ (k : Fields). JudgesLimits s (fields_in k) j) h.fields l);
       fields = ap fields_in h.fields ∙ said;
     }

@@ -54,8 +54,6 @@ pub fn pend(s: &Session, message: &[u8]) -> Result<Pending, Row>
     if s.closed {
         return Err(Row::Gate);
     }
-    let Some(m) = formed(message) else {
-        return Err(Row::Form);
-    };
+    let m = formed(message).ok_or(Row::Form)?;
     found(s, m, top_of(message))
 }

@@ -1,18 +1,21 @@
-use mathlib.Core.Path.{◌∙◌}
-use Rattle.judge_limits.proofs.RowLaws.{hour-of, judge-default, judge-off, judge-on}
+use mathlib.Core.Path.{refl, sym, ◌∙◌}
+use native.Mathlib.Omega.{arith}
+use Rattle.judge_limits.proofs.RowLaws.{at-absent, at-passed, at-kept, at-end}
 use Rattle.judge_limits.proofs.judge_energy.Goals as goal
 
-pub returns-then-default : goal.returns-then-default
-returns-then-default c = c.lowest_row.ensures ∙ judge-default _ _ _ c.requires.0 _ _ _ c.args.default c.if-default.true (hour-of _ _ _ c.maximum_energies-most.ensures c.lowest_hour-ten.ensures)
+pub loop-limit-init : goal.loop-limit-init
+loop-limit-init c = refl
 
-pub returns-in_default : goal.returns-in_default
-returns-in_default c =
-    c.lowest_row-in_default.ensures
-    ∙ judge-off _ _ _ c.requires.0 _ _ _ _ c.border_limit.ensures c.args.default c.if-default.false (hour-of _ _ _ c.maximum_energies-most.ensures c.lowest_hour-ten.ensures)
-    (hour-of _ _ _ c.available_energies-available.ensures c.lowest_hour-eleven.ensures) c.in_default.is
+pub loop-limit-preserved-in_default : goal.loop-limit-preserved-in_default
+loop-limit-preserved-in_default c = c.loop-limit.invariant ∙ at-absent _ _ _ _ c.loop-limit.limit-index _ (omega arith) c.in_default.is
+
+pub returns-in-Some-lowest_hour : goal.returns-in-Some-lowest_hour
+returns-in-Some-lowest_hour c =
+    sym (c.loop-limit.invariant ∙ at-passed _ _ _ _ c.loop-limit.limit-index _ (omega arith) _ c.in-Some.is _ (sym c.lowest_hour.ensures ∙ c.in-Some-lowest_hour.is))
+
+pub loop-limit-preserved : goal.loop-limit-preserved
+loop-limit-preserved c =
+    c.loop-limit.invariant ∙ at-kept _ _ _ _ c.loop-limit.limit-index _ (omega arith) _ c.in-Some.is (sym c.lowest_hour.ensures ∙ c.in_default-lowest_hour.is)
 
 pub returns : goal.returns
-returns c =
-    c.lowest_row-2.ensures
-    ∙ judge-on _ _ _ c.requires.0 _ _ _ _ c.border_limit.ensures c.args.default c.if-default.false (hour-of _ _ _ c.maximum_energies-most.ensures c.lowest_hour-ten.ensures)
-    (hour-of _ _ _ c.available_energies-available.ensures c.lowest_hour-eleven.ensures) _ c.in-Some.is c.lowest_hour-twelve.ensures
+returns c = sym (c.loop-limit.invariant ∙ at-end _ _ _ c.args.limits.now c.loop-limit.limit-index (omega arith))

@@ -1,4 +1,6 @@
 use mathlib.Core.Path.{sym, ◌∙◌}
+use Rattle.std.proofs.lemmas.Result.{err_from_is_err_and}
+use Rattle.lodge_keys.proofs.KeyLaws.{some-found, none-missed}
 use Rattle.lodge_pending.proofs.FormLaws.{pends-unsound, pends-2, pends-3, pends-read}
 use Rattle.lodge_pending.proofs.pend.Goals as goal
 
@@ -8,9 +10,13 @@ returns-then-not-sound c = pends-unsound _ _ (sym c.sound.ensures ∙ c.if-not-s
 pub returns-then-s : goal.returns-then-s
 returns-then-s c = pends-2 _ _ c.if-s.true
 
-pub returns-in_default : goal.returns-in_default
-returns-in_default c = pends-3 _ _ c.if-s.false c.in_default.ensures
+pub returns-in_err-m : goal.returns-in_err-m
+returns-in_err-m c =
+    let p = err_from_is_err_and c.from_residual.result c.from_residual.ensures.1 in
+    let m = none-missed _ _ _ (sym c.ok_or.ensures.value ∙ c.in_err-m.was) in
+    rw (p.1, p.2, m.1) (pends-3 _ _ c.if-s.false (rw m.0 at c.formed.ensures))
 
 pub returns : goal.returns
 returns c =
-    pends-read _ _ c.in-Some.m _ c.if-s.false c.in-Some.ensures.0 c.in-Some.ensures.1 c.top_of.ensures c.found.result c.found.ensures.rows c.found.ensures.found
+    let here = rw (some-found _ _ _ (sym c.ok_or.ensures.value ∙ c.in_ok-m.was)) at c.formed.ensures in
+    pends-read _ _ c.in_ok-m.m _ c.if-s.false here.0 here.1 c.top_of.ensures c.found.result c.found.ensures.rows c.found.ensures.found
