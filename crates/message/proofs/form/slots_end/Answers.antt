@@ -3,15 +3,6 @@ use Rattle.rules.specs.Message.{slot_width}
 use Rattle.message.proofs.FormLaws.{named-hours, named-le, slots-le}
 use Rattle.message.proofs.form.slots_end.Goals as goal
 
-pub overflow_cast-named : goal.overflow_cast-named
-overflow_cast-named c = omega (arith, named-le c.args.map)
-
-pub overflow_mul-result : goal.overflow_mul-result
-overflow_mul-result c = omega (arith, slots-le 17 (named-le c.args.map) c.price_width.ensures.most)
-
-pub overflow_add-result-2 : goal.overflow_add-result-2
-overflow_add-result-2 c = omega (arith, slots-le 17 (named-le c.args.map) c.price_width.ensures.most)
-
 pub returns-clause-value : goal.returns-clause-value
 unfolding slot_width
 returns-clause-value c = rw (named-hours, c.price_width.ensures.value)

@@ -21,6 +21,3 @@ pub slot_at-requires-clause-there : goal.slot_at-requires-clause-there
 slot_at-requires-clause-there c =
     let room = ends-in form1 _ _ c.requires c.slots_end-end.ensures.value in
     omega (arith, room)
-
-pub returns : goal.returns
-returns c = rw (c.slot_at.ensures.value, c.slots_end-end.ensures.value) refl
