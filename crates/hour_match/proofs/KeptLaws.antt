@@ -1,23 +1,30 @@
 -- What stays of an hour's offers while energies change: their orders, and their ranges.
-use Prim.Native.Nat.{ℕ, zero, suc, ◌+◌, ◌*◌, ◌≤◌, ◌<◌}
+use Prim.Native.Nat.{ℕ, zero, suc, ◌+◌, ◌*◌, ◌≤◌}
 use mathlib.Core.Path.{◌≡◌, refl, ap, sym, ◌∙◌}
 use mathlib.Core.Bool.{Bool, beq}
 use mathlib.Core.List.{List, [], ◌∷◌}
 use native.Mathlib.Omega.{arith}
 use lib.ListN.{length}
 use Rattle.rules.specs.Lists.{All, none, more, Each, each0, each, from}
-use Rattle.rules.specs.Units.{max_energy, max_price}
+use Rattle.rules.specs.Units.{max_energy}
 use Rattle.rules.specs.Match.{Offer, match_all}
 use Rattle.rules.proofs.ListLaws.{all_map, keep_same}
 use Rattle.rules.proofs.ElementLaws.{all-every, all_both}
 use Rattle.rules.proofs.MatchLaws.{match-within}
 use Rattle.rules.proofs.WithdrawalLaws.{Lowered, lowered-refl, lowered-rising, match-lowered}
-use Rattle.hour_offers.specs.Sound.{InRange, Sound}
+use Rattle.hour_offers.specs.Sound.{InRangeUnmatched, Sound, SoundUnmatched}
 use Rattle.hour_match.specs.Orders.{no_offer, nth, rank_of, key_at, insert_on, sort_on, in_order, Along}
 
 -- what `order` gives of a sound hour, as `match_offers` and `price_of` ask for it
 pub along-of : {side : Bool} {os : List Offer} {is : List ℕ} → Sound os → is ≡ in_order side os → Along side os is
 along-of s e = record { few = s.few; rising = s.rising; priced = all_map (λ o h. h.price) s.in_range; order = e }
+
+-- the same before the match
+pub along-unmatched : {side : Bool} {os : List Offer} {is : List ℕ} → SoundUnmatched os → is ≡ in_order side os → Along side os is
+along-unmatched s e = record { few = s.few; rising = s.rising; priced = all_map (λ o h. h.price) s.in_range; order = e }
+
+unmatched-of : {os : List Offer} → Sound os → SoundUnmatched os
+unmatched-of s = record { few = s.few; rising = s.rising; in_range = all_map (λ o h. record { border = h.border; price = h.price; offered = h.offered }) s.in_range }
 
 -- Two lists place by place
 
@@ -33,12 +40,6 @@ each-nth d (each h t) (suc i) = each-nth d t i
 each-all : {R : Offer → Offer → Type 0} {P Q : Offer → Type 0} {os ps : List Offer} → ((o p : Offer) → R o p → P o → Q p) → Each R os ps → All P os → All Q ps
 each-all f each0 none = none
 each-all f (each {x} {y} h t) (more p k) = more (f x y h p) (each-all f t k)
-
--- what holds of an offer whatever is matched of it
-record Unmatched (o : Offer) : Type 0 where
-  border : o.holder.border < 5
-  price : o.price ≤ max_price
-  offered : o.offered ≤ max_energy
 
 -- The order stays where holders and prices do
 
@@ -72,21 +73,27 @@ module _ {os ps : List Offer} (l : Each Lowered os ps) where
     order = a.order ∙ order-kept side;
   }
 
-  -- ranges stay where what is matched does
-  pub sound-kept : All (λ o. o.matched ≤ max_energy) ps → Sound os → Sound ps
-  sound-kept m s = record {
+  -- ranges are kept, whatever was matched, where what is matched is in its own
+  unmatched-kept : All (λ o. o.matched ≤ max_energy) ps → SoundUnmatched os → Sound ps
+  unmatched-kept m s = record {
     few = rw (each-length l) s.few;
     rising = lowered-rising l s.rising;
     in_range = all_both (λ p k n. record { border = k.border; price = k.price; offered = k.offered; matched = n })
-        (each-all {P = InRange} {Q = Unmatched} (λ o p h k. let q = k.offered in let z = h.offered in record {
+        (each-all {P = InRangeUnmatched} {Q = InRangeUnmatched} (λ o p h k. let q = k.offered in let z = h.offered in record {
           border = rw (ap (λ x. x.border) h.holder) k.border;
           price = rw h.price k.price;
           offered = omega arith;
         }) l s.in_range) m;
   }
 
+  pub sound-kept : All (λ o. o.matched ≤ max_energy) ps → Sound os → Sound ps
+  sound-kept m s = unmatched-kept m (unmatched-of s)
+
 -- after a match
-pub match-sound : (os : List Offer) → Sound os → Sound (match_all os)
-match-sound os s =
+pub match-unmatched : (os : List Offer) → SoundUnmatched os → Sound (match_all os)
+match-unmatched os s =
     let l = match-lowered os in
-    sound-kept l (all_both (λ o h k. omega arith) (match-within os s.rising) (each-all (λ o p h k. let a = h.offered in let b = k.offered in let r : p.offered ≤ max_energy = omega arith in r) l s.in_range)) s
+    unmatched-kept l (all_both (λ o h k. omega arith) (match-within os s.rising) (each-all (λ o p h k. let a = h.offered in let b = k.offered in let r : p.offered ≤ max_energy = omega arith in r) l s.in_range)) s
+
+pub match-sound : (os : List Offer) → Sound os → Sound (match_all os)
+match-sound os s = match-unmatched os (unmatched-of s)

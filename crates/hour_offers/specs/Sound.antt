@@ -12,6 +12,12 @@ pub record InRange (o : Offer) : Type 0 where
   pub offered : o.offered ≤ max_energy
   pub matched : o.matched ≤ max_energy
 
+-- the same of an offer before its hour's match, whatever stands as matched
+pub record InRangeUnmatched (o : Offer) : Type 0 where
+  pub border : o.holder.border < 5
+  pub price : o.price ≤ max_price
+  pub offered : o.offered ≤ max_energy
+
 -- and so are an execution's
 pub record ExecutionInRange (x : Execution) : Type 0 where
   pub border : x.holder.border < 5
@@ -22,6 +28,12 @@ pub record Sound (os : List Offer) : Type 0 where
   pub few : length os ≤ 128
   pub rising : Pairwise (λ o p. o.holder.number < p.holder.number) os
   pub in_range : All InRange os
+
+-- the same before their match, whatever stands as matched
+pub record SoundUnmatched (os : List Offer) : Type 0 where
+  pub few : length os ≤ 128
+  pub rising : Pairwise (λ o p. o.holder.number < p.holder.number) os
+  pub in_range : All InRangeUnmatched os
 
 -- an hour's executions, likewise
 pub record SoundExecutions (xs : List Execution) : Type 0 where
