@@ -13,21 +13,18 @@ ghost use Rattle.hour_cut.specs.Cuts.{Enough, Lowered};
 
 use hour_offers::Execution;
 
-// Market and executions together, by direction. "The bilateral maximum is E less the final market balance": the executions'
-// balance passes it by as much as the two together pass E.
+// Market and executions together, by direction. "The bilateral maximum is E less the final market balance": the executions' balance passes it
+// by as much as the two together pass E. Flows are arrays of ten as the session has them: their type does not tell that two can be added.
 fn together(market: &[u32; 10], executions: &[u32; 10]) -> [u32; 10]
     requires market_small { Small market.now }
     requires executions_small { Small executions.now }
     ensures { (w : ℕ) → w < 10 → get_or result w 0 ≡ get_or market.now w 0 + get_or executions.now w 0 }
 {
-    let mut both = *market;
-    for (w, e) in executions.iter().enumerate() {
-        both[w] += *e;
-    }
-    both
+    std::array::from_fn(|w| market[w] + executions[w])
 }
 
-// Each of the executions without what it loses.
+// Each of the executions without what it loses. By index: the proof of a `zip` does not close, since nothing is known of what an adapter of
+// `iter_mut` writes, but for `enumerate`.
 fn reduce(executions: &mut [Execution], lost: &[u32])
     requires { length lost.now ≡ length executions.old }
     ensures { executions_in executions.new ≡ less_each lost.now (executions_in executions.old) }
