@@ -50,7 +50,9 @@ fn total(energies: &[u32]) -> u32
     energies.iter().sum()
 }
 
-// The pro rata deductions, added to others index by index, and their sum.
+// The pro rata deductions, added to others index by index, and their sum. By index: the proof of a `zip` does not close, since nothing is
+// known of what an adapter of `iter_mut` writes, but for `enumerate`. That the two slices are of one length no type of theirs tells, so
+// each function asks it.
 fn add_floors(r: u32, g: u32, amounts: &[u32], deductions: &mut [u32]) -> u32
     requires within { r ≤ g }
     requires few { length amounts.now ≤ 128 }
@@ -171,6 +173,7 @@ pub fn deductions<T, F: Fn(&T) -> Amount>(
     ensures same_length { length result.items ≡ length holders.now }
 {
     let mut sums = nothing(holders.len());
+    // By index: w is the direction, of which `over` tells one thing and each holder's amount another.
     for w in (2..10).rev() {
         if 0 < over[w] {
             let mut energies = ArrayVec::new();
