@@ -9,14 +9,16 @@ use lib.Dec.{eqb}
 use lib.ListN.{get_or, set, length, drop, drop_of_length-le}
 use lib.Seq.{drop-cons, get_or-set_same, get_or-set_other}
 use borrow.Author.Tests.{eqb-true, eqb-false}
-use Rattle.rules.specs.Lists.{keep, sum, sum_of}
+use Rattle.rules.specs.Lists.{All, keep, sum, sum_of}
 use Rattle.rules.specs.Match.{Holder}
 use Rattle.rules.specs.Borders.{runs, at_border, flow}
 use Rattle.rules.proofs.BoolLaws.{by_bool}
+use Rattle.rules.proofs.ListLaws.{all_map}
 use Rattle.rules.proofs.IndexLaws.{set-small}
 use Rattle.hour_share.specs.declared.Amount.{Amount}
 use Rattle.hour_share.specs.Deductions.{energy_in}
 use Rattle.hour_borders.specs.Ways.{way_of}
+use Rattle.hour_borders.specs.Flows.{Countable}
 use Rattle.hour_borders.proofs.WayLaws.{runs-way}
 
 -- The loop
@@ -38,6 +40,11 @@ module _ {A : Type 0} (g : A → Amount) (w : ℕ) where
   pub left-end : (xs : List A) (i : ℕ) → length xs ≤ i → sum_of (energy_in w) (map g (drop i xs)) ≡ 0
   unfolding sum_of sum
   left-end xs i h = rw (drop_of_length-le xs {i = i} h)
+
+-- what gives each holder's amount gives one that can be counted, where these are
+pub all-counted : {A : Type 0} {R : A → Amount → Type 0} (given : A → Amount) → ((x : A) (a : Amount) → R x a → a ≡ given x) → {xs : List A} → All (λ x. Countable (given x)) xs
+    → All (λ x. (a : Amount) → R x a → Countable a) xs
+all-counted given r = all_map (λ x k a h. rw (r x a h) k)
 
 -- The rules' lists
 

@@ -12,6 +12,11 @@ use Rattle.hour_borders.specs.Ways.{way_of}
 abbrev pub amount_of : Holder → ℕ → Amount
 amount_of h energy = record { way = way_of h.border h.purchase; energy = energy }
 
+-- an amount that can be counted in its direction
+pub record Countable (a : Amount) : Type 0 where
+  pub way : a.way < 10
+  pub energy : a.energy ≤ max_energy
+
 -- numbers two of which can be added
 abbrev pub Small : List ℕ → Type 0
 Small a = (w : ℕ) → get_or a w 0 < 2147483648

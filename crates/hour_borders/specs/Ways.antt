@@ -1,5 +1,5 @@
--- Borders and directions as indices of an array of ten: export and import of border 0, of border 1, .. of border 4. Those of
--- border 0 stay empty.
+-- Borders and directions as indices of an array of ten: export and import of border 0, of border 1, .. of border 4. Flows of
+-- border 0 are domestic energy; it has no capacity and no maximum.
 use Rattle.std.specs.Prelude.{ℕ, ◌+◌, ◌*◌, ◌/◌, ◌%◌, Bool, cond, List, map, ltb, eqb, get_or, Option, None, is_some}
 use Rattle.std.specs.Option.{unwrap_or}
 use Rattle.rules.specs.Lists.{keep, from}

@@ -12,23 +12,24 @@ ghost use Rattle.rules.specs.Withdrawal.{overruns};
 ghost use Rattle.hour_offers.specs.View.{offers_in, executions_in};
 ghost use Rattle.hour_offers.specs.Sound.{ExecutionInRange};
 ghost use Rattle.hour_share.specs.declared.Amount.{Amount};
-ghost use Rattle.hour_share.specs.Deductions.{AmountInRange, energy_in};
+ghost use Rattle.hour_share.specs.Deductions.{energy_in};
 ghost use Rattle.hour_borders.specs.Ways.{way_of, energies_of, published_in, over_in};
-ghost use Rattle.hour_borders.specs.Flows.{amount_of, MatchedInRange, MarketFlows, BorderFlows, LegacyFlows, ExecutionFlows, Small};
+ghost use Rattle.hour_borders.specs.Flows.{amount_of, Countable, MatchedInRange, MarketFlows, BorderFlows, LegacyFlows, ExecutionFlows, Small};
 ghost use Rattle.hour_borders.specs.Limits.{across_of, maximum_in, excess_over, excess_in, non_empty};
 
 use hour_offers::{Execution, Holder, Offer};
 use hour_share::Amount;
 use hour_split::Flow;
 
-// The index of a border and direction in an array of ten: export of border 0, import of border 0, export of border 1, ..
-// Those of border 0 stay empty.
+// The index of a border and direction in an array of ten: export of border 0, import of border 0, export of border 1, .. Flows of border 0
+// are domestic energy; it has no capacity and no maximum.
 #[tactic(auto, unfolding(crate::specs::Ways::way_of))]
 pub fn way(border: u32, export: bool) -> usize
     ensures index { result ≡ way_of border export }
     ensures within { border < 5 → result < 10 }
 {
-    border as usize * 2 + if export { 0 } else { 1 }
+    // A cast, since `usize` has no `From<u32>`.
+    border as usize * 2 + usize::from(!export)
 }
 
 // The other direction of the same border: "For import, use the import capacity and legacy imports with B and M negated."
@@ -54,8 +55,7 @@ pub fn amount(holder: &Holder, energy: u32) -> Amount
 fn flows<T, F: Fn(&T) -> Amount>(holders: &[T], of: F) -> [u32; 10]
     requires callable { F.IsAlwaysCallable of }
     requires few { length holders.now ≤ 128 }
-    requires within { All (λ x. (a : Amount) → FnReturnsAt F.Fn of x a → a.way < 10) holders.now }
-    requires ranged { All (λ x. (a : Amount) → FnReturnsAt F.Fn of x a → AmountInRange a) holders.now }
+    requires countable { All (λ x. (a : Amount) → FnReturnsAt F.Fn of x a → Countable a) holders.now }
     ensures sums { (amount : T → Amount)
         → All (λ x. (a : Amount) → FnReturnsAt F.Fn of x a → a ≡ amount x) holders.now
         → (w : ℕ) → get_or result w 0 ≡ sum_of (energy_in w) (map amount holders.now) }
@@ -69,7 +69,8 @@ fn flows<T, F: Fn(&T) -> Amount>(holders: &[T], of: F) -> [u32; 10]
     flows
 }
 
-// What is matched, by way.
+// What is matched, by way. Three functions over `flows`, market, legacy and executions: each says what it gives in the rules' words for a
+// list of its own, which one of a trait could not say more plainly.
 pub fn market_flows(offers: &[Offer]) -> [u32; 10]
     requires few { length offers.now ≤ 128 }
     requires in_range { All MatchedInRange (offers_in offers.now) }
@@ -113,7 +114,8 @@ fn flow_at(flows: &[u32; 10], w: usize) -> Flow
     }
 }
 
-// The market maximum of the direction at an index. "A direction without capacity has no maximum".
+// The market maximum of the direction at an index. "A direction without capacity has no maximum". The index is a number, and the flows are
+// arrays of ten as the session has them: neither type tells that the index is one of theirs, or that flows are small enough to be added.
 fn maximum_at(
     w: usize,
     capacity: Option<u32>,

@@ -1,4 +1,4 @@
-use Rattle.std.proofs.Common.{arith, rules, refl, ◌≡◌, ◌∙◌, cond}
+use Rattle.std.proofs.Common.{arith, rules, refl, ◌∙◌, cond}
 use Rattle.rules.specs.Split.{legacy_flow}
 use Rattle.rules.proofs.ListLaws.{all_map}
 use Rattle.rules.proofs.ElementLaws.{all-every, all-unmapped}
@@ -9,22 +9,16 @@ use Rattle.hour_share.specs.declared.Amount.{Amount}
 use Rattle.hour_borders.specs.Ways.{way_of}
 use Rattle.hour_borders.specs.Flows.{amount_of}
 use Rattle.hour_borders.proofs.WayLaws.{way-small}
-use Rattle.hour_borders.proofs.FlowLaws.{flow-said}
+use Rattle.hour_borders.proofs.FlowLaws.{all-counted, flow-said}
 use Rattle.hour_borders.proofs.legacy_flows.Goals as goal
 
 -- what the closure gives
 abbrev given : Offer → Amount
 given x = amount_of x.holder (cond x.holder.legacy x.matched 0)
 
-pub flows-requires-clause-within : goal.flows-requires-clause-within
-flows-requires-clause-within c =
-    let ok = all-unmapped offer_in c.args.offers.now c.requires.in_range in
-    all_map (λ x r a h. let e : a ≡ given x = search rules in rw e (way-small x.holder.border x.holder.purchase r.border)) ok
-
-pub flows-requires-clause-ranged : goal.flows-requires-clause-ranged
-flows-requires-clause-ranged c =
-    let ok = all-unmapped offer_in c.args.offers.now c.requires.in_range in
-    all_map (λ x r a h. let e : a ≡ given x = search rules in rw e (omega (arith, cond-le x.holder.legacy x.matched, r.matched))) ok
+pub flows-requires-clause-countable : goal.flows-requires-clause-countable
+flows-requires-clause-countable c =
+    all-counted given (λ x a h. search rules) (all_map (λ x r. record { way = way-small x.holder.border x.holder.purchase r.border; energy = omega (arith, cond-le x.holder.legacy x.matched, r.matched) }) (all-unmapped offer_in c.args.offers.now c.requires.in_range))
 
 pub returns-clause-flows : goal.returns-clause-flows
 unfolding legacy_flow
