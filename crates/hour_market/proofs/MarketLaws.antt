@@ -9,7 +9,7 @@ use lib.ListN.{get_or, length, length-map, get_or-eq_default}
 use borrow.Author.Tests.{ltb-true, ltb-false}
 use Rattle.std.specs.Prelude.{Option, unwrap_or}
 use Rattle.rules.proofs.BoolLaws.{by_bool}
-use Rattle.rules.specs.Lists.{All}
+use Rattle.rules.specs.Lists.{All, Each}
 use Rattle.rules.specs.Units.{max_energy}
 use Rattle.rules.specs.Match.{Offer, volume, match_all, hour_price}
 use Rattle.rules.specs.Borders.{Execution}
@@ -17,20 +17,22 @@ use Rattle.rules.specs.Split.{maximum_of}
 use Rattle.rules.specs.Withdrawal.{Withdrawn, withdraw}
 use Rattle.rules.specs.Clearing as C
 use Rattle.rules.proofs.ListLaws.{all_map}
+use Rattle.rules.proofs.ElementLaws.{each-trans}
 use Rattle.rules.proofs.MatchLaws.{volume-again}
-use Rattle.rules.proofs.WithdrawalLaws.{match-lowered}
-use Rattle.hour_offers.specs.Sound.{Sound}
+use Rattle.rules.proofs.WithdrawalLaws.{lowered-trans, match-lowered}
+use Rattle.hour_offers.specs.Sound.{Sound, SoundUnmatched}
 use Rattle.hour_match.specs.Orders.{in_order, Along}
 use Rattle.hour_match.specs.Walks.{Matched}
-use Rattle.hour_match.proofs.KeptLaws.{along-of, along-kept, match-sound}
+use Rattle.hour_match.proofs.KeptLaws.{along-unmatched, along-kept, match-unmatched}
 use Rattle.hour_borders.specs.Ways.{energies_of, published_in}
 use Rattle.hour_borders.specs.Flows.{MatchedInRange, Small}
 use Rattle.withdraw.specs.declared.Ended.{Ended}
-use Rattle.withdraw.specs.Steps.{Laid}
+use Rattle.withdraw.specs.Steps.{Laid, Lowered}
 use Rattle.withdraw.specs.Rounds.{Withdrew}
+use Rattle.withdraw.proofs.StepLaws.{lowered-of, lowered-less}
 use Rattle.hour_market.specs.Parts.{MarketCleared}
 
-pub offered-small : {os : List Offer} → Sound os → All (λ o. o.offered ≤ max_energy) os
+pub offered-small : {os : List Offer} → SoundUnmatched os → All (λ o. o.offered ≤ max_energy) os
 offered-small s = all_map (λ o h. h.offered) s.in_range
 
 pub matched-in-range : {os : List Offer} → Sound os → All MatchedInRange os
@@ -45,14 +47,14 @@ small cs l f w =
     (λ t. omega (arith, get_or-eq_default (map (λ o. unwrap_or o 0) cs) 0 {n = w} (omega (arith, ltb-false w 10 t, l, length-map cs (λ o. unwrap_or o 0)))))
 
 -- the first match, by orders that are read where they stand
-pub first-matched : {os ps : List Offer} {v : ℕ} {sales purchases xs ys : List ℕ} → Sound os → xs ≡ sales → sales ≡ in_order false os → ys ≡ purchases → purchases ≡ in_order true os
+pub first-matched : {os ps : List Offer} {v : ℕ} {sales purchases xs ys : List ℕ} → SoundUnmatched os → xs ≡ sales → sales ≡ in_order false os → ys ≡ purchases → purchases ≡ in_order true os
     → (Along false os xs → Along true os ys → Matched os ps v) → Matched os ps v
-first-matched s d e f g h = h (along-of s (d ∙ e)) (along-of s (f ∙ g))
+first-matched s d e f g h = h (along-unmatched s (d ∙ e)) (along-unmatched s (f ∙ g))
 
 -- the offers after the first match
-module _ {os ps : List Offer} {v : ℕ} (s : Sound os) (m : Matched os ps v) where
+module _ {os ps : List Offer} {v : ℕ} (s : SoundUnmatched os) (m : Matched os ps v) where
   pub first-sound : Sound ps
-  first-sound = rw m.offers (match-sound os s)
+  first-sound = rw m.offers (match-unmatched os s)
 
   pub first-traded : v ≡ volume ps
   first-traded = rw (m.offers, volume-again os) m.traded
@@ -61,9 +63,13 @@ module _ {os ps : List Offer} {v : ℕ} (s : Sound os) (m : Matched os ps v) whe
   first-laid a b = record {
     sound = first-sound;
     within = m.within;
-    rising = rw m.offers ((along-kept (match-lowered os) {side = false} (along-of s a)).order);
-    falling = rw m.offers ((along-kept (match-lowered os) {side = true} (along-of s b)).order);
+    rising = rw m.offers ((along-kept (match-lowered os) {side = false} (along-unmatched s a)).order);
+    falling = rw m.offers ((along-kept (match-lowered os) {side = true} (along-unmatched s b)).order);
   }
+
+-- holders and prices stay, and no offer offers more, from the first match on
+pub market-lowered : {os ps qs : List Offer} {v : ℕ} → Matched os ps v → Each Lowered ps qs → Each Lowered os qs
+market-lowered {os} m l = lowered-of (each-trans lowered-trans (match-lowered os) (rw m.offers at (lowered-less l)))
 
 -- the withdrawal is the rules', and so is the market's part
 module _ {os ps qs : List Offer} {v : ℕ} (m : Matched os ps v) (capacities maxima : List (Option ℕ)) (xs : List Execution) {sales purchases : List ℕ} {r : Ended}

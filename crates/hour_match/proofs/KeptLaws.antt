@@ -13,6 +13,7 @@ use Rattle.rules.proofs.ElementLaws.{all-every, all_both}
 use Rattle.rules.proofs.MatchLaws.{match-within}
 use Rattle.rules.proofs.WithdrawalLaws.{Lowered, lowered-refl, lowered-rising, match-lowered}
 use Rattle.hour_offers.specs.Sound.{InRangeUnmatched, Sound, SoundUnmatched}
+use Rattle.hour_offers.proofs.SoundLaws.{unmatched-of}
 use Rattle.hour_match.specs.Orders.{no_offer, nth, rank_of, key_at, insert_on, sort_on, in_order, Along}
 
 -- what `order` gives of a sound hour, as `match_offers` and `price_of` ask for it
@@ -22,9 +23,6 @@ along-of s e = record { few = s.few; rising = s.rising; priced = all_map (λ o h
 -- the same before the match
 pub along-unmatched : {side : Bool} {os : List Offer} {is : List ℕ} → SoundUnmatched os → is ≡ in_order side os → Along side os is
 along-unmatched s e = record { few = s.few; rising = s.rising; priced = all_map (λ o h. h.price) s.in_range; order = e }
-
-unmatched-of : {os : List Offer} → Sound os → SoundUnmatched os
-unmatched-of s = record { few = s.few; rising = s.rising; in_range = all_map (λ o h. record { border = h.border; price = h.price; offered = h.offered }) s.in_range }
 
 -- Two lists place by place
 

@@ -6,6 +6,7 @@ use Rattle.hour_offers.specs.declared.Execution.{Execution}
 use Rattle.hour_offers.specs.View.{offers_in, executions_in}
 use Rattle.hour_borders.specs.Flows.{ExecutionFlows}
 use Rattle.hour_market.specs.Parts.{MarketCleared}
+use Rattle.hour_offers.proofs.SoundLaws.{unmatched-of}
 use Rattle.hour.specs.View.{fresh_in, hour_in}
 use Rattle.hour.specs.Ready.{is_ready, figures_of}
 use Rattle.std.specs.Prelude.{Some}
@@ -20,7 +21,7 @@ execution_flows-before-requires-clause-in_range c =
 pub clear-market-requires-clause-sound : goal.clear-market-requires-clause-sound
 unfolding hour_in
 clear-market-requires-clause-sound c =
-    rw (c.deref_mut.ensures.value, c.fresh.ensures, c.deref.ensures.0) (offers-sound (ready-holds c.args.h.now (sym c.ready.ensures ∙ c.if-ready.true)))
+    rw (c.deref_mut.ensures.value, c.fresh.ensures, c.deref.ensures.0) (unmatched-of (offers-sound (ready-holds c.args.h.now (sym c.ready.ensures ∙ c.if-ready.true))))
 
 pub clear-market-requires-clause-capacities_small : goal.clear-market-requires-clause-capacities_small
 clear-market-requires-clause-capacities_small c w l = omega (arith, capacities-small (ready-holds c.args.h.now (sym c.ready.ensures ∙ c.if-ready.true)) w l)

@@ -48,7 +48,7 @@ returns c =
     let s =
     step-again a.over.now l c.requires.places c.requires.abroad c.keep_matched.ensures.kept (group_in c.choose-group.result) c.take_from.ensures.taken
     (ap offers_in c.put.ensures ∙ map-put offer_in a.places.now c.take_from.new.offers a.offers.now)
-    c.choose-group.ensures c.match_named-volume.ensures in
+    c.choose-group.ensures c.match_named-volume.ensures.matched in
     record {
       stepped = s;
       places_after = places-after a.over.now l c.requires.places c.requires.abroad s.lowered;
