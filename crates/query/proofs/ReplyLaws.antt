@@ -16,13 +16,9 @@ use Rattle.std.specs.declared.result.Result.{Result}
 use Rattle.std.specs.declared.result.Result.TheVariants.{Ok, Err}
 use Rattle.rules.specs.declared.row.Row as Code
 use Rattle.query.specs.Replies.{Answered}
-use Rattle.query.specs.Parts.{Judges}
+use Rattle.query.specs.Parts.{Judges, Shows}
 
 -- Refused, or shown
-
--- queries with the same rows are refused alike
-abbrev pub SameRows : Query → Query → Type 0
-SameRows p q = (b : Book) → query_rows b p ≡ query_rows b q
 
 refused_as : (x : Code.Row) (a : Shown) (o : Option Row) → some (by_row x) ≡ given_by o → refusal (of_row x) ≡ shown (unless o a)
 unfolding unless shown given_by
@@ -34,14 +30,19 @@ unfolding unless shown given_by
 shown-as a none q = refl
 shown-as a (some r) q = absurd (some-ne-none _ (sym q))
 
-module _ {A : Type 0} (s : Session) (p q : Query) (same : SameRows p q) (j : Result A Code.Row) (judges : Judges s p j) where
+module _ {A : Type 0} (s : Session) (q : Query) (j : Result A Code.Row) (judges : Judges s q j) where
   pub out-refused : (x : Code.Row) → j ≡ Err x → Answered s q (refusal (of_row x))
   unfolding query outcome
-  out-refused x k b sound e = refused_as x (Q.shown b q) (first_row (query_rows b q)) (rw (← (same b)) (rw k at (judges b sound e)))
+  out-refused x k b sound e = refused_as x (Q.shown b q) (first_row (query_rows b q)) (rw k at (judges b sound e))
 
-  pub out-shown : (a : A) (r : Response) → j ≡ Ok a → ((b : Book) → Sound b → s ≡ image b → r ≡ value_told (Q.shown b q)) → Answered s q r
+  pub out-shown : (a : A) (r : Response) → j ≡ Ok a → Shows s q r → Answered s q r
   unfolding query outcome
-  out-shown a r k f b sound e = f b sound e ∙ shown-as (Q.shown b q) (first_row (query_rows b q)) (rw (← (same b)) (rw k at (judges b sound e)))
+  out-shown a r k f b sound e = f b sound e ∙ shown-as (Q.shown b q) (first_row (query_rows b q)) (rw k at (judges b sound e))
 
-pub own-rows : (q : Query) → SameRows q q
-own-rows q b = refl
+-- queries with the same rows are refused alike
+abbrev pub SameRows : Query → Query → Type 0
+SameRows p q = (b : Book) → query_rows b p ≡ query_rows b q
+
+-- so a judgement of the one is a judgement of the other
+pub judged-alike : {A : Type 0} (s : Session) (p q : Query) (j : Result A Code.Row) → SameRows p q → Judges s p j → Judges s q j
+judged-alike s p q j same judges b sound e = rw (← (same b)) (judges b sound e)

@@ -5,10 +5,11 @@
 ghost use Rattle.std.specs.Prelude.{◌≡◌, IfOk};
 ghost use Rattle.rules.specs.Hours.{not_an_hour};
 ghost use Rattle.rules.specs.Queries as Q;
+ghost use Rattle.session.specs.declared.Session.{Session};
 ghost use Rattle.query.specs.Replies.{Answered};
-ghost use Rattle.query.specs.Parts.{Judges, HourFits};
+ghost use Rattle.query.specs.Parts.{Judges, Shows, HourFits};
 
-use answer::{Refusal, Response};
+use answer::Response;
 use rules::row::Row;
 use session::Session;
 
@@ -35,12 +36,60 @@ pub fn judge_hour(s: &Session, hour: u32) -> Result<usize, Row>
     Ok(hour as usize - 1)
 }
 
+// A query: the rows that refuse it, and what it shows where none does.
+pub trait Query: Copy {
+    // what the judgement finds on its way
+    type Found: Copy;
+
+    // the rules' query
+    ghost query: { Self → Q.Query };
+
+    ghost is_found: { Session → Self → Self.Found → Type 0 };
+
+    fn judge(self, s: &Session) -> Result<Self::Found, Row>
+        ensures judges { Judges s.now (query self) result }
+        ensures found { IfOk result (λ x. is_found s.now self x) };
+
+    fn show(self, s: &Session, found: Self::Found) -> Response
+        requires { is_found s.now self found }
+        ensures { Shows s.now (query self) result };
+}
+
+// The reply to a query.
+pub fn reply<A: Query>(s: &Session, asked: A) -> Response
+    ensures { Answered s.now (A.query asked) result }
+{
+    match asked.judge(s) {
+        Ok(found) => asked.show(s, found),
+        Err(row) => Response::from(row),
+    }
+}
+
+// Of an hour's price.
+#[derive(Clone, Copy)]
+struct PriceQuery {
+    hour: u32,
+}
+
+impl Query for PriceQuery {
+    type Found = usize;
+
+    ghost query = { λ q. Q.price q.hour };
+
+    ghost is_found = { λ s q at. HourFits s q.hour at };
+
+    fn judge(self, s: &Session) -> Result<usize, Row> {
+        judge_hour(s, self.hour)
+    }
+
+    fn show(self, s: &Session, at: usize) -> Response {
+        Response::from(s.figures[at].price)
+    }
+}
+
 // The hour's price: 2, 4.
 pub fn price(s: &Session, hour: u32) -> Response
     ensures { Answered s.now (Q.price hour) result }
 {
-    match judge_hour(s, hour) {
-        Ok(at) => Response::from(s.figures[at].price),
-        Err(row) => Response::from(Refusal::from(row)),
-    }
+    reply(s, PriceQuery { hour })
 }

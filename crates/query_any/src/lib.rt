@@ -5,7 +5,7 @@ ghost use Rattle.std.specs.Prelude.{◌≡◌};
 ghost use Rattle.query.specs.Replies.{Answered};
 ghost use Rattle.query_any.specs.Asked.{asked, query_in, query_of, Replied};
 
-use answer::{Refusal, Response};
+use answer::Response;
 use rules::row::Row;
 use session::Session;
 
@@ -48,8 +48,8 @@ pub enum Query {
 }
 
 impl Query {
-    // The query of a number, of a lodging number, a unit or a border, of a direction and of an hour, where it asks for them. The log's records
-    // have the numbers below.
+    // The query with a number of its own, as another program names it; calls have the numbers 1 to 7 (crates/book_log). It is of a lodging number,
+    // a unit or a border, of a direction and of an hour, as far as it asks for these.
     #[tactic(auto, unfolding(crate::specs::Asked::asked))]
     pub fn numbered(kind: u8, of: u32, export: bool, hour: u32) -> Option<Query>
         ensures { query_of result ≡ asked kind of export hour }
@@ -99,12 +99,12 @@ impl Query {
     }
 }
 
-// The reply to a query by its number. A number that is no query's is refused as 3.
+// The reply to a query by its number, where `Query::reply` has the query itself. A number that is no query's is refused as 3.
 pub fn reply_to(s: &Session, kind: u8, of: u32, export: bool, hour: u32) -> Response
     ensures { Replied s.now (asked kind of export hour) result }
 {
     match Query::numbered(kind, of, export, hour) {
         Some(query) => query.reply(s),
-        None => Response::from(Refusal::from(Row::Form)),
+        None => Response::from(Row::Form),
     }
 }

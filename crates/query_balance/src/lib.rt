@@ -10,9 +10,9 @@ ghost use Rattle.query.specs.Replies.{Answered};
 ghost use Rattle.query.specs.Parts.{Judges};
 ghost use Rattle.query_balance.specs.Parts.{BorderFits, bad_border, balance_query, balance_of};
 
-use answer::{Refusal, Response};
+use answer::Response;
 use hour_borders::way;
-use query::judge_hour;
+use query::{Query, judge_hour, reply};
 use rules::row::Row;
 use session::{HourFigures, Session};
 
@@ -64,13 +64,27 @@ fn net(energies: &[u32; 10], border: u32) -> Response
     Response::figure(i64::from(exports) - i64::from(imports))
 }
 
-// A balance of a border: 2, 4, 5.
-fn reply(s: &Session, balance: Balance, border: u32, hour: u32) -> Response
-    ensures { Answered s.now (balance_query balance border hour) result }
-{
-    match judge_border(s, border, hour) {
-        Ok(at) => net(balance.among(&s.figures[at]), border),
-        Err(row) => Response::from(Refusal::from(row)),
+// Of a border's balance in an hour: 2, 4, 5.
+#[derive(Clone, Copy)]
+struct BalanceQuery {
+    balance: Balance,
+    border: u32,
+    hour: u32,
+}
+
+impl Query for BalanceQuery {
+    type Found = usize;
+
+    ghost query = { λ q. balance_query q.balance q.border q.hour };
+
+    ghost is_found = { λ s q at. BorderFits s q.border q.hour at };
+
+    fn judge(self, s: &Session) -> Result<usize, Row> {
+        judge_border(s, self.border, self.hour)
+    }
+
+    fn show(self, s: &Session, at: usize) -> Response {
+        net(self.balance.among(&s.figures[at]), self.border)
     }
 }
 
@@ -78,12 +92,28 @@ fn reply(s: &Session, balance: Balance, border: u32, hour: u32) -> Response
 pub fn market(s: &Session, border: u32, hour: u32) -> Response
     ensures { Answered s.now (Q.market border hour) result }
 {
-    reply(s, Balance::Market, border, hour)
+    let balance = Balance::Market;
+    reply(
+        s,
+        BalanceQuery {
+            balance,
+            border,
+            hour,
+        },
+    )
 }
 
 // The final balance of its executions: 2, 4, 5.
 pub fn bilateral(s: &Session, border: u32, hour: u32) -> Response
     ensures { Answered s.now (Q.bilateral border hour) result }
 {
-    reply(s, Balance::Bilateral, border, hour)
+    let balance = Balance::Bilateral;
+    reply(
+        s,
+        BalanceQuery {
+            balance,
+            border,
+            hour,
+        },
+    )
 }

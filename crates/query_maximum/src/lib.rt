@@ -8,8 +8,9 @@ ghost use Rattle.query.specs.Replies.{Answered};
 ghost use Rattle.query.specs.Parts.{Judges};
 ghost use Rattle.query_maximum.specs.Parts.{DirectionFits, maximum_query, maximum_of};
 
-use answer::{Refusal, Response};
+use answer::Response;
 use hour_borders::way;
+use query::{Query, reply};
 use query_balance::judge_border;
 use rules::row::Row;
 use session::{HourFigures, Session};
@@ -50,34 +51,43 @@ impl Maximum {
     }
 }
 
-// A query of a direction, judged: 2, 4, 5. Notices have no index for border 0.
-fn judge_direction(s: &Session, border: u32, export: bool, hour: u32) -> Result<Asked, Row>
-    ensures judges { Judges s.now (Q.market border hour) result }
-    ensures found { IfOk result (λ p. DirectionFits s.now border export hour p) }
-{
-    let at = judge_border(s, border, hour)?;
-    let way_of = way(border, export);
-    let other = way(border, !export);
-    let notice = &s.capacities[way_of - 2];
-    let capacity = notice.given.then_some(notice.energies[at]);
-    Ok(Asked {
-        at,
-        way: way_of,
-        other,
-        capacity,
-    })
+// Of a direction's maximum in an hour: 2, 4, 5.
+#[derive(Clone, Copy)]
+struct MaximumQuery {
+    maximum: Maximum,
+    border: u32,
+    export: bool,
+    hour: u32,
 }
 
-// A maximum of a border's direction, "absent without capacity": 2, 4, 5.
-fn reply(s: &Session, maximum: Maximum, border: u32, export: bool, hour: u32) -> Response
-    ensures { Answered s.now (maximum_query maximum border export hour) result }
-{
-    match judge_direction(s, border, export, hour) {
-        Ok(p) => match p.capacity {
-            Some(energy) => maximum.figure(&s.figures[p.at], p, energy),
+impl Query for MaximumQuery {
+    type Found = Asked;
+
+    ghost query = { λ q. maximum_query q.maximum q.border q.export q.hour };
+
+    ghost is_found = { λ s q p. DirectionFits s q.border q.export q.hour p };
+
+    // Notices have no index for border 0.
+    fn judge(self, s: &Session) -> Result<Asked, Row> {
+        let at = judge_border(s, self.border, self.hour)?;
+        let way_of = way(self.border, self.export);
+        let other = way(self.border, !self.export);
+        let notice = &s.capacities[way_of - 2];
+        let capacity = notice.given.then_some(notice.energies[at]);
+        Ok(Asked {
+            at,
+            way: way_of,
+            other,
+            capacity,
+        })
+    }
+
+    // "absent without capacity"
+    fn show(self, s: &Session, p: Asked) -> Response {
+        match p.capacity {
+            Some(energy) => self.maximum.figure(&s.figures[p.at], p, energy),
             None => Response::absent(),
-        },
-        Err(row) => Response::from(Refusal::from(row)),
+        }
     }
 }
 
@@ -85,12 +95,30 @@ fn reply(s: &Session, maximum: Maximum, border: u32, export: bool, hour: u32) ->
 pub fn market_maximum(s: &Session, border: u32, export: bool, hour: u32) -> Response
     ensures { Answered s.now (Q.market_max border export hour) result }
 {
-    reply(s, Maximum::Market, border, export, hour)
+    let maximum = Maximum::Market;
+    reply(
+        s,
+        MaximumQuery {
+            maximum,
+            border,
+            export,
+            hour,
+        },
+    )
 }
 
 // Its bilateral maximum: 2, 4, 5.
 pub fn bilateral_maximum(s: &Session, border: u32, export: bool, hour: u32) -> Response
     ensures { Answered s.now (Q.bilateral_max border export hour) result }
 {
-    reply(s, Maximum::Bilateral, border, export, hour)
+    let maximum = Maximum::Bilateral;
+    reply(
+        s,
+        MaximumQuery {
+            maximum,
+            border,
+            export,
+            hour,
+        },
+    )
 }

@@ -7,8 +7,8 @@ ghost use Rattle.query.specs.Replies.{Answered};
 ghost use Rattle.query.specs.Parts.{Judges};
 ghost use Rattle.query_unit.specs.Parts.{UnitFits, energy_of, energy_query};
 
-use answer::{Refusal, Response};
-use query::judge_hour;
+use answer::Response;
+use query::{Query, judge_hour, reply};
 use rules::bad_number;
 use rules::row::Row;
 use session::units::index;
@@ -54,13 +54,27 @@ fn judge_unit(s: &Session, unit: u32, hour: u32) -> Result<Place, Row>
     Ok(Place { hour: at, unit: of })
 }
 
-// A unit's energy in an hour: 2, 4, 5, 6.
-fn reply(s: &Session, energy: Energy, unit: u32, hour: u32) -> Response
-    ensures { Answered s.now (energy_query energy unit hour) result }
-{
-    match judge_unit(s, unit, hour) {
-        Ok(at) => Response::from(energy.among(&s.figures[at.hour], at.unit)),
-        Err(row) => Response::from(Refusal::from(row)),
+// Of a unit's energy in an hour: 2, 4, 5, 6.
+#[derive(Clone, Copy)]
+struct UnitQuery {
+    energy: Energy,
+    unit: u32,
+    hour: u32,
+}
+
+impl Query for UnitQuery {
+    type Found = Place;
+
+    ghost query = { λ q. energy_query q.energy q.unit q.hour };
+
+    ghost is_found = { λ s q p. UnitFits s q.unit q.hour p };
+
+    fn judge(self, s: &Session) -> Result<Place, Row> {
+        judge_unit(s, self.unit, self.hour)
+    }
+
+    fn show(self, s: &Session, at: Place) -> Response {
+        Response::from(self.energy.among(&s.figures[at.hour], at.unit))
     }
 }
 
@@ -68,12 +82,14 @@ fn reply(s: &Session, energy: Energy, unit: u32, hour: u32) -> Response
 pub fn matched(s: &Session, unit: u32, hour: u32) -> Response
     ensures { Answered s.now (Q.matched unit hour) result }
 {
-    reply(s, Energy::Matched, unit, hour)
+    let energy = Energy::Matched;
+    reply(s, UnitQuery { energy, unit, hour })
 }
 
 // "and executed energy": 2, 4, 5, 6.
 pub fn executed(s: &Session, unit: u32, hour: u32) -> Response
     ensures { Answered s.now (Q.executed unit hour) result }
 {
-    reply(s, Energy::Executed, unit, hour)
+    let energy = Energy::Executed;
+    reply(s, UnitQuery { energy, unit, hour })
 }

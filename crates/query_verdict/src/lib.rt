@@ -7,7 +7,8 @@ ghost use Rattle.query.specs.Replies.{Answered};
 ghost use Rattle.query.specs.Parts.{Judges};
 ghost use Rattle.query_verdict.specs.Parts.{lodged, told_as, Rising, VerdictFits};
 
-use answer::{Refusal, Response};
+use answer::Response;
+use query::{Query, reply};
 use rules::row::Row;
 use session::{Lodgement, Session, Verdict};
 
@@ -19,7 +20,7 @@ fn lodged_at(lodgements: &[Lodgement], number: u32) -> Option<usize>
     lodgements.binary_search_by_key(&number, |l| l.number).ok()
 }
 
-// A verdict with no limit's number is hidden.
+// A verdict with no limit's number is hidden. A function of its own, since neither type is this crate's, which an `impl From` would need.
 #[tactic(auto, unfolding(crate::specs::Parts::told_as))]
 fn told(v: Verdict) -> Response
     ensures { result ≡ told_as v }
@@ -33,23 +34,34 @@ fn told(v: Verdict) -> Response
     }
 }
 
-// The index of a lodging number's verdict, or the row that refuses it: 2, 13.
-fn judge_verdict(s: &Session, number: u32) -> Result<usize, Row>
-    ensures judges { Judges s.now (Q.verdict number) result }
-    ensures found { IfOk result (λ at. VerdictFits s.now number at) }
-{
-    if !s.sound() || !s.closed {
-        return Err(Row::Gate);
+// Of a lodging number's verdict: 2, 13.
+#[derive(Clone, Copy)]
+struct VerdictQuery {
+    number: u32,
+}
+
+impl Query for VerdictQuery {
+    type Found = usize;
+
+    ghost query = { λ q. Q.verdict q.number };
+
+    ghost is_found = { λ s q at. VerdictFits s q.number at };
+
+    fn judge(self, s: &Session) -> Result<usize, Row> {
+        if !s.sound() || !s.closed {
+            return Err(Row::Gate);
+        }
+        lodged_at(&s.lodgements[..s.standing], self.number).ok_or(Row::Absent)
     }
-    lodged_at(&s.lodgements[..s.standing], number).ok_or(Row::Absent)
+
+    fn show(self, s: &Session, at: usize) -> Response {
+        told(s.verdicts[at])
+    }
 }
 
 // "a lodging number's verdict", after closing: 2, 13.
 pub fn verdict(s: &Session, number: u32) -> Response
     ensures { Answered s.now (Q.verdict number) result }
 {
-    match judge_verdict(s, number) {
-        Ok(at) => told(s.verdicts[at]),
-        Err(row) => Response::from(Refusal::from(row)),
-    }
+    reply(s, VerdictQuery { number })
 }

@@ -15,8 +15,3 @@ returns-then-bad_border-clause-judges c =
 pub returns-clause-judges : goal.returns-clause-judges
 returns-clause-judges c =
     border-0 _ _ _ _ c.judge_hour.ensures.judges _ c.in_ok-at.was c.in_ok-at.at (sym c.bad_border.ensures ∙ c.if-bad_border.false)
-
-pub returns-clause-found : goal.returns-clause-found
-returns-clause-found c =
-    let p = a-border _ (sym c.bad_border.ensures ∙ c.if-bad_border.false) in
-    record { hours = c.in_ok-at.ensures.found; low = p.0; high = p.1 }

@@ -1,8 +1,8 @@
 use mathlib.Core.Path.{sym, ◌∙◌}
 use Rattle.session.proofs.ImageLaws.{guarded}
 use Rattle.query_verdict.proofs.VerdictLaws.{verdict-unsound, verdict-2, verdict-found, found-fits}
-use Rattle.query_verdict.proofs.judge_verdict.Goals as goal
-use Rattle.query_verdict.proofs.judge_verdict.Goals.{then-not-sound-via-then-not-sound, then-not-sound-via-else-not-sound+then-not-s}
+use Rattle.query_verdict.proofs.VerdictQueryQuery.judge.Goals as goal
+use Rattle.query_verdict.proofs.VerdictQueryQuery.judge.Goals.{then-not-sound-via-then-not-sound, then-not-sound-via-else-not-sound+then-not-s}
 
 pub returns-then-not-sound-clause-judges : goal.returns-then-not-sound-clause-judges
 returns-then-not-sound-clause-judges c =

@@ -1,0 +1,5 @@
+use Rattle.query_verdict.proofs.VerdictLaws.{verdict-shown}
+use Rattle.query_verdict.proofs.VerdictQueryQuery.show.Goals as goal
+
+pub returns : goal.returns
+returns c = rw c.told.ensures (verdict-shown _ _ _ c.requires)
