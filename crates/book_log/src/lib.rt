@@ -74,15 +74,15 @@ impl Kind {
     }
 }
 
-// Whether a record's count of bytes is that of its kind.
+// Whether a record's count of bytes is that of its kind. The kind is a number, since a log may hold one that is no kind's.
 pub fn is_call(kind: u8, size: usize) -> bool
     ensures { result ≡ is_call kind size }
 {
     Kind::of(kind, size).is_some()
 }
 
-// What the numbers of answers of one kind are counted from.
-const KIND: u64 = 1_152_921_504_606_846_976;
+// How many numbers the answers of one kind have.
+const PER_KIND: u64 = 1_152_921_504_606_846_976;
 
 // How far a number is above zero.
 #[tactic(auto, unfolding(rules::specs::Borders::positive))]
@@ -98,9 +98,9 @@ pub fn answer_word(a: Response) -> u64
     ensures { result ≡ answer_word a }
 {
     match a.kind() {
-        Some(answer::Kind::Refused) => KIND + (u64::from(a.row) * 256 + u64::from(a.hour)),
-        Some(answer::Kind::Numbered) => 2 * KIND + above_zero(a.value).min(KIND - 1),
-        Some(answer::Kind::Steps) => 3 * KIND + a.count.min(KIND - 1),
+        Some(answer::Kind::Refused) => PER_KIND + (u64::from(a.row) * 256 + u64::from(a.hour)),
+        Some(answer::Kind::Numbered) => 2 * PER_KIND + above_zero(a.value).min(PER_KIND - 1),
+        Some(answer::Kind::Steps) => 3 * PER_KIND + a.count.min(PER_KIND - 1),
         _ => 0,
     }
 }
