@@ -1,10 +1,15 @@
 // What stands in the cells of the tables.
+ghost use Rattle.std.specs.Prelude.{◌≡◌};
+ghost use Rattle.rehearse_report.specs.Cells.{number_in};
+
 use answer::{Kind, Response};
 use calendar::Date;
 use std::fmt;
 
 // A reply's number; no other reply has one.
-pub fn number_in(r: Response) -> Option<i64> {
+pub fn number_in(r: Response) -> Option<i64>
+    ensures { result ≡ number_in r }
+{
     (r.kind() == Some(Kind::Figure)).then_some(r.value)
 }
 

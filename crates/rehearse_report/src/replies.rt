@@ -34,7 +34,8 @@ impl fmt::Display for Told {
     }
 }
 
-// A row of the refusal table by its number and word, and the hour: "10 maximum hour 3", "2 gate".
+// A row of the refusal table by its number and word, and the hour: "10 maximum hour 3", "2 gate". Both are numbers as the `Response` has them for
+// C, which may be those of no row and no hour.
 #[derive(Clone, Copy)]
 struct Reason {
     row: u32,

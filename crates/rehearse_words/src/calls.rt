@@ -106,7 +106,7 @@ pub(crate) fn availability(words: &mut Words) -> Option<Availability> {
 // The index of a border's direction in a capacity notice.
 fn direction_index(border: u32, import: bool) -> Option<usize> {
     let before = border.checked_sub(1)? as usize;
-    Some(before * 2 + import as usize)
+    Some(before * 2 + usize::from(import))
 }
 
 // capacity 1 export 100x25 1 import 80x24,0: no direction twice, so there are no more than there are directions.

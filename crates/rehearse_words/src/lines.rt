@@ -32,7 +32,8 @@ fn date(word: &[u8]) -> Option<Date> {
     })
 }
 
-// What a line asks for by its first word and those behind it that are read.
+// What a line asks for by its first word and those behind it that are read. No clause says what: that is the whole of docs/REHEARSAL.md, and a
+// contract would be these functions again.
 pub fn asked(name: &[u8], words: &mut Words) -> Option<Line> {
     Some(match name {
         b"open" => Line::Open(date(words.next()?)?),

@@ -63,9 +63,7 @@ impl<'a> Iterator for Words<'a> {
     ghost remaining = { λ s. at_most (length s.rest.now) };
 
     fn next(&mut self) -> Option<&'a [u8]> {
-        let Some(from) = word_start(self.rest) else {
-            return None;
-        };
+        let from = word_start(self.rest)?;
         let (_, line) = self.rest.split_at(from);
         let (word, behind) = line.split_at(word_end(line));
         self.rest = past_first(behind);
@@ -93,7 +91,7 @@ impl<'a> Words<'a> {
 
     // The next word is this one.
     pub(crate) fn expect(&mut self, word: &[u8]) -> Option<()> {
-        if self.next()? == word { Some(()) } else { None }
+        (self.next()? == word).then_some(())
     }
 
     // Whether the next word is this one, which is then taken.
@@ -106,7 +104,7 @@ impl<'a> Words<'a> {
         is_next
     }
 
-    // The next word is the first of two, which says no, or the second, which says yes.
+    // The next word is one of two: that for no, or that for yes.
     pub(crate) fn either(&mut self, no: &[u8], yes: &[u8]) -> Option<bool> {
         let word = self.next()?;
         if word == no {
