@@ -9,7 +9,6 @@ use Rattle.rules.specs.Queries.{Query, Shown, query, query_rows}
 use Rattle.answer.specs.Told.{shown, value_told, refusal}
 use Rattle.answer.specs.Refused.{of_row}
 use Rattle.answer.specs.declared.Response.{Response}
-use Rattle.session.specs.Image.{image, Sound}
 use Rattle.session.specs.Parts.{by_row, given_by}
 use Rattle.session.specs.declared.Session.{Session}
 use Rattle.std.specs.declared.result.Result.{Result}

@@ -4,18 +4,17 @@ use mathlib.Core.Path.{◌≡◌, ap, ap₂, ◌∙◌}
 use mathlib.Core.Bool.{Bool, true, false}
 use native.Mathlib.Omega.{arith}
 use lib.Dec.{eqb}
-use lib.IntN.{ℤ, sub_ℕ}
+use lib.IntN.{sub_ℕ}
 use lib.ListN.{get_or}
 use Rattle.rules.specs.Book.{Book}
 use Rattle.rules.specs.Borders as B
 use Rattle.rules.specs.Borders.{market_balance, execution_balance}
 use Rattle.rules.specs.Clearing.{figures_at}
-use Rattle.rules.specs.Queries as Q
 use Rattle.rules.specs.Queries.{shown}
 use Rattle.rules.proofs.BalanceLaws.{market_flow, execution_flow}
 use Rattle.hour_borders.specs.Ways.{way_of}
 use Rattle.hour_borders.proofs.WayLaws.{way-small, way-border, way-export}
-use Rattle.session.specs.Image.{image, Sound, by_way, figures_as}
+use Rattle.session.specs.Image.{image, by_way, figures_as}
 use Rattle.session.specs.declared.Session.{Session}
 use Rattle.session.specs.declared.HourFigures.{HourFigures}
 use Rattle.answer.specs.Told.{value_told, figure}

@@ -26,7 +26,6 @@ use Rattle.session.proofs.IndexLaws.{get_or-map}
 use Rattle.session.proofs.ImageLaws.{capacities-as}
 use Rattle.answer.specs.Told as T
 use Rattle.answer.specs.Told.{value_told, figure}
-use Rattle.query.specs.Parts.{Judges}
 use Rattle.query.proofs.FigureLaws.{figures-as}
 use Rattle.query.proofs.ReplyLaws.{SameRows}
 use Rattle.query_balance.specs.Parts.{BorderFits}
@@ -36,12 +35,9 @@ use Rattle.query_maximum.specs.declared.Maximum.{Maximum}
 use Rattle.query_maximum.specs.declared.Maximum.TheVariants.{Market, Bilateral}
 use Rattle.query_maximum.specs.Parts.{DirectionFits, notice_of, maximum_query, maximum_of}
 use Rattle.std.specs.declared.option.Option.TheVariants.{Some, None}
-use Rattle.std.specs.declared.result.Result.{Result}
-use Rattle.std.specs.declared.result.Result.TheVariants.{Ok, Err}
 use Rattle.std.specs.Bool.{then_some}
 use Rattle.std.proofs.lemmas.Option.{none-some, same_Some}
 use Rattle.rules.specs.Lists.{hourly}
-use Rattle.rules.specs.declared.row.Row as Code
 use Rattle.query_maximum.proofs.MaximumLaws.{bilateral-by-flows, notice-hourly, no-maximum, no-capacity, the-capacity, the-maximum}
 
 -- a border's maxima are refused as its balances are

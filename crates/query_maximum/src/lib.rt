@@ -1,11 +1,10 @@
 // The queries of a border's maxima, after clearing.
 #![tactic(auto)]
 
-ghost use Rattle.std.specs.Prelude.{◌≡◌, ◌<◌, IfOk};
+ghost use Rattle.std.specs.Prelude.{◌≡◌, ◌<◌};
 ghost use Rattle.rules.specs.Queries as Q;
 ghost use Rattle.answer.specs.Told as T;
 ghost use Rattle.query.specs.Replies.{Answered};
-ghost use Rattle.query.specs.Parts.{Judges};
 ghost use Rattle.query_maximum.specs.Parts.{DirectionFits, maximum_query, maximum_of};
 
 use answer::Response;

@@ -1,10 +1,9 @@
 // The query of a verdict, after closing.
 #![tactic(auto)]
 
-ghost use Rattle.std.specs.Prelude.{◌≡◌, ◌<◌, length, position, IfSome, IfOk};
+ghost use Rattle.std.specs.Prelude.{◌≡◌, ◌<◌, length, position, IfSome};
 ghost use Rattle.rules.specs.Queries as Q;
 ghost use Rattle.query.specs.Replies.{Answered};
-ghost use Rattle.query.specs.Parts.{Judges};
 ghost use Rattle.query_verdict.specs.Parts.{lodged, told_as, Rising, VerdictFits};
 
 use answer::Response;

@@ -1,6 +1,6 @@
 use mathlib.Core.Path.{sym, ◌∙◌}
 use Rattle.std.proofs.lemmas.Result.{err_from_is_err_and}
-use Rattle.query_balance.proofs.RowLaws.{a-border, border-front, border-5, border-0}
+use Rattle.query_balance.proofs.RowLaws.{border-front, border-5, border-0}
 use Rattle.query_balance.proofs.judge_border.Goals as goal
 
 pub returns-in_err-at-clause-judges : goal.returns-in_err-at-clause-judges
