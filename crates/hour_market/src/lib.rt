@@ -12,6 +12,7 @@ ghost use Rattle.withdraw.specs.Steps.{Lowered};
 ghost use Rattle.hour_market.specs.Parts.{MarketCleared};
 
 use hour_offers::Offer;
+use withdraw::Orders;
 
 // What the market of an hour gives beside its offers: maxima, the flows of the last match, steps and price. Two arrays of ten by direction,
 // one of what runs there and one of what may, where the session has them so: no direction has a record of its own.
@@ -44,7 +45,11 @@ pub fn clear(offers: &mut [Offer], capacities: &[Option<u32>; 10], executions: &
     let market = hour_borders::market_flows(offers);
     let legacy = hour_borders::legacy_flows(offers);
     let maxima = hour_borders::maxima(capacities, executions, &market, &legacy);
-    let end = withdraw::withdraw(offers, volume, &sales, &purchases, &maxima, &market);
+    let orders = Orders {
+        sales: &sales,
+        purchases: &purchases,
+    };
+    let end = withdraw::withdraw(offers, volume, orders, &maxima, &market);
     let flows = hour_borders::market_flows(offers);
     let price = hour_match::price_of(offers, &sales, end.volume);
     Market {

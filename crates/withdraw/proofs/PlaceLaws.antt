@@ -6,12 +6,14 @@ use mathlib.Core.List.{map-append}
 use lib.ListN.{drop_of_length-le}
 use lib.Seq.{take-suc, take_all}
 use borrow.Author.Tests.{eq-eqb, ne_eqb}
+use Rattle.rules.specs.Lists.{keep}
+use Rattle.rules.specs.Match.{Offer}
 use Rattle.hour_offers.specs.declared.Offer.{Offer as Held}
 use Rattle.hour_offers.specs.View.{offer_in, offers_in}
 use Rattle.hour_match.specs.Orders.{nth}
 use Rattle.hour_match.specs.Walks.{named}
 use Rattle.hour_match.proofs.ViewLaws.{blank, read-offer}
-use Rattle.withdraw_keep.specs.Abroad.{crosses, places_from, put_at}
+use Rattle.withdraw_keep.specs.Abroad.{crosses, abroad_of, places_from, put_at}
 
 -- Indices
 
@@ -35,18 +37,36 @@ pub places-end : (xs : List Held) (i : ℕ) (ps : List ℕ) {qs : List ℕ} → 
 unfolding places_from
 places-end xs i ps h e = sym (append-nil ps) ∙ (rw (drop_of_length-le xs {i = i} h) at e)
 
+-- What stands there
+
+module _ (xs : List Held) (i : ℕ) (d : Held) (h : i < length xs) (bs : List Held) where
+  abbrev rest-abroad : List Offer
+  rest-abroad = abroad_of (offers_in (drop (i + 1) xs))
+
+  next-abroad : abroad_of (offers_in (drop i xs)) ≡ cond (crosses (offer_in (get_or xs i d))) (offer_in (get_or xs i d) ∷ rest-abroad) rest-abroad
+  unfolding abroad_of keep
+  next-abroad = rw (add-one i, drop-cons xs i d h)
+
+  pub offer-taken : 0 < (get_or xs i d).holder.border → offers_in (bs ++ (get_or xs i d ∷ [])) ++ rest-abroad ≡ offers_in bs ++ abroad_of (offers_in (drop i xs))
+  unfolding crosses
+  offer-taken b =
+      let t : abroad_of (offers_in (drop i xs)) ≡ offer_in (get_or xs i d) ∷ rest-abroad = next-abroad ∙ rw (ne_eqb (get_or xs i d).holder.border 0 (λ z. absurd (omega arith))) refl in
+      rw (map-append, t) (append_snoc (offers_in bs) (offer_in (get_or xs i d)) rest-abroad)
+
+  pub offer-left : (get_or xs i d).holder.border ≤ 0 → offers_in bs ++ rest-abroad ≡ offers_in bs ++ abroad_of (offers_in (drop i xs))
+  unfolding crosses
+  offer-left b = sym (ap (λ l. offers_in bs ++ l) (next-abroad ∙ rw (eq-eqb (get_or xs i d).holder.border 0 (omega arith)) refl))
+
+pub offers-end : (xs : List Held) (i : ℕ) (bs : List Held) {os : List Offer} → length xs ≤ i → offers_in bs ++ abroad_of (offers_in (drop i xs)) ≡ os → offers_in bs ≡ os
+unfolding abroad_of keep
+offers-end xs i bs h e = sym (append-nil (offers_in bs)) ∙ (rw (drop_of_length-le xs {i = i} h) at e)
+
 -- Reading
 
 module _ (xs : List Held) (ps : List ℕ) (k : ℕ) where
   named-more : k < length ps → named (offers_in xs) (take (k + 1) ps) ≡ named (offers_in xs) (take k ps) ++ (offer_in (get_or xs (get_or ps k 0) blank) ∷ [])
   unfolding named
   named-more h = rw (add-one k, take-suc ps k 0 h, map-append, read-offer xs (get_or ps k 0))
-
-  pub read-more : (ys : List Held) → k < length ps → offers_in ys ≡ named (offers_in xs) (take k ps) → offers_in (ys ++ (get_or xs (get_or ps k 0) blank ∷ [])) ≡ named (offers_in xs) (take (k + 1) ps)
-  read-more ys h e = rw (named-more h, map-append, e)
-
-  pub read-end : (ys : List Held) → length ps ≤ k → offers_in ys ≡ named (offers_in xs) (take k ps) → offers_in ys ≡ named (offers_in xs) ps
-  read-end ys h e = e ∙ ap (named (offers_in xs)) (take_all k ps h)
 
   named-length : k ≤ length ps → length (named (offers_in xs) (take k ps)) ≡ k
   unfolding named

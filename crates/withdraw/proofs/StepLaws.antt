@@ -1,14 +1,18 @@
 -- A step on a list of offers is the rules' step.
-use Rattle.std.proofs.Common.{ℕ, ◌≡◌, refl, sym, ◌∙◌, ap, ◌<◌, ◌≤◌, ◌^◌, List, length, map, true, false, arith}
-use Rattle.std.specs.List.{sum_by}
+use Rattle.std.proofs.Common.{ℕ, suc, ◌≡◌, refl, sym, ◌∙◌, ap, ◌<◌, ◌≤◌, ◌^◌, List, [], ◌∷◌, length, map, drop, Bool, true, false, ltb, arith}
+use Rattle.std.specs.Bool.{beq}
+use Rattle.std.specs.List.{sum_by, refill}
 use Rattle.std.specs.Prelude.{All as Every}
+use Rattle.std.proofs.Math.Seq.{take-append_seam}
 use Rattle.std.proofs.lemmas.List.{length-map}
 use Rattle.std.proofs.lemmas.List.Sums.{sum_by-le}
-use Rattle.rules.specs.Lists.{All, Each}
+use Rattle.rules.specs.Lists.{All, Each, keep, from}
 use Rattle.rules.specs.Units.{max_energy}
 use Rattle.rules.specs.Match.{Offer, match_all, volume}
 use Rattle.rules.specs.Borders.{Directed, flow}
 use Rattle.rules.specs.Withdrawal.{Group, keep_matched, group_of, take_from, step}
+use Rattle.rules.proofs.BoolLaws.{by_bool}
+use Rattle.rules.proofs.IndexLaws.{length_from}
 use Rattle.rules.proofs.ListLaws.{all_map, all_keep, length-keep}
 use Rattle.rules.proofs.ElementLaws.{each-trans, each_weaken}
 use Rattle.rules.proofs.MatchLaws.{volume-again}
@@ -17,8 +21,9 @@ use Rattle.hour_offers.specs.declared.Offer.{Offer as Held}
 use Rattle.hour_offers.specs.View.{offer_in, offers_in}
 use Rattle.hour_offers.specs.Sound.{Sound}
 use Rattle.hour_offers.proofs.SoundLaws.{offer-in-range}
-use Rattle.hour_match.specs.Orders.{Names, no_offer, Along}
+use Rattle.hour_match.specs.Orders.{Names, no_offer, nth, key_at, insert_on, sort_on, in_order, Along}
 use Rattle.hour_match.specs.Walks.{named, Matched}
+use Rattle.hour_match.proofs.OrderLaws.{order-within}
 use Rattle.hour_match.proofs.KeptLaws.{along-of, along-kept, match-sound}
 use Rattle.hour_borders.specs.Ways.{over_in}
 use Rattle.hour_borders.specs.Flows.{MatchedInRange, MarketFlows, BorderFlows}
@@ -57,6 +62,31 @@ lowered-of = each_weaken (λ o p h. record { holder = h.holder; price = h.price;
 pub lowered-less : {os ps : List Offer} → Each Lowered os ps → Each Less os ps
 lowered-less = each_weaken (λ o p h. record { holder = h.holder; price = h.price; offered = h.offered })
 
+-- An order names offers
+
+insert-length : (key : ℕ → ℕ) (x : ℕ) (xs : List ℕ) → length (insert_on key x xs) ≡ suc (length xs)
+unfolding insert_on
+insert-length key x [] = refl
+insert-length key x (y ∷ ys) = by_bool (ltb (key x) (key y)) (λ t. rw t refl) (λ t. rw t (ap suc (insert-length key x ys)))
+
+sort-length : (key : ℕ → ℕ) (xs : List ℕ) → length (sort_on key xs) ≡ length xs
+unfolding sort_on
+sort-length key [] = refl
+sort-length key (x ∷ xs) = insert-length key x (sort_on key xs) ∙ ap suc (sort-length key xs)
+
+order-length : (side : Bool) (os : List Offer) → length (in_order side os) ≤ length os
+unfolding in_order
+order-length side os =
+    let is : List ℕ = keep (λ i. beq (nth os i).holder.purchase side) (from 0 (length os)) in
+    let n : length is ≤ length (from 0 (length os)) = length-keep (λ i. beq (nth os i).holder.purchase side) (from 0 (length os)) in
+    omega (arith, sort-length (key_at side os) is, length_from 0 (length os))
+
+pub names-of : (side : Bool) {os : List Offer} {is : List ℕ} {n : ℕ} → Sound os → is ≡ in_order side os → length os ≡ n → Names n is
+names-of side {os} s e l = record {
+  few = rw e (omega (arith, order-length side os, s.few));
+  inside = rw (e, ← l) (order-within side os);
+}
+
 module _ (ds : List Directed) {sales purchases : List ℕ} {os ks ts : List Offer} (l : Laid os sales purchases)
     (ek : ks ≡ map (keep_matched ds) os) (ck : Each Changed os ks) (ct : Each Changed ks ts) where
   -- what is matched anew is as sound as before
@@ -90,6 +120,10 @@ module _ (ds : List Directed) {sales purchases : List ℕ} {os ks ts : List Offe
         };
         lowered = lowered-of less;
       }
+
+-- a list that is lent as a slice, and comes back as long as it was
+pub refilled : {A : Type 0} (xs ws : List A) → length ws ≡ length xs → refill (length xs) xs ws ≡ ws
+refilled xs ws e = rw (← e) (take-append_seam ws (drop (length ws) xs))
 
 -- The same by the offers at a border, put back among all
 

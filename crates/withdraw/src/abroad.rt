@@ -1,41 +1,45 @@
-// The offers at a border, read beside all offers of an hour and put back among them: a step changes nothing domestic, and most are.
+// The offers at a border, beside all offers of an hour: steps 1 to 4 change these alone, and most are domestic. The match changes all.
 ghost use Rattle.std.specs.Prelude.{◌≡◌, ◌≤◌, length};
 ghost use Rattle.hour_offers.specs.View.{offers_in};
 ghost use Rattle.hour_match.specs.Orders.{Names};
 ghost use Rattle.hour_match.specs.Walks.{named};
-ghost use Rattle.withdraw_keep.specs.Abroad.{places_from, put_at};
+ghost use Rattle.withdraw_keep.specs.Abroad.{put_at};
+ghost use Rattle.withdraw.specs.Beside.{Beside};
 
 use arrayvec::ArrayVec;
 use hour_offers::Offer;
 use rules::LODGEMENTS;
 
-// The indices of the offers at a border.
-pub fn places(offers: &[Offer]) -> ArrayVec<usize, LODGEMENTS>
-    requires { length offers.now ≤ 128 }
-    ensures { result.items ≡ places_from 0 (offers_in offers.now) }
-{
-    let mut places = ArrayVec::new();
-    for (i, offer) in offers.iter().enumerate() {
-        if 0 < offer.holder.border {
-            places.push(i);
+// Their indices, and what stands there. They are two lists, since a step's parts are lent the offers as a slice.
+#[derive(Drop)]
+pub struct Abroad {
+    pub places: ArrayVec<usize, LODGEMENTS>,
+    pub offers: ArrayVec<Offer, LODGEMENTS>,
+}
+
+impl Abroad {
+    // Those of an hour's offers that are at a border.
+    pub fn of(offers: &[Offer]) -> Abroad
+        requires { length offers.now ≤ 128 }
+        ensures { Beside (offers_in offers.now) result }
+    {
+        let mut places = ArrayVec::new();
+        let mut abroad = ArrayVec::new();
+        for (i, offer) in offers.iter().enumerate() {
+            if 0 < offer.holder.border {
+                places.push(i);
+                abroad.push(*offer);
+            }
+        }
+        Abroad {
+            places,
+            offers: abroad,
         }
     }
-    places
 }
 
-// The offers at some indices.
-pub fn read(offers: &[Offer], places: &[usize]) -> ArrayVec<Offer, LODGEMENTS>
-    requires { Names (length offers.now) places.now }
-    ensures { offers_in result.items ≡ named (offers_in offers.now) places.now }
-{
-    let mut abroad = ArrayVec::new();
-    for i in places {
-        abroad.push(offers[*i]);
-    }
-    abroad
-}
-
-// The same read again, in their place.
+// Some offers read again, each at its index. They are written by index: `iter_mut` under a `zip` was tried in `take_from` of withdraw_take,
+// and nothing is known there of what is written. `Names` relates the indices to a slice whose type has no length.
 pub fn renew(abroad: &mut [Offer], offers: &[Offer], places: &[usize])
     requires names { Names (length offers.now) places.now }
     requires same_length { length abroad.old ≡ length places.now }
@@ -52,7 +56,7 @@ pub fn put(offers: &mut [Offer], places: &[usize], abroad: &[Offer])
     requires same_length { length abroad.now ≡ length places.now }
     ensures { offers.new ≡ put_at places.now abroad.now offers.old }
 {
-    for (k, i) in places.iter().enumerate() {
-        offers[*i] = abroad[k];
+    for (i, offer) in places.iter().zip(abroad) {
+        offers[*i] = *offer;
     }
 }
