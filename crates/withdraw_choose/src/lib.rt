@@ -76,8 +76,9 @@ fn sales_above(price: u32, offers: &[Offer]) -> u32
         .sum()
 }
 
-// "With both prices, purchases go if C ≤ V', else sales; with one, its side goes"; "with neither price", legacy offers. `abroad` are the offers
-// at a border: only these run in a direction passed.
+// "With both prices, purchases go if C ≤ V', else sales; with one, its side goes"; "with neither price", legacy offers. `abroad` is a cache:
+// those of the offers that are at a border, which the caller keeps from step to step. Only these run in a direction passed, so the prices are
+// looked for among them alone.
 pub fn choose(offers: &[Offer], abroad: &[Offer], over: &[u32; 10]) -> Group
     requires fits { sum_by (λ o. o.matched) offers.now < 2 ^ 32 }
     requires abroad { offers_in abroad.now ≡ abroad_of (offers_in offers.now) }

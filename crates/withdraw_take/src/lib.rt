@@ -61,7 +61,7 @@ fn remaining(over: &[u32; 10], group: Group, offer: &Offer, deduction: u32) -> u
     }
 }
 
-// What each offer loses in all directions passed.
+// What each offer loses in all directions passed. That offers are at most 128 is asked: their slice's type has no length.
 fn deductions(over: &[u32; 10], group: Group, offers: &[Offer]) -> ArrayVec<u32, LODGEMENTS>
     requires few { length offers.now ≤ 128 }
     requires in_range { All (λ o. o.matched ≤ max_energy) (offers_in offers.now) }
@@ -71,7 +71,8 @@ fn deductions(over: &[u32; 10], group: Group, offers: &[Offer]) -> ArrayVec<u32,
     hour_share::deductions(over, offers, move |offer| given(group, offer))
 }
 
-// 3. and 4. Each direction's excess is taken from those that give way in it.
+// 3. and 4. Each direction's excess is taken from those that give way in it. The deductions are read by index: `iter_mut` under a `zip` was
+// tried, and the proof does not close, since it has what the loop yields and not what the loop writes.
 pub fn take_from(offers: &mut [Offer], over: &[u32; 10], group: Group)
     requires few { length offers.old ≤ 128 }
     requires in_range { All (λ o. o.matched ≤ max_energy) (offers_in offers.old) }
