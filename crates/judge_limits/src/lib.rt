@@ -44,9 +44,9 @@ fn together(exports: &[u32; HOURS], imports: &[u32; HOURS]) -> [u64; HOURS]
 pub fn border_limit(border: u32, capacities: &[Notice; DIRECTIONS]) -> Option<[u64; HOURS]>
     ensures { (h : ℕ) → border_at result h ≡ border_sum (map notice_in capacities.now) border h }
 {
-    if border == 0 || 4 < border {
+    let 1..=4 = border else {
         return None;
-    }
+    };
     let index = (border as usize - 1) * 2;
     let export = &capacities[index];
     let import = &capacities[index + 1];
@@ -106,7 +106,7 @@ pub fn limits_of(
 }
 
 // The first of the limits that is passed, with the lowest hour in which it is: "The lowest applicable number is given", so those behind it
-// are not looked at.
+// are not looked at. Asked is what `lowest_hour` asks.
 pub fn judge_energy(
     limits: &[Limit],
     own: &[u32; HOURS],

@@ -9,9 +9,10 @@ ghost use Rattle.judge_loads.specs.Loads.{IndicesIn, load_by, hour_at, laid};
 use rules::HOURS;
 use session::Energies;
 
-// "the lowest hour in which that limit is passed": in an hour that is named, by a lodgement's own energy with that of others, at their
-// indices. The sum only grows, so all is left where it first passes; of so few numbers it never wraps. Two loops left by a label: document 01
-// names the form.
+// "the lowest hour in which that limit is passed", of hours 1 to `hours`. An hour's load is the lodgement's own energy and that of the others,
+// which are named by their indices. An hour without own energy is not named, and passes no limit. A load only grows while the others are
+// added, so the search ends as soon as it is above the limit. Two loops left by a label: document 01 names the form. `judge_energy` alone
+// takes the same parameters, so they are no struct. That `hours` and the indices fit is asked: C's session has plain numbers.
 pub fn lowest_hour(
     own: &[u32; HOURS],
     energies: &[Energies],

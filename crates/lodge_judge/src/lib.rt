@@ -16,7 +16,7 @@ use message_ranges::bad_map;
 use rules::row::Row;
 use session::{Holder, Session};
 
-// The map names an hour beyond H: hour 25 is its lowest bit.
+// The map names an hour beyond H: hour 25 is its lowest bit. No type says that H is at most 25: C's session has a plain number.
 fn names_beyond(hours: u32, map: u32) -> bool
     requires { hours ≤ 25 }
     ensures { result ≡ names_beyond hours map }
@@ -24,7 +24,7 @@ fn names_beyond(hours: u32, map: u32) -> bool
     map % (1u32 << (25 - hours)) != 0
 }
 
-// Row 4: "empty map, hour outside 1 to H".
+// Row 4: "empty map, hour outside 1 to H", of an H that is at most 25, as above.
 fn bad_hours(hours: u32, map: u32) -> bool
     requires { hours ≤ 25 }
     ensures { result ≡ (bad_map map || names_beyond hours map) }
@@ -40,7 +40,8 @@ fn is_full(n: usize, last: u32, at: Option<usize>) -> bool
     Session::MAX_LODGEMENTS <= n && at.is_none() || Session::MAX_NUMBER <= last
 }
 
-// The unit of a message, or the row that refuses its fields, in the table's order. What it replaces has the index `replaces`.
+// The unit of a message, or the row that refuses its fields, in the table's order. What it replaces has the index `replaces`. `Within` is
+// what `Session::sound` has told.
 pub fn judge_fields(
     s: &Session,
     m: &Fields,

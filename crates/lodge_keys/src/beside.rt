@@ -20,7 +20,8 @@ fn is_beside(lodgements: &[Lodgement], key: Key, l: &Lodgement) -> bool
         && (!l.key.default || !is_hidden(lodgements, l.key))
 }
 
-// The indices of those that are counted. "A default lodgement is judged by its own energy."
+// The indices of those that are counted. "A default lodgement is judged by its own energy." That there are at most 128 is asked, since a
+// slice's type has no length.
 pub fn beside_of(lodgements: &[Lodgement], key: Key) -> ArrayVec<usize, LODGEMENTS>
     requires { length lodgements.now ≤ 128 }
     ensures { CountedOf (beside_marks lodgements.now key) (length lodgements.now) result.items }
@@ -37,7 +38,8 @@ pub fn beside_of(lodgements: &[Lodgement], key: Key) -> ArrayVec<usize, LODGEMEN
     counted
 }
 
-// A lodgement's energies by hour, added to those of others.
+// A lodgement's energies by hour, added to those of others. The index is the hour's in both arrays: a zip was tried, but nothing is known
+// of what a loop over an adapter of `iter_mut` leaves.
 fn add(sums: &mut [u64; HOURS], row: &[u32; HOURS])
     requires { Below 128 sums.old }
     ensures added { Added sums.old row.now sums.new }

@@ -38,7 +38,7 @@ fn same_but_default(a: Key, b: Key) -> bool
     a.execution == b.execution && a.unit == b.unit && a.contract == b.contract
 }
 
-// "A key is kind, default mark, unit and contract."
+// "A key is kind, default mark, unit and contract": no derived equality, as above.
 #[tactic(auto, unfolding(rules::specs::Lodging::same_key))]
 pub fn same_key(a: Key, b: Key) -> bool
     ensures { result ≡ same_key (key_in a) (key_in b) }
@@ -85,7 +85,7 @@ pub fn bad_key(key: Key) -> bool
     message_ranges::bad_key(key.execution, key.unit, key.contract)
 }
 
-// The unit of a key, or row 6: "unregistered, or domestic for an execution".
+// The unit of a key, or row 6: "unregistered, or domestic for an execution". `Within` is what `Session::sound` has told.
 pub fn holder_for(s: &Session, key: Key) -> Result<Holder, Row>
     requires { Within s.now }
     ensures { HolderFor s.now key result }

@@ -1,20 +1,21 @@
 -- Limits that are kept in every hour, and a judgement that is clear exactly where all are: each way out.
-use Prim.Native.Nat.{ℕ, suc, ◌+◌, ◌-◌, ◌≤◌, ◌<◌}
+use Prim.Native.Nat.{ℕ, zero, suc, ◌+◌, ◌-◌, ◌≤◌, ◌<◌}
 use mathlib.Core.Path.{◌≡◌, refl, sym}
-use mathlib.Core.Bool.{true, false, false≢true}
+use mathlib.Core.Bool.{Bool, true, false, false≢true}
 use mathlib.Core.List.{List}
 use native.Mathlib.Omega.{arith}
-use lib.Dec.{eqb}
+use lib.Dec.{eqb, leb}
 use lib.ListN.{get_or}
-use borrow.Author.Tests.{eq-eqb, ne_eqb, eqb-true, eqb-false}
-use Rattle.rules.specs.Lists.{lowest}
+use borrow.Author.Tests.{ne_eqb, eqb-true, eqb-false, leb-true, leb-false}
+use Rattle.rules.specs.Lists.{first, from, lowest}
 use Rattle.rules.specs.Lodging.{passed_at}
 use Rattle.rules.proofs.BoolLaws.{by_bool}
 use Rattle.rules.proofs.ListLaws.{hourly-suc}
 use Rattle.judge_loads.specs.Loads.{hour_at, laid}
-use Rattle.judge_loads.proofs.LoadLaws.{unnamed, over, within, NoneTo, none-all, none_found}
+use Rattle.judge_loads.proofs.LoadLaws.{unnamed, over, within}
 use mathlib.Core.Option.{Option, some, none}
 use Rattle.std.specs.Prelude.{Some, None}
+use Rattle.std.specs.List.{list_all, range_with_len}
 use Rattle.lodge_keys.specs.Sums.{load_on}
 use Rattle.lodge_limits.specs.Judging.{kept, is_clear}
 
@@ -27,21 +28,31 @@ load_at own sums h = rw (hourly-suc own h, hourly-suc sums h)
 
 module _ (own sums limit : List ℕ) (h : ℕ) where
   -- what the others leave of the limit is less than the own energy
-  pub over-load : get_or limit h 0 - get_or sums h 0 < get_or own h 0 → passed_at own (load_on own sums) (laid limit) (suc h) ≡ true
+  over-load : get_or limit h 0 - get_or sums h 0 < get_or own h 0 → passed_at own (load_on own sums) (laid limit) (suc h) ≡ true
   over-load i = over own (load_on own sums) limit h (λ z. absurd (omega arith)) (omega (arith, load_at own sums h))
 
-  pub within-load : get_or own h 0 ≤ get_or limit h 0 - get_or sums h 0 → passed_at own (load_on own sums) (laid limit) (suc h) ≡ false
+  within-load : get_or own h 0 ≤ get_or limit h 0 - get_or sums h 0 → passed_at own (load_on own sums) (laid limit) (suc h) ≡ false
   within-load i = by_bool (eqb (get_or own h 0) 0) (λ e. unnamed own (load_on own sums) limit h (omega (arith, eqb-true)))
       (λ e. let z : get_or own h 0 ≡ 0 → ⊥ = λ q. absurd (omega (arith, eqb-false)) in within own (load_on own sums) limit h (omega (arith, load_at own sums h, z)))
 
-module _ (own : List ℕ) (load : ℕ → ℕ) (limit : List ℕ) (n h : ℕ) where
-  pub passed-one : h < n → NoneTo (passed_at own load (laid limit)) h → passed_at own load (laid limit) (suc h) ≡ true → false ≡ kept own load n limit
-  unfolding kept
-  passed-one i f e = let k = none_found (passed_at own load (laid limit)) n h h refl i f e in sym (ne_eqb (lowest (passed_at own load (laid limit)) n) 0 (λ z. absurd (omega (arith, k, z))))
+  -- the test of the hour at an index
+  abbrev pub keeps_at : Bool
+  keeps_at = leb (get_or own h 0) (get_or limit h 0 - get_or sums h 0)
 
-  pub passed_none : n ≤ h → NoneTo (passed_at own load (laid limit)) h → true ≡ kept own load n limit
-  unfolding kept
-  passed_none i f = sym (eq-eqb (lowest (passed_at own load (laid limit)) n) 0 (sym (none-all (passed_at own load (laid limit)) n h i f)))
+-- all hours keep it
+module _ (own sums limit : List ℕ) where
+  all_keep : (i n : ℕ) → list_all (keeps_at own sums limit) (range_with_len i n) ≡ eqb (first (passed_at own (load_on own sums) (laid limit)) 0 (from (suc i) n)) 0
+  unfolding first from
+  all_keep i zero = refl
+  all_keep i (suc n) =
+      let e : suc (suc i) ≡ suc (i + 1) = omega arith in
+      by_bool (keeps_at own sums limit i)
+      (λ t. rw (t, within-load own sums limit i (leb-true (get_or own i 0) _ t), e) (all_keep (i + 1) n))
+      (λ t. rw (t, over-load own sums limit i (leb-false (get_or own i 0) _ t)) (sym (ne_eqb (suc i) 0 (λ z. absurd (omega arith)))))
+
+  pub all-keep : (n : ℕ) → list_all (keeps_at own sums limit) (range_with_len 0 n) ≡ kept own (load_on own sums) n limit
+  unfolding kept lowest
+  all-keep n = all_keep 0 n
 
 -- the hour that is found for a limit
 module _ (own : List ℕ) (load : ℕ → ℕ) (H : ℕ) (limit : List ℕ) where
