@@ -19,6 +19,9 @@ plain kind = record { kind = kind; row = 0; hour = 0; reserved = 0; value = pos 
 abbrev pub by_row : ℕ → ℕ → ℕ → Response
 by_row kind row hour = record { kind = kind; row = row; hour = hour; reserved = 0; value = pos 0; count = 0 }
 
+abbrev pub valued : ℕ → ℤ → Response
+valued kind z = record { kind = kind; row = 0; hour = 0; reserved = 0; value = z; count = 0 }
+
 -- The kinds
 
 abbrev pub accepted : Response
@@ -31,7 +34,7 @@ abbrev pub refusal : Refusal → Response
 refusal r = refused (number_of r.row) r.hour
 
 abbrev pub numbered : ℕ → Response
-numbered n = record { kind = 2; row = 0; hour = 0; reserved = 0; value = pos n; count = 0 }
+numbered n = valued 2 (pos n)
 
 abbrev pub steps : ℕ → Response
 steps n = record { kind = 3; row = 0; hour = 0; reserved = 0; value = pos 0; count = n }
@@ -43,7 +46,7 @@ abbrev pub limit : ℕ → ℕ → Response
 limit row hour = by_row 5 row hour
 
 abbrev pub figure : ℤ → Response
-figure z = record { kind = 6; row = 0; hour = 0; reserved = 0; value = z; count = 0 }
+figure z = valued 6 z
 
 abbrev pub absent : Response
 absent = plain 7

@@ -3,14 +3,14 @@
 
 ghost use Rattle.std.specs.Prelude.{◌≡◌, pos};
 ghost use Rattle.answer.specs.Told as T;
-ghost use Rattle.answer.specs.Kinds.{kind_number, kind_of};
+ghost use Rattle.answer.specs.Kinds.{kind_number, kind_of, KindOf};
 ghost use Rattle.answer.specs.Refused.{of_row};
 ghost use Rattle.rules.specs.Rows.{number_of};
 
 use rules::row::Row;
 
-// A call, a query or a judgement that is refused: the table's row and its hour. The hour is 0 where the table gives none, as document 01 has it:
-// every answer says this number, and none asks whether there is one.
+// A call, a query or a judgement that is refused: the table's row and its hour. 0 where the table gives none is document 01's own number
+// ("otherwise the hour is 0"), which answers hand on as it is.
 #[derive(Clone, Copy, Debug, PartialEq, Eq)]
 pub struct Refusal {
     pub row: Row,
@@ -43,15 +43,30 @@ impl Kind {
     pub fn number(self) -> u32
         ensures { result ≡ kind_number self }
     {
-        match self {
-            Kind::Accepted => 0,
-            Kind::Refused => 1,
-            Kind::Numbered => 2,
-            Kind::Steps => 3,
-            Kind::Hidden => 4,
-            Kind::Limit => 5,
-            Kind::Figure => 6,
-            Kind::Absent => 7,
+        self as u32
+    }
+}
+
+// A number that is no kind's.
+#[derive(Clone, Copy, Debug, PartialEq, Eq)]
+pub struct UnknownKind(pub u32);
+
+impl TryFrom<u32> for Kind {
+    type Error = UnknownKind;
+
+    ghost try_from_gives = { KindOf };
+
+    fn try_from(number: u32) -> Result<Kind, UnknownKind> {
+        match number {
+            0 => Ok(Kind::Accepted),
+            1 => Ok(Kind::Refused),
+            2 => Ok(Kind::Numbered),
+            3 => Ok(Kind::Steps),
+            4 => Ok(Kind::Hidden),
+            5 => Ok(Kind::Limit),
+            6 => Ok(Kind::Figure),
+            7 => Ok(Kind::Absent),
+            _ => Err(UnknownKind(number)),
         }
     }
 }
@@ -94,22 +109,33 @@ fn plain(kind: Kind) -> Response
     }
 }
 
+// A kind with the table's number and its hour.
+fn by_row(kind: Kind, row: u32, hour: u32) -> Response
+    ensures { result ≡ T.by_row (kind_number kind) row hour }
+{
+    Response {
+        row,
+        hour,
+        ..plain(kind)
+    }
+}
+
+// A kind with a number.
+fn valued(kind: Kind, value: i64) -> Response
+    ensures { result ≡ T.valued (kind_number kind) value }
+{
+    Response {
+        value,
+        ..plain(kind)
+    }
+}
+
 impl Response {
-    // What its kind says; none where C's number is no kind's. Nothing else reads a kind's number, so it is no TryFrom, whose error nobody would read.
+    // What its kind says; none where C's number is no kind's.
     pub fn kind(&self) -> Option<Kind>
         ensures { result ≡ kind_of self.now.kind }
     {
-        match self.kind {
-            0 => Some(Kind::Accepted),
-            1 => Some(Kind::Refused),
-            2 => Some(Kind::Numbered),
-            3 => Some(Kind::Steps),
-            4 => Some(Kind::Hidden),
-            5 => Some(Kind::Limit),
-            6 => Some(Kind::Figure),
-            7 => Some(Kind::Absent),
-            _ => None,
-        }
+        Kind::try_from(self.kind).ok()
     }
 
     // An accepted call that answers no more, or an accepted lodgement.
@@ -123,21 +149,14 @@ impl Response {
     pub fn refused(row: u32, hour: u32) -> Response
         ensures { result ≡ T.refused row hour }
     {
-        Response {
-            row,
-            hour,
-            ..plain(Kind::Refused)
-        }
+        by_row(Kind::Refused, row, hour)
     }
 
     // A lodging number.
     pub fn numbered(number: u32) -> Response
         ensures { result ≡ T.numbered number }
     {
-        Response {
-            value: i64::from(number),
-            ..plain(Kind::Numbered)
-        }
+        valued(Kind::Numbered, i64::from(number))
     }
 
     // The steps of a clearing.
@@ -161,21 +180,14 @@ impl Response {
     pub fn limit(row: u32, hour: u32) -> Response
         ensures { result ≡ T.limit row hour }
     {
-        Response {
-            row,
-            hour,
-            ..plain(Kind::Limit)
-        }
+        by_row(Kind::Limit, row, hour)
     }
 
     // A figure, which may be below zero.
     pub fn figure(value: i64) -> Response
         ensures { result ≡ T.figure value }
     {
-        Response {
-            value,
-            ..plain(Kind::Figure)
-        }
+        valued(Kind::Figure, value)
     }
 
     // A maximum without capacity.
@@ -213,14 +225,22 @@ impl From<Row> for Response {
     }
 }
 
-// No clock name: the refusal table's number.
+impl ClockName {
+    // No clock name: the refusal table's number.
+    pub fn unnamed(row: u32) -> ClockName
+        ensures { result ≡ T.unnamed row }
+    {
+        ClockName {
+            row,
+            ..ClockName::default()
+        }
+    }
+}
+
 impl From<Row> for ClockName {
     ghost from_gives = { λ row r. r ≡ T.unnamed (number_of row) };
 
     fn from(row: Row) -> ClockName {
-        ClockName {
-            row: row.number(),
-            ..ClockName::default()
-        }
+        ClockName::unnamed(row.number())
     }
 }

@@ -65,7 +65,8 @@ pub fn is_date(d: Date) -> bool
         && (1..=days_of_month(d.year, d.month)).contains(&d.day)
 }
 
-// The days of a year before a month.
+// The days of a year before a month. (C's date may hold any month; those below are asked of March and October alone. A sum over the range would
+// be asked of its runs, which no law of the library adds up: tried.)
 fn days_before(year: u32, month: u32) -> u64
     requires { (1 ≤ month) × (month ≤ 12) }
     ensures { result ≡ days_before year (month - 1) }
@@ -77,7 +78,7 @@ fn days_before(year: u32, month: u32) -> u64
     days
 }
 
-// The day's number, 1 on 0001-01-01, a Monday; no year stands before year 0. 64 bits hold it for every year and day of 32.
+// The day's number, 1 on 0001-01-01, a Monday; no year stands before year 0. 64 bits hold it for every year and day of 32 bits.
 #[tactic(auto, using(rules::proofs::HoursLaws::before_laws), unfolding(rules::specs::Hours::day_number))]
 fn day_number(d: Date) -> u64
     requires { (1 ≤ d.month) × (d.month ≤ 12) }
@@ -161,7 +162,7 @@ pub fn clock_at(d: Date, hour: u32) -> ClockName
     clock_of(hours, hour)
 }
 
-// The hour of a clock name and mark, if the day has it. A name is marked of two o'clock on the long day alone. Midnight and one o'clock
+// The hour of a clock name and mark, if the day has it. Only two o'clock of the long day is ever marked. Midnight and one o'clock
 // begin every day, and from three o'clock on the hours count back from the last, which is named 23. Two o'clock is missing on the
 // short day and comes twice on the long one.
 #[tactic(auto, using(crate::proofs::ClockLaws::clock_laws))]

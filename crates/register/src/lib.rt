@@ -36,7 +36,7 @@ fn same_border_side(u: Unit, v: Unit) -> bool
     u.border != 0 && u.agent == v.agent && u.border == v.border && u.purchase == v.purchase
 }
 
-// Row 7: one of the units has the number, at whatever index.
+// Row 7: one of the units has the number. (Not by `units::index`: the row asks no index.)
 fn is_taken(units: &[Unit], number: u32) -> bool
     ensures { result ≡ list_any (number_is number) units.now }
 {

@@ -1,5 +1,4 @@
-// Document 01 as definitions, in specs/, and laws about them, in proofs/; here its numbers, each once in code. A crate with no
-// function is not checked.
+// Document 01 as definitions, in specs/, and laws about them, in proofs/; here the numbers that several crates share.
 #![tactic(auto)]
 
 ghost use Rattle.std.specs.Prelude.{◌≡◌};

@@ -8,7 +8,7 @@ use std::fmt;
 // Why the gate says no: what an `Err` of every call, query, reader and writer brings.
 #[derive(Clone, Copy, Debug, PartialEq, Eq)]
 pub enum Row {
-    Date,
+    Date = 1,
     Gate,
     Form,
     Hour,
@@ -29,22 +29,7 @@ impl Row {
     pub fn number(self) -> u32
         ensures { result ≡ number_of self }
     {
-        match self {
-            Row::Date => 1,
-            Row::Gate => 2,
-            Row::Form => 3,
-            Row::Hour => 4,
-            Row::Range => 5,
-            Row::Unit => 6,
-            Row::Taken => 7,
-            Row::Second => 8,
-            Row::Full => 9,
-            Row::Maximum => 10,
-            Row::Available => 11,
-            Row::Border => 12,
-            Row::Absent => 13,
-            Row::Short => 14,
-        }
+        self as u32
     }
 }
 

@@ -100,7 +100,7 @@ pub struct HourFigures {
     pub executed: [u32; UNITS],
 }
 
-// As C has it, with arrays and their counts. `enrolled` units stand in front of their array, and `standing` lodgements of theirs, in the order of their numbers.
+// As C has it, with arrays and their counts. The first `enrolled` units and the first `standing` lodgements count, these in the order of their numbers.
 // `capacities` are export and import of border 1, of 2, of 3, of 4. Verdicts stand at the lodgements' indices once closed,
 // figures at the hours' indices once cleared.
 #[repr(C)]
@@ -131,14 +131,14 @@ pub struct Holder {
     pub unit: Unit,
 }
 
-// A call's answer, and the session that it leaves.
+// A call's answer, and the session that it leaves: of the calls by value, which C is not handed.
 #[derive(Clone, Copy)]
 pub struct Effect {
     pub session: Session,
     pub answer: Response,
 }
 
-// A date's answer, and its fresh session.
+// A date's answer, and its fresh session, as C has them.
 #[repr(C)]
 #[derive(Clone, Copy)]
 pub struct Opened {

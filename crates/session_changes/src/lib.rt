@@ -19,7 +19,8 @@ pub trait Change: Copy {
     // the session with it
     ghost applied: { Session → Self → Session };
 
-    // its indices are those of the arrays
+    // Its indices are those of the arrays. It is asked where a step is stored: a ghost field of `Step` would be proved at each of the
+    // seven places that make one.
     ghost fits: { Self → Type 0 };
 
     fn apply(&self, s: &mut Session)
@@ -67,8 +68,7 @@ impl Change for CapacityChange {
     ghost fits = { λ _. Unit {0} };
 
     fn apply(&self, s: &mut Session) {
-        let capacities = self.capacities;
-        s.capacities = capacities;
+        s.capacities = self.capacities;
     }
 }
 
@@ -112,8 +112,7 @@ impl Change for ClosingChange {
     ghost fits = { λ _. Unit {0} };
 
     fn apply(&self, s: &mut Session) {
-        let verdicts = self.verdicts;
-        s.verdicts = verdicts;
+        s.verdicts = self.verdicts;
         s.closed = true;
     }
 }
@@ -130,8 +129,7 @@ impl Change for ClearingChange {
     ghost fits = { λ _. Unit {0} };
 
     fn apply(&self, s: &mut Session) {
-        let figures = self.figures;
-        s.figures = figures;
+        s.figures = self.figures;
         s.cleared = true;
     }
 }
@@ -160,7 +158,7 @@ pub trait Call: Copy {
         ensures fits { Self.Part.fits result.change };
 }
 
-// What a call changes: nothing of a session that no calls leave, nor where a row refuses it.
+// What a call changes: nothing where the guard or a row refuses it.
 pub fn step_of<C: Call>(s: &Session, call: &C) -> Result<Step<C::Part>, Refusal>
     ensures met { Met s.now (C.call call.now) (effect_of C.Part.applied s.now result) }
     ensures fits { IfOk result (λ t. C.Part.fits t.change) }
