@@ -1,12 +1,12 @@
 -- What is counted beside a lodgement: marks by index, and the indices of units.
 use Prim.Native.Nat.{ℕ, zero, suc, ◌+◌, ◌<◌}
 use mathlib.Core.Path.{◌≡◌, refl, sym, ap, ◌∙◌}
-use mathlib.Core.Bool.{Bool, true, false, cond, ◌&&◌, ◌||◌}
+use mathlib.Core.Bool.{Bool, true, false, cond, ◌&&◌}
 use mathlib.Core.List.{List, [], ◌∷◌, map}
 use native.Mathlib.Omega.{arith}
 use lib.Dec.{eqb, ltb}
-use lib.ListN.{length, get_or, set, replicate, length-map, length-replicate, get_or-replicate, get_or-eq_default}
-use lib.Seq.{ext_get_or, get_or-set_same, get_or-set_other}
+use lib.ListN.{length, get_or, replicate, length-map, length-replicate, get_or-replicate, get_or-eq_default}
+use lib.Seq.{ext_get_or}
 use borrow.Author.Tests.{eqb-true, eqb-false, eq-eqb, ne_eqb, ltb-true, ltb-false}
 use Rattle.rules.specs.Lists.{from}
 use Rattle.rules.specs.Closing as C
@@ -17,7 +17,6 @@ use Rattle.session.specs.declared.Unit.{Unit}
 use Rattle.session.specs.declared.Verdict.{Verdict}
 use Rattle.judge_loads.specs.Loads.{marked}
 use Rattle.judge_loads.proofs.MarkLaws.{marked-nothing}
-use Rattle.std.proofs.lemmas.Option.{cond_some}
 use Rattle.judge_loads.proofs.LoadLaws.{and-false}
 use Rattle.close_judge.specs.Classes.{held_at, accepted_for, Used}
 use Rattle.std.specs.Prelude.{Some, None}

@@ -4,3 +4,4 @@ pub mod ClassLaws
 pub mod StandingLaws
 pub mod JudgeLaws
 pub mod LineLaws
+mod PairLaws

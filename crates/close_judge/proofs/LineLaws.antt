@@ -1,14 +1,13 @@
 -- Limit 12 as it is laid for a border: where limit 10 is not passed, it is passed in the same hours as by the rules.
 use Prim.Native.Nat.{ℕ, ◌-◌, ◌≤◌, ◌<◌, min}
 use mathlib.Core.Path.{◌≡◌, sym, ap, ◌∙◌}
-use mathlib.Core.Bool.{Bool, true, false, not, true≢false}
+use mathlib.Core.Bool.{Bool, true, false, not}
 use mathlib.Core.List.{List, map}
 use mathlib.Core.Option.{Option, some, none}
 use native.Mathlib.Omega.{arith}
 use lib.Dec.{eqb, ltb}
-use Rattle.std.specs.Option.{is_some}
 use lib.ListN.{get_or, replicate, get_or-replicate}
-use borrow.Author.Tests.{eqb-true, ltb-true, ltb-false, lt-ltb, le-ltb}
+use borrow.Author.Tests.{ltb-true, ltb-false, lt-ltb, le-ltb}
 use Rattle.rules.specs.Lists.{first, from, lowest, hourly}
 use Rattle.rules.specs.Units.{passes, border_sum, border_limit}
 use Rattle.rules.specs.Lodging.{passed_at}
@@ -16,14 +15,10 @@ use Rattle.rules.proofs.BoolLaws.{by_bool}
 use Rattle.rules.proofs.LowestLaws.{Least, missing, found, least}
 use Rattle.session.specs.declared.Unit.{Unit}
 use Rattle.session.specs.declared.Notice.{Notice}
-use Rattle.judge_loads.specs.Loads.{hour_at, laid}
+use Rattle.judge_loads.specs.Loads.{laid}
 use Rattle.judge_limits.specs.Limits.{notice_in, registered_in, lines_in}
 use Rattle.judge_limits.proofs.RowLaws.{lowest-same}
 use Rattle.close_ceilings.specs.Ceilings.{most, line_of, line_at}
-
--- no hour found is 0
-pub none-hour : (h : ℕ) → is_some (hour_at h) ≡ false → 0 ≡ h
-none-hour h e = by_bool (eqb h 0) (λ t. sym (eqb-true h 0 t)) (λ t. absurd (true≢false (rw t at e)))
 
 -- where there is no lowest, each fails
 lowest-zero : (p : ℕ → Bool) (n : ℕ) → lowest p n ≡ 0 → (k : ℕ) → 1 ≤ k → k ≤ n → p k ≡ false

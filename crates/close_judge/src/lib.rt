@@ -15,8 +15,7 @@ use answer::Refusal;
 use arrayvec::ArrayVec;
 use close_ceilings::{Lines, line_of, lines_of};
 use close_holders::holders_of;
-use judge_limits::{available_energies, lowest_row, maximum_energies};
-use judge_loads::lowest_hour;
+use judge_limits::{judge_energy, limits_of};
 use rules::LODGEMENTS;
 use session::{Energies, Session, Verdict};
 
@@ -33,10 +32,11 @@ pub struct Standing<'a> {
     pub ghost loads: { energies.now ≡ take session.now.standing session.now.energies },
     pub ghost long: { length energies.now ≡ session.now.standing },
     pub ghost units: { HoldersOf session.now holders.items },
+    pub ghost found: { length holders.items ≡ session.now.standing },
     pub ghost borders: { LinesOf session.now.capacities lines },
 }
 
-// Accepted, or "refused whole" by the first limit passed in its lowest hour.
+// Accepted, or "refused whole" by the first limit passed in its lowest hour. No `From`: both types are of crates below.
 #[tactic(auto, unfolding(crate::specs::Classes::verdict_by))]
 fn verdict_by(judged: Result<(), Refusal>) -> Verdict
     ensures { result ≡ verdict_by (said judged) }
@@ -93,8 +93,8 @@ impl<'a> Standing<'a> {
         ensures indices { IndicesIn self.now.energies.now others.new.items }
     {
         others.clear();
-        for (i, holder) in self.holders.iter().enumerate() {
-            if !verdicts[i].accepted {
+        for (i, (holder, verdict)) in self.holders.iter().zip(verdicts).enumerate() {
+            if !verdict.accepted {
                 continue;
             }
             if *holder != Some(p) {
@@ -104,44 +104,23 @@ impl<'a> Standing<'a> {
         }
     }
 
-    // The first limit of the unit at index p that the lodgement at an index passes together with others, and the lowest hour in which it
-    // does. One is looked at only where those before it are not passed. Limit 12 is read as it is laid for the border, cut at what a
-    // maximum can be: what passes that passes limit 10.
-    fn judge_limits(&self, at: usize, p: usize, others: &[usize]) -> Result<(), Refusal>
-        requires standing { at < length self.now.energies.now }
-        requires unit { p < 64 }
-        requires others { IndicesIn self.now.energies.now others.now }
-        ensures { let s = self.now.session.now in let es = self.now.energies.now in let own = (get_or es at bare_energies).energies in
-            said result ≡ judged_in (get_or s.units p no_unit) (get_or s.notices p bare_notice) s.capacities false s.hours own (load_by own es others.now) }
-    {
-        let session = self.session;
-        let unit = &session.units[p];
-        let own = &self.energies[at].energies;
-        let hours = session.hours as usize;
-        let most = maximum_energies(unit.maximum);
-        let ten = lowest_hour(own, self.energies, others, hours, &most);
-        if ten.is_some() {
-            return lowest_row(ten, None, None);
-        }
-        let available = available_energies(unit.maximum, &session.notices[p]);
-        let eleven = lowest_hour(own, self.energies, others, hours, &available);
-        if eleven.is_some() {
-            return lowest_row(ten, eleven, None);
-        }
-        let line = line_of(&self.lines, unit.border);
-        let twelve = lowest_hour(own, self.energies, others, hours, &line);
-        lowest_row(ten, eleven, twelve)
-    }
-
     // The verdict of the lodgement at an index, of the unit at index p: "its energy, plus that of those accepted before it on its unit",
-    // which are the others, against the limits of its unit.
+    // which are the others, against the limits of its unit. Limit 12 is read as it is laid for the border, cut at what a maximum can be:
+    // what passes that passes limit 10.
+    #[tactic(auto, using(crate::proofs::StandingLaws::holder_laws))]
     pub fn judge(&self, at: usize, p: usize, others: &[usize]) -> Verdict
         requires standing { at < self.now.session.now.standing }
         requires holder { get_or self.now.holders.items at None ≡ Some p }
         requires others { IndicesIn self.now.energies.now others.now }
         ensures { (vs : List Verdict) → others.now ≡ accepted_for p vs self.now.holders.items → JudgesAt self.now.session.now vs at result }
     {
-        let judged = self.judge_limits(at, p, others);
+        let session = self.session;
+        let unit = &session.units[p];
+        let line = line_of(&self.lines, unit.border);
+        let limits = limits_of(unit, &session.notices[p], Some(line), false);
+        let own = &self.energies[at].energies;
+        let hours = session.hours as usize;
+        let judged = judge_energy(&limits, own, self.energies, others, hours);
         verdict_by(judged)
     }
 }

@@ -137,7 +137,7 @@ module _ (s : Session) (vs : List Verdict) (room : List (List ℕ)) (row own : L
     left_here x m p =
         let used = used-more s vs i v h blank w.standing full in_List unit_here x (rw (yes, eq-eqb unit_here unit_here refl)) in
         let q : x < length own = omega (arith, owns.long) in
-        rw (get_or-set_same room place row [] inside) (omega (arith, r x q, used, owns.at x m, f x q, k unit_here x p m))
+        rw (get_or-set_same room place row [] inside) (omega (arith, r.named x q, used, owns.at x m, f x q, k unit_here x p m))
 
     module _ (whole : length (take s.enrolled s.units) ≡ s.enrolled) (q : place < s.enrolled) where
       left_other : (unit x : ℕ) → eqb unit_here unit ≡ false → unit_index s unit < s.enrolled → x < s.hours

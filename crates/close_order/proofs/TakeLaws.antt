@@ -4,7 +4,7 @@ use mathlib.Core.Path.{◌≡◌, refl, sym, ap, ◌∙◌}
 use mathlib.Core.Bool.{Bool, true, false, not, ◌&&◌}
 use mathlib.Core.List.{List, [], ◌∷◌}
 use lib.ListN.{get_or, take}
-use borrow.Author.Tests.{eq-eqb, ne_eqb, not-true}
+use borrow.Author.Tests.{eq-eqb, ne_eqb}
 use Rattle.std.specs.List.{list_any}
 use Rattle.rules.specs.Lists.{any}
 use Rattle.rules.proofs.ListLaws.{any-list}
@@ -71,10 +71,10 @@ module _ (s : Session) (class : Class) (l : Lodgement) (i : ℕ) (h : i < s.stan
   unfolding is_taken
   takes-other {t} q n b e = rw (ne_eqb (class_of (standing_at b i)) (number_of class) (λ k. n (number-same t class (class-here q b e ∙ k))))
 
-  pub takes-normal : {t : Class} → t ≡ class_in l.key → t ≡ class → not l.key.default ≡ true → TakesAt s (number_of class) i true
+  pub takes-normal : {t : Class} → t ≡ class_in l.key → t ≡ class → l.key.default ≡ false → TakesAt s (number_of class) i true
   unfolding is_taken L.is_hidden
   takes-normal q n d b e =
-      let k : (standing_at b i).key.default ≡ false = ap (λ (x : Lodgement). x.key.default) (sym (lodgement-at s b e i h no_lodgement) ∙ sym here) ∙ not-true l.key.default d in
+      let k : (standing_at b i).key.default ≡ false = ap (λ (x : Lodgement). x.key.default) (sym (lodgement-at s b e i h no_lodgement) ∙ sym here) ∙ d in
       rw (eq-eqb (class_of (standing_at b i)) (number_of class) (sym (class-here q b e) ∙ ap number_of n), shown-normal b.standing (standing_at b i).key k)
 
   pub takes-shown : {t : Class} {r : Bool} → t ≡ class_in l.key → t ≡ class → r ≡ list_any (hiding l.key) (take s.standing s.lodgements) → TakesAt s (number_of class) i (not r)

@@ -42,23 +42,8 @@ impl Class {
     }
 }
 
-// Whether a standing lodgement is of a class. "Unhidden lodgements are taken"; a normal one is hidden by none.
-// By ifs, since each way out has its own law.
-fn takes(s: &Session, class: Class, l: &Lodgement) -> bool
-    requires { Within s.now }
-    ensures { (i : ℕ) → i < s.now.standing → l.now ≡ get_or s.now.lodgements i no_lodgement → TakesAt s.now (number_of class) i result }
-{
-    let key = l.key;
-    if Class::of(key) != class {
-        return false;
-    }
-    if !key.default {
-        return true;
-    }
-    !is_hidden(&s.lodgements[..s.standing], key)
-}
-
-// How far a closing has come: the verdicts given, and the room that they leave under each unit's ceilings by hour.
+// How far a closing has come: the verdicts given, and the room that they leave under each unit's ceilings by hour. `room` and `used` stand
+// side by side: `ceilings_of` gives the one, `ClosingAt` speaks of it alone, and records of both would be built and read by one more pass.
 #[derive(Drop)]
 pub struct Closing<'a> {
     pub standing: Standing<'a>,
@@ -90,6 +75,17 @@ impl<'a> Closing<'a> {
         }
     }
 
+    // Whether the lodgement at an index is of a class. "Unhidden lodgements are taken"; a normal one is hidden by none.
+    fn takes(&self, class: Class, at: usize) -> bool
+        requires { at < self.now.standing.session.now.standing }
+        ensures { TakesAt self.now.standing.session.now (number_of class) at result }
+    {
+        let session = self.standing.session;
+        let key = session.lodgements[at].key;
+        Class::of(key) == class
+            && !(key.default && is_hidden(&session.lodgements[..session.standing], key))
+    }
+
     // "those accepted before it on its unit": their indices.
     fn put_accepted(&self, p: usize, others: &mut ArrayVec<usize, LODGEMENTS>)
         requires { p < 64 }
@@ -118,6 +114,7 @@ impl<'a> Closing<'a> {
 
     // The lodgement at an index, if it is of the class, judged with what was accepted before it. One that the room under its unit's
     // ceilings holds passes no limit; another's limit and hour are looked for.
+    #[tactic(auto, using(close_judge::proofs::StandingLaws::holder_laws))]
     fn step(&mut self, class: Class, at: usize, others: &mut ArrayVec<usize, LODGEMENTS>)
         requires { at < self.old.standing.session.now.standing }
         ensures session { self.new.standing ≡ self.old.standing }
@@ -125,15 +122,15 @@ impl<'a> Closing<'a> {
             → ClosingAt s b (number_of class) (at + 1) self.old.verdicts self.old.room.items
             → ClosingAt s b (number_of class) at self.new.verdicts self.new.room.items }
     {
-        let session = self.standing.session;
-        if !takes(session, class, &session.lodgements[at]) {
+        if !self.takes(class, at) {
             return;
         }
         let Some(p) = self.standing.holders[at] else {
             // No call leaves a lodgement without its unit.
             return;
         };
-        let own = &self.standing.energies[at].energies[..session.hours as usize];
+        let hours = self.standing.session.hours as usize;
+        let own = &self.standing.energies[at].energies[..hours];
         if admits(&mut self.room[p], own) {
             self.give(at, p, accepted());
             return;

@@ -1,6 +1,6 @@
 // The room under a unit's ceilings by hour: what is accepted on the unit takes of it.
-ghost use Rattle.std.specs.Prelude.{true, ◌≤◌, length};
-ghost use Rattle.close_order.specs.Room.{Fits, Left, Admitted};
+ghost use Rattle.std.specs.Prelude.{◌≤◌, length};
+ghost use Rattle.close_order.specs.Room.{Fits, Admitted};
 
 use rules::HOURS;
 
@@ -9,26 +9,11 @@ fn fits(row: &[u32; HOURS], own: &[u32]) -> bool
     requires { length own.now ≤ 25 }
     ensures { Fits row.now own.now result }
 {
-    for (energy, left) in own.iter().zip(row) {
-        if left < energy {
-            return false;
-        }
-    }
-    true
+    own.iter().zip(row).all(|(energy, left)| energy <= left)
 }
 
-// They are taken of the room.
-fn take(row: &mut [u32; HOURS], own: &[u32])
-    requires few { length own.now ≤ 25 }
-    requires fits { Fits row.old own.now true }
-    ensures { Left own.now row.old row.new }
-{
-    for (h, energy) in own.iter().enumerate() {
-        row[h] -= *energy;
-    }
-}
-
-// A lodgement that fits is admitted, and takes its energies of the room; else the room stays.
+// A lodgement that fits is admitted, and takes its energies of the room; else the room stays. No mere test, then. What it asks of the
+// length no slice's type has.
 pub fn admits(row: &mut [u32; HOURS], own: &[u32]) -> bool
     requires { length own.now ≤ 25 }
     ensures { Admitted own.now row.old row.new result }
@@ -36,6 +21,8 @@ pub fn admits(row: &mut [u32; HOURS], own: &[u32]) -> bool
     if !fits(row, own) {
         return false;
     }
-    take(row, own);
+    for (h, energy) in own.iter().enumerate() {
+        row[h] -= *energy;
+    }
     true
 }

@@ -1,4 +1,4 @@
-use Rattle.std.proofs.Common.{◌∙◌, rules, ◌≡◌, ap, get_or, length, arith, refl, ◌<◌, Some, None}
+use Rattle.std.proofs.Common.{◌∙◌, rules, ◌≡◌, get_or, length, arith, refl, ◌<◌, Some, None}
 use Rattle.close_judge.proofs.StandingLaws.{holder-index, holder-inside}
 use Rattle.close_order.proofs.PassLaws.{owns, energies-full, next-past, next-absent, next-admitted, next-refused, put-back}
 use Rattle.close_order.proofs.Closing.step.Goals as goal
@@ -6,43 +6,13 @@ use Rattle.close_order.proofs.Closing.step.Goals as goal
 pub returns-then-not-takes-clause-closing_at : goal.returns-then-not-takes-clause-closing_at
 returns-then-not-takes-clause-closing_at c =
     let x = c.args.self.now in
-    next-past x.standing.session.now _ c.args.at x.verdicts x.room.items c.requires c.takes.result (c.takes.ensures c.args.at c.requires refl) c.if-not-takes.true
+    next-past x.standing.session.now _ c.args.at x.verdicts x.room.items c.requires c.takes.result c.takes.ensures c.if-not-takes.true
 
 pub returns-in_default-clause-closing_at : goal.returns-in_default-clause-closing_at
 returns-in_default-clause-closing_at c =
     let x = c.args.self.now in
     let e : get_or c.deref.result.now c.args.at None ≡ None = search rules in
     next-absent x.standing.session.now _ c.args.at x.verdicts x.room.items c.requires x.standing.holders.items x.standing.units (rw c.deref.ensures.0 at e)
-
-pub offset_bounds-deref_mut-p : goal.offset_bounds-deref_mut-p
-offset_bounds-deref_mut-p c =
-    let x = c.args.self.now.standing in
-    let h : c.in-Some.p < x.session.now.enrolled = holder-inside x.session.now x.holders.items x.units c.args.at c.in-Some.p (rw c.deref.ensures.0 at c.in-Some.is) in
-    omega (arith, h, x.within.enrolled)
-
-pub bounds-deref_mut-p : goal.bounds-deref_mut-p
-bounds-deref_mut-p c =
-    let x = c.args.self.now.standing in
-    let h : c.in-Some.p < x.session.now.enrolled = holder-inside x.session.now x.holders.items x.units c.args.at c.in-Some.p (rw c.deref.ensures.0 at c.in-Some.is) in
-    omega (arith, h, c.args.self.now.rows, ap length c.deref_mut.ensures.value)
-
-pub give-requires-clause-unit : goal.give-requires-clause-unit
-give-requires-clause-unit c =
-    let x = c.args.self.now.standing in
-    let h : c.in-Some.p < x.session.now.enrolled = holder-inside x.session.now x.holders.items x.units c.args.at c.in-Some.p (rw c.deref.ensures.0 at c.in-Some.is) in
-    omega (arith, h, x.within.enrolled)
-
-pub put_accepted-requires : goal.put_accepted-requires
-put_accepted-requires c =
-    let x = c.args.self.now.standing in
-    let h : c.in-Some.p < x.session.now.enrolled = holder-inside x.session.now x.holders.items x.units c.args.at c.in-Some.p (rw c.deref.ensures.0 at c.in-Some.is) in
-    omega (arith, h, x.within.enrolled)
-
-pub give-requires-2-clause-unit : goal.give-requires-2-clause-unit
-give-requires-2-clause-unit c =
-    let x = c.args.self.now.standing in
-    let h : c.in-Some.p < x.session.now.enrolled = holder-inside x.session.now x.holders.items x.units c.args.at c.in-Some.p (rw c.deref.ensures.0 at c.in-Some.is) in
-    omega (arith, h, x.within.enrolled)
 
 pub returns-then-admits-clause-closing_at : goal.returns-then-admits-clause-closing_at
 returns-then-admits-clause-closing_at c =
@@ -53,7 +23,7 @@ returns-then-admits-clause-closing_at c =
     let long : c.args.at < length x.verdicts = omega (arith, x.standing.within.standing) in
     let o = owns s c.args.at x.standing.energies.now _ x.standing.loads refl c.requires (omega arith) in
     rw (c.give.ensures.verdicts, c.give.ensures.room, c.deref_mut.ensures.value, put-back x.room.items c.in-Some.p c.admits.new.row)
-    (next-admitted s _ c.args.at x.verdicts x.room.items c.requires c.takes.result (c.takes.ensures c.args.at c.requires refl) c.if-not-takes.false long x.standing.within (energies-full s x.standing.energies.now x.standing.loads x.standing.long) _ o c.in-Some.p
+    (next-admitted s _ c.args.at x.verdicts x.room.items c.requires c.takes.result c.takes.ensures c.if-not-takes.false long x.standing.within (energies-full s x.standing.energies.now x.standing.loads x.standing.long) _ o c.in-Some.p
     (holder-index s x.standing.holders.items x.standing.units c.args.at c.in-Some.p e) c.accepted.result c.admits.new.row c.admits.result (rw c.deref_mut.ensures.value at c.admits.ensures) c.if-admits.true c.accepted.ensures inside)
 
 pub returns-clause-closing_at : goal.returns-clause-closing_at
@@ -64,5 +34,5 @@ returns-clause-closing_at c =
     let long : c.args.at < length x.verdicts = omega (arith, x.standing.within.standing) in
     let o = owns s c.args.at x.standing.energies.now _ x.standing.loads refl c.requires (omega arith) in
     rw (c.give-2.ensures.verdicts, c.give-2.ensures.room, c.deref_mut.ensures.value, put-back x.room.items c.in-Some.p c.admits.new.row)
-    (next-refused s _ c.args.at x.verdicts x.room.items c.requires c.takes.result (c.takes.ensures c.args.at c.requires refl) c.if-not-takes.false long x.standing.within (energies-full s x.standing.energies.now x.standing.loads x.standing.long) _ o c.in-Some.p
+    (next-refused s _ c.args.at x.verdicts x.room.items c.requires c.takes.result c.takes.ensures c.if-not-takes.false long x.standing.within (energies-full s x.standing.energies.now x.standing.loads x.standing.long) _ o c.in-Some.p
     (holder-index s x.standing.holders.items x.standing.units c.args.at c.in-Some.p e) c.judge-verdict.result c.admits.new.row c.admits.result (rw c.deref_mut.ensures.value at c.admits.ensures) c.if-admits.false (c.judge-verdict.ensures x.verdicts (c.deref-2.ensures.0 ∙ c.put_accepted.ensures.accepted)))

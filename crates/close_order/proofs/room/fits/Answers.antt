@@ -1,16 +1,11 @@
-use Rattle.std.proofs.Common.{rules, length, arith}
-use Rattle.std.proofs.lemmas.Slice.Zip.{zip_turn, zip_end}
-use Rattle.close_order.specs.Room.{holds, lacks}
+use Rattle.std.proofs.Common.{rules, ◌≤◌, ◌<◌, arith, ℕ}
+use Rattle.std.proofs.lemmas.Iterator.{cases_from_all, YieldsList-from_zip, YieldsList-from_slice}
+use borrow.Author.Tests.{tests}
+use Rattle.close_order.proofs.FitLaws.{fits-of}
 use Rattle.close_order.proofs.room.fits.Goals as goal
-
-pub returns-then-left-energy : goal.returns-then-left-energy
-returns-then-left-energy c =
-    let l = c.loop-energy in
-    let z = zip_turn c.args.own.now c.args.row.now l.yielded c.into_iter-energy-iterator.result l.energy-iterator c.next.new.self c.next.result (search rules) (search rules) l.yielded_by (c.in-Some.energy, c.in-Some.left) c.in-Some.is c.next.ensures.steps in
-    lacks (length l.yielded) z.0 (omega (arith, z.2 0, z.3 0, c.if-left-energy.true))
 
 pub returns : goal.returns
 returns c =
-    let l = c.loop-energy in
-    let z = zip_end c.args.own.now c.args.row.now l.yielded c.into_iter-energy-iterator.result l.energy-iterator c.next.new.self c.next.result (search rules) (search rules) l.yielded_by c.in-None.is c.next.ensures.steps in
-    holds (λ h i. l.invariant h (omega (arith, z)))
+    fits-of c.args.row.now c.args.own.now c.all.result (omega arith)
+    (cases_from_all c.all.new.self _ c.all.result (λ (p : ℕ × ℕ). p.0 ≤ p.1) (λ (p : ℕ × ℕ). p.1 < p.0) c.all.ensures.ran
+    (YieldsList-from_zip (YieldsList-from_slice c.args.own.now cc) (YieldsList-from_slice c.args.row.now cc)) (λ x q k. search (rules, tests)) (λ x q k. search (rules, tests)))
