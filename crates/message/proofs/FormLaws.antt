@@ -35,10 +35,10 @@ pub named-hours : (map : ℕ) → ones (map % 33554432) ≡ set_bits map
 unfolding set_bits hour_bits
 named-hours map = ones-bits 25 map
 
-pub named-le : (map : ℕ) → ones (map % 33554432) ≤ 25
+named-le : (map : ℕ) → ones (map % 33554432) ≤ 25
 named-le map = ones-le 25 (map % 33554432) (mod-lt map (lit< tt))
 
-pub slots-le : (w : ℕ) {n p : ℕ} → n ≤ 25 → p ≤ 15 → n * (w + p) ≤ 25 * (w + 15)
+slots-le : (w : ℕ) {n p : ℕ} → n ≤ 25 → p ≤ 15 → n * (w + p) ≤ 25 * (w + 15)
 slots-le w {n} {p} h l = mul-le-mul {n₁ = n} {m₁ = w + p} {n₂ = 25} {m₂ = w + 15} h (omega arith)
 
 price-le : (x : Bool) → price_width x ≤ 15

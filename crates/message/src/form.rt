@@ -1,6 +1,6 @@
 // What the hour map fixes of a message: where its slots end, and its length.
 ghost use Rattle.std.specs.Prelude.{◌≡◌, ◌+◌, ◌*◌, ◌≤◌};
-ghost use Rattle.rules.specs.Message.{form1, price_width, slots_end, set_bits, length_for};
+ghost use Rattle.rules.specs.Message.{form1, price_width, slot_width, slots_end, set_bits, length_for};
 
 use rules::MAPS;
 
@@ -13,13 +13,22 @@ pub fn price_width(execution: bool) -> usize
     if execution { 0 } else { 15 }
 }
 
-// The bits of a message up to the end of its last slot.
+// The bits of a slot: "energy 17, and for an offer price 15".
+#[tactic(auto, unfolding(rules::specs::Message::slot_width))]
+pub fn slot_width(execution: bool) -> usize
+    ensures value { result ≡ slot_width form1.width execution }
+    ensures most { result ≤ 32 }
+{
+    17 + price_width(execution)
+}
+
+// The bits of a message up to the end of its last slot. Kind and map are two numbers here: the reader asks before it has fields.
 pub fn slots_end(execution: bool, map: u32) -> usize
     ensures value { result ≡ slots_end form1 execution (set_bits map) }
     ensures most { result ≤ 864 }
 {
     let named = (map % MAPS).count_ones() as usize;
-    64 + named * (17 + price_width(execution))
+    64 + named * slot_width(execution)
 }
 
 // "The number of set bits n fixes the length: 8 + 4n bytes, or 8 + 17n/8 rounded up."

@@ -43,6 +43,7 @@ impl Iterator for Hours {
         }
         let zeros = self.left.leading_zeros();
         self.left -= 1 << (31 - zeros);
+        // The map has 25 of 32 bits, so 7 are above it.
         Some((zeros - 7) as usize)
     }
 }

@@ -17,7 +17,7 @@ pub fn named(map: u32, h: usize) -> bool
     (map >> (25 - h)) % 2 == 1
 }
 
-// In hour h the energy or the price is outside its range.
+// In hour h the energy or the price is outside its range. The hour names a bit of the map and a place in two arrays of C's struct.
 #[tactic(auto, unfolding(rules::specs::Message::bad_hour, message_ranges::specs::Slots::bad_slot, rules::specs::Lists::hourly))]
 fn bad_hour(m: &Fields, h: usize, top: u32) -> bool
     requires first { 1 ≤ h }
@@ -28,7 +28,7 @@ fn bad_hour(m: &Fields, h: usize, top: u32) -> bool
     bad_slot(top, m.execution, set, m.energies[h - 1], m.prices[h - 1])
 }
 
-// In one of the 25 hours it is.
+// An energy or a price of one of the 25 hours is outside its range.
 fn bad_hours(m: &Fields, top: u32) -> bool
     ensures { result ≡ any (bad_hour top (fields_in m.now)) (from 1 25) }
 {

@@ -27,7 +27,7 @@ pub struct Fields {
     pub prices: [u32; HOURS],
 }
 
-// "Other fields of a refusal are 0"
+// "Other fields of a refusal are 0". Written out: of an array's default the prover has each element alone, and not the list.
 pub const NO_FIELDS: Fields = Fields {
     execution: false,
     default: false,

@@ -35,8 +35,8 @@ pub fn word_at(s: &[u8], i: usize) -> u32
     ])
 }
 
-// The number in `width` bits of a word, with `below` bits after them. Each asks the bounds of its numbers by itself: a type for a width would
-// be opened wherever one is counted with.
+// The number in `width` bits of a word, with `below` bits after them. A width has no type that would say its bound once: what counts with it
+// would have to open it.
 pub fn part(word: u64, below: usize, width: usize) -> u32
     requires below { below < 64 }
     requires width { width ≤ 32 }
@@ -74,13 +74,13 @@ pub fn slot_at(s: &[u8], at: usize, width: usize) -> u32
     part(word, end * 8 - (at + width), width)
 }
 
-// Every position and width
+// Below, any position and any width: no sum may overflow. Bytes, position and width are the slice-and-number reader that document 01 names.
 
 // Whether the message has the `width` bits from bit `at` on.
 pub fn has_at(s: &[u8], at: usize, width: usize) -> bool
     ensures { result ≡ leb (at + width) (length (bits_of s.now)) }
 {
-    let end = at / 8 + width / 8 + (at % 8 + width % 8 + 7) / 8;
+    let end = at / 8 + width / 8 + (at % 8 + width % 8).div_ceil(8);
     end <= s.len()
 }
 

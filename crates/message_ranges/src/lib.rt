@@ -43,7 +43,8 @@ fn top_price(execution: bool) -> u32
     if execution { 0 } else { MAX_PRICE }
 }
 
-// An hour's energy or price is outside its range, an energy being at most `top`.
+// An hour's energy or price is outside its range, an energy being at most `top`. As the rules' `bad_hour` says it: an unnamed hour has an
+// energy and a price too.
 #[tactic(auto, unfolding(crate::specs::Slots::bad_slot))]
 pub fn bad_slot(top: u32, execution: bool, set: bool, energy: u32, price: u32) -> bool
     ensures { result ≡ bad_slot top execution set energy price }
