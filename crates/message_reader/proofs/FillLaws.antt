@@ -27,7 +27,7 @@ bits_below (suc k) (suc w) j n e h =
     let z : n < 2 ^ w = omega (arith, pow_mono {i = j} {j = w} (omega arith)) in
     rw (div-eq_of_lt z, bits_below k w j n (omega arith) h)
 
-bits-zero : bits 25 0 ≡ replicate 25 0
+pub bits-zero : bits 25 0 ≡ replicate 25 0
 unfolding bits
 bits-zero = refl
 
@@ -107,11 +107,11 @@ module _ {map h rest : ℕ} (t : FirstHour map h rest) where
   whole : 1 * 2 ^ (24 - h) + rest ≡ map
   whole = omega (arith, t.first)
 
-  here : hour_bits map ≡ replicate h 0 ++ (1 ∷ bits (24 - h) rest)
+  pub here : hour_bits map ≡ replicate h 0 ++ (1 ∷ bits (24 - h) rest)
   unfolding hour_bits
   here = ap (bits 25) (sym whole) ∙ bits-first h 25 (24 - h) rest (omega (arith, t.within)) t.after
 
-  gone : hour_bits rest ≡ replicate h 0 ++ (0 ∷ bits (24 - h) rest)
+  pub gone : hour_bits rest ≡ replicate h 0 ++ (0 ∷ bits (24 - h) rest)
   unfolding hour_bits
   gone = bits-after h 25 (24 - h) rest (omega (arith, t.within)) t.after
 
@@ -253,9 +253,11 @@ abbrev pub Midway : List ℕ → Bool → ℕ → List ℕ → List ℕ → ℕ 
 Midway bytes x map energies prices at rest bad = Filling 64 17 max_energy bytes x map energies prices at rest bad
 
 module _ (bytes : List ℕ) (x : Bool) (map : ℕ) {energies prices : List ℕ} {at rest : ℕ} {bad : Bool} (i : Midway bytes x map energies prices at rest bad)
-    {h rest' price : ℕ} (t : FirstHour rest h rest') (p : price ≡ price_width x) where
+    {h rest' width : ℕ} (t : FirstHour rest h rest') (p : width ≡ slot_width 17 x) where
   -- where the slot of a turn lies
-  pub slot_there : (at + 17 + price ≤ 8 * length bytes) × (at + 17 + price ≤ 864) × (64 ≤ at) × ((at + (17 + price) + 7) / 8 * 8 ≤ at + 32)
+  pub slot_there : (at + width ≤ 8 * length bytes) × (at + width ≤ 864) × (64 ≤ at) × ((at + width + 7) / 8 * 8 ≤ at + 32)
+  unfolding slot_width
   slot_there =
       let r = room_next 64 17 max_energy bytes x map i h rest' t in
-      rw p (r.0, r.1, r.2, slot-in-four x at i.passed i.begun)
+      let q : width ≡ 17 + price_width x = p in
+      (omega (arith, q, r.0), omega (arith, q, r.1), r.2, rw q (slot-in-four x at i.passed i.begun))

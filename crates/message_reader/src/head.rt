@@ -56,6 +56,7 @@ impl<'a> Head<'a> {
     {
         let kind = self.field(4, 2);
         let map = self.field(39, 25);
+        // All three are looked at: with `||` each would be a branch by itself, to run and to prove.
         let wrong = (self.bytes.len() != length_for(kind == 1, map))
             | (self.field(0, 4) != 1)
             | (1 < kind);

@@ -9,7 +9,7 @@ ghost use Rattle.message.specs.View.{fields_in, no_fields, outcome_of, reading_a
 ghost use Rattle.message_reader.specs.Slots.{ToFill, bad_hours, filled};
 
 use head::Head;
-use message::form::price_width;
+use message::form::{price_width, slot_width};
 use message::hours::Hours;
 use message::{Fields, NO_FIELDS, Reading};
 use message_bits::slot_at;
@@ -32,9 +32,10 @@ pub fn bad_form(s: &[u8]) -> bool
     right_head(s).is_none()
 }
 
-// Fills in the energy and the price of each hour that the map names, and says whether one is outside its range.
-fn fill(s: &[u8], execution: bool, m: &mut Fields) -> bool
-    requires kind { execution ≡ m.old.execution }
+// Fills in the energy and the price of each hour that the map names, and says whether one is outside its range. The kind is a const: so the
+// loop is compiled for each, with widths that are fixed.
+fn fill<const EXECUTION: bool>(s: &[u8], m: &mut Fields) -> bool
+    requires kind { EXECUTION ≡ m.old.execution }
     requires to_fill { ToFill form1 s.now m.old }
     ensures judged { result ≡ bad_hours form1 s.now m.old }
     ensures filled { m.new ≡ filled form1 s.now m.old }
@@ -42,32 +43,33 @@ fn fill(s: &[u8], execution: bool, m: &mut Fields) -> bool
     let hours = Hours::of(m.map);
     let energies = &mut m.energies;
     let prices = &mut m.prices;
-    let price = price_width(execution);
+    let price = price_width(EXECUTION);
+    let width = slot_width(EXECUTION);
     let mask = (1u32 << price) - 1;
     let mut at = 64;
     let mut bad = false;
     for h in hours {
-        let slot = slot_at(s, at, 17 + price);
+        let slot = slot_at(s, at, width);
         let e = slot >> price;
         let p = slot & mask;
         energies[h] = e;
         prices[h] = p;
-        bad |= bad_slot(MAX_ENERGY, execution, true, e, p);
-        at += 17 + price;
+        bad |= bad_slot(MAX_ENERGY, EXECUTION, true, e, p);
+        at += width;
     }
     bad
 }
 
-// The same. A kind by itself in each call has the loop compiled for it, with widths that are fixed.
+// What `fill` does, by the message's kind.
 fn fill_by_kind(s: &[u8], m: &mut Fields) -> bool
     requires { ToFill form1 s.now m.old }
     ensures judged { result ≡ bad_hours form1 s.now m.old }
     ensures filled { m.new ≡ filled form1 s.now m.old }
 {
     if m.execution {
-        fill(s, true, m)
+        fill::<true>(s, m)
     } else {
-        fill(s, false, m)
+        fill::<false>(s, m)
     }
 }
 

@@ -1,5 +1,5 @@
 -- The bits up to the end of the last slot are there, and fewer than eight follow.
-use Rattle.std.proofs.Common.{arith, refl}
+use Rattle.std.proofs.Common.{arith}
 use Rattle.rules.specs.Message.{form1}
 use Rattle.message.proofs.FormLaws.{ends-in}
 use Rattle.message_reader.proofs.head.Head.bad_filling.Goals as goal
