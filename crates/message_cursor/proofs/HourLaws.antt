@@ -1,77 +1,83 @@
--- The hours one after the other: the slots of those that are passed, and of those that are left.
-use Prim.Native.Nat.{ℕ, zero, suc, ◌+◌, ◌-◌, ◌≤◌, ◌<◌}
+-- The named hours one after the other: what is taken of those that are left, put into two lists.
+use Prim.Native.Nat.{ℕ, zero, suc, ◌-◌, ◌^◌, ◌<◌}
 use mathlib.Core.Path.{◌≡◌, refl, ◌∙◌}
 use mathlib.Core.Bool.{Bool}
-use mathlib.Core.List.{List, [], ◌∷◌, ◌++◌, append_assoc, append-nil}
+use mathlib.Core.List.{List, [], ◌∷◌, ◌++◌}
 use native.Mathlib.Omega.{arith}
-use native.Mathlib.Numerals.{add-one}
-use lib.Dec.{eqb}
-use lib.ListN.{length, take, drop, get_or, set, length-set, drop_of_length-le}
-use lib.Seq.{drop-cons, take-suc-set, take_all}
-use Rattle.rules.specs.Lists.{hourly}
-use Rattle.rules.specs.Message.{bit, bits, bits_of, hour_bits, names}
-use Rattle.rules.proofs.BitLaws.{length-bits, bits-under}
-use Rattle.rules.proofs.ListLaws.{all-at}
+use lib.ListN.{length, replicate, length-set}
+use lib.ListN.{set as set_at}
+use Rattle.rules.specs.Message.{bits, bits_of, price_width, hour_bits}
+use Rattle.rules.proofs.BitLaws.{length-bits}
+use Rattle.message.specs.Hours.{FirstHour}
+use Rattle.message.proofs.HourLaws.{first-less}
+use Rattle.message_reader.proofs.FillLaws.{here, gone, bits-zero}
 use Rattle.message_cursor.specs.declared.Reader.{Reader}
-use Rattle.message_cursor.specs.Taking.{SlotTaken, SlotsTaken, none, more}
+use Rattle.message_cursor.specs.Taking.{Takes, unset, set, SlotsTaken, none, more}
 
--- the bit of an hour in the map
-hour-bit : (map i : ℕ) → i < 25 → bit (names map (i + 1)) ≡ get_or (hour_bits map) i 0
-unfolding names hourly hour_bits bit
-hour-bit map i h =
-    let l : i < length (bits 25 map) = rw (length-bits 25 map) h in
-    let e : i + 1 - 1 ≡ i = omega arith in
-    rw e (go (get_or (bits 25 map) i 0) (all-at i 0 (bits-under 25 map) l))
-  where
-    go : (b : ℕ) → b < 2 → bit (eqb b 1) ≡ b
-    go zero l = refl
-    go (suc zero) l = refl
-    go (suc (suc b)) l = absurd (omega arith)
+-- The slots of a map's hours, from bit `at` to `end`, put into the two lists that stand before two others: an hour that is not set stays
+pub data Into (bs : List ℕ) (w : ℕ) (x : Bool) : List ℕ → ℕ → List ℕ → List ℕ → List ℕ → List ℕ → ℕ → Type 0 where
+  empty : {at : ℕ} → Into bs w x [] at [] [] [] [] at
+  stays : {at e p end : ℕ} {map es ps fs qs : List ℕ} → Into bs w x map at es ps fs qs end → Into bs w x (0 ∷ map) at (e ∷ es) (p ∷ ps) (e ∷ fs) (p ∷ qs) end
+  put : {b at d q e p middle next end : ℕ} {map es ps fs qs : List ℕ} → Takes bs at w e middle → Takes bs middle (price_width x) p next
+      → Into bs w x map next es ps fs qs end → Into bs w x (suc b ∷ map) at (d ∷ es) (q ∷ ps) (e ∷ fs) (p ∷ qs) end
 
-long : (map : ℕ) → length (hour_bits map) ≡ 25
-unfolding hour_bits
-long map = length-bits 25 map
+module _ (bs : List ℕ) (w : ℕ) (x : Bool) where
+  -- into lists of zeros they are the slots
+  into_blank : (map : List ℕ) {fs qs : List ℕ} {at end : ℕ} → Into bs w x map at (replicate (length map) 0) (replicate (length map) 0) fs qs end → SlotsTaken bs w x map at fs qs end
+  into_blank [] empty = none
+  into_blank (zero ∷ map) (stays d) = more unset (into_blank map d)
+  into_blank (suc b ∷ map) (put s t d) = more (set s t) (into_blank map d)
 
--- A message's bits bs, energies of w bits, and a map whose first slot is at bit `at`
-module _ (bs : List ℕ) (w : ℕ) (x : Bool) (map at : ℕ) where
-  abbrev All : List ℕ → List ℕ → ℕ → Type 0
-  All = SlotsTaken bs w x (hour_bits map) at
+  -- no hour is set
+  into_none : (es ps : List ℕ) {at : ℕ} → length es ≡ length ps → Into bs w x (replicate (length es) 0) at es ps es ps at
+  into_none [] [] h = empty
+  into_none [] (p ∷ ps) h = absurd (omega arith)
+  into_none (e ∷ es) [] h = absurd (omega arith)
+  into_none (e ∷ es) (p ∷ ps) h = stays (into_none es ps (omega arith))
 
-  -- i hours are passed, and the reader stands at `next`: whatever is taken of the others from there completes the slots
-  pub record Passed (energies prices : List ℕ) (next i : ℕ) : Type 0 where
-    pub energies-long : length energies ≡ 25
-    pub prices-long : length prices ≡ 25
-    pub within : i ≤ 25
-    pub whole : (es ps : List ℕ) (end : ℕ) → SlotsTaken bs w x (drop i (hour_bits map)) next es ps end → All (take i energies ++ es) (take i prices ++ ps) end
+  -- the first set hour is taken, and the rest goes on without it
+  into_first : (k : ℕ) (map es ps : List ℕ) {fs qs : List ℕ} {at e p middle next end : ℕ} → Takes bs at w e middle → Takes bs middle (price_width x) p next
+      → k < length es → k < length ps
+      → Into bs w x (replicate k 0 ++ (0 ∷ map)) next (set_at es k e) (set_at ps k p) fs qs end → Into bs w x (replicate k 0 ++ (1 ∷ map)) at es ps fs qs end
+  into_first k map [] ps s t h l d = absurd (omega arith)
+  into_first k map (a ∷ es) [] s t h l d = absurd (omega arith)
+  into_first zero map (a ∷ es) (b ∷ ps) s t h l (stays d) = put s t d
+  into_first (suc k) map (a ∷ es) (b ∷ ps) s t h l (stays d) = stays (into_first k map es ps s t (omega arith) (omega arith) d)
 
-  pub passed_none : (energies prices : List ℕ) → length energies ≡ 25 → length prices ≡ 25 → Passed energies prices at 0
-  passed_none energies prices l k = record { energies-long = l; prices-long = k; within = omega arith; whole = λ es ps end d. d }
+-- form 1, by a reader that stands at the next named hour's slot: whatever is taken of the hours of `rest` from there completes the slots
+pub record Midway (old : Reader) (x : Bool) (map : ℕ) (reader : Reader) (energies prices : List ℕ) (rest : ℕ) : Type 0 where
+  pub same : reader.message ≡ old.message
+  pub small : rest < 2 ^ 25
+  pub energies-long : length energies ≡ 25
+  pub prices-long : length prices ≡ 25
+  pub whole : (fs qs : List ℕ) (end : ℕ) → Into (bits_of old.message.now) 17 x (hour_bits rest) reader.at energies prices fs qs end
+      → SlotsTaken (bits_of old.message.now) 17 x (hour_bits map) old.at fs qs end
 
-  module _ {energies prices : List ℕ} {next i : ℕ} (c : Passed energies prices next i) where
-    left : i < 25 → drop i (hour_bits map) ≡ get_or (hour_bits map) i 0 ∷ drop (suc i) (hour_bits map)
-    left h = drop-cons (hour_bits map) i 0 (rw (long map) h)
+module _ (old : Reader) (x : Bool) (map : ℕ) where
+  pub midway_start : map < 2 ^ 25 → Midway old x map old (replicate 25 0) (replicate 25 0) map
+  unfolding hour_bits
+  midway_start h = record {
+    same = refl;
+    small = h;
+    energies-long = refl;
+    prices-long = refl;
+    whole = λ fs qs end d. into_blank _ 17 x (bits 25 map) (rw (length-bits 25 map) d);
+  }
 
-    pub passed-next : (e p after : ℕ) → i < 25 → SlotTaken bs w x next (bit (names map (i + 1))) e p after → Passed (set energies i e) (set prices i p) after (i + 1)
-    passed-next e p after h s = record {
-      energies-long = length-set energies i e ∙ c.energies-long;
-      prices-long = length-set prices i p ∙ c.prices-long;
-      within = omega arith;
-      whole = λ es ps end d. rw (
-        add-one i,
-        take-suc-set energies i e (omega (arith, c.energies-long)),
-        take-suc-set prices i p (omega (arith, c.prices-long)),
-        append_assoc (take i energies) (e ∷ []) es,
-        append_assoc (take i prices) (p ∷ []) ps,
-      )
-          (c.whole (e ∷ es) (p ∷ ps) end (rw (left h, ← hour-bit map i h) (more s (rw (add-one i) at d))));
+  module _ {reader : Reader} {energies prices : List ℕ} {rest : ℕ} (i : Midway old x map reader energies prices rest) where
+    pub midway_next : {e p middle h rest' : ℕ} {after : Reader} → FirstHour rest h rest' → after.message ≡ old.message
+        → Takes (bits_of old.message.now) reader.at 17 e middle → Takes (bits_of old.message.now) middle (price_width x) p after.at
+        → Midway old x map after (set_at energies h e) (set_at prices h p) rest'
+    midway_next {e} {p} {h} {rest'} t m s u = record {
+      same = m;
+      small = omega (arith, i.small, first-less rest h rest' t);
+      energies-long = length-set energies h e ∙ i.energies-long;
+      prices-long = length-set prices h p ∙ i.prices-long;
+      whole = λ fs qs end d. i.whole fs qs end (rw (here t)
+          (into_first _ 17 x h (bits (24 - h) rest') energies prices s u (omega (arith, t.within, i.energies-long)) (omega (arith, t.within, i.prices-long)) (rw (gone t) at d)));
     }
 
-    pub passed-all : 25 ≤ i → All energies prices next
-    passed-all h =
-        rw (← take_all i energies (omega (arith, c.energies-long)), ← take_all i prices (omega (arith, c.prices-long)), ← append-nil (take i energies), ← append-nil (take i prices))
-        (c.whole [] [] next (rw (drop_of_length-le (hour_bits map) {i = i} (rw (long map) h)) none))
-
--- the same of form 1, by a reader that stands at the next hour's slot
-pub record Midway (old : Reader) (x : Bool) (map : ℕ) (reader : Reader) (energies prices : List ℕ) (i : ℕ) : Type 0 where
-  pub same : reader.message ≡ old.message
-  pub passed : Passed (bits_of old.message.now) 17 x map old.at energies prices reader.at i
+    pub midway_end : rest ≡ 0 → SlotsTaken (bits_of old.message.now) 17 x (hour_bits map) old.at energies prices reader.at
+    unfolding hour_bits
+    midway_end z = i.whole energies prices reader.at
+        (rw (z, bits-zero) (rw i.energies-long at (into_none (bits_of old.message.now) 17 x energies prices {at = reader.at} (omega (arith, i.energies-long, i.prices-long)))))

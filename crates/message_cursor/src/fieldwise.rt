@@ -1,55 +1,34 @@
 // A lodging message read field by field, by a reader set over it.
-ghost use Rattle.std.specs.Prelude.{◌≡◌};
-ghost use Rattle.rules.specs.Message.{form1, bit, bits_of, hour_bits, message_of, read as reading};
+ghost use Rattle.std.specs.Prelude.{◌≡◌, ◌^◌, ◌<◌, replicate};
+ghost use Rattle.rules.specs.Message.{form1, bits_of, hour_bits, message_of, read as reading};
 ghost use Rattle.message.specs.View.{fields_as, reading_as, reading_of};
-ghost use Rattle.message_cursor.specs.Taking.{SlotTaken, SlotsTaken};
+ghost use Rattle.message_cursor.specs.Taking.{SlotsTaken};
 
 use crate::Reader;
 use message::form::price_width;
-use message::judge::{bad_fields, named};
+use message::hours::Hours;
+use message::judge::bad_fields;
 use message::{Fields, NO_FIELDS, Reading};
 use message_ranges::bad_map;
 use message_reader::{bad_form, top_of};
-use rules::HOURS;
 use rules::row::Row;
 
-// An hour's energy and price.
-#[derive(Clone, Copy)]
-struct Slot {
-    energy: u32,
-    price: u32,
-}
-
-// The next slot: energy 17, "and for an offer price 15". An hour that is not named has none.
-fn take_slot(reader: &mut Reader, execution: bool, named: bool) -> Slot
-    ensures taken { SlotTaken (bits_of reader.old.message.now) form1.width execution reader.old.at (bit named) result.energy result.price reader.new.at }
-    ensures same { reader.new.message ≡ reader.old.message }
-{
-    if named {
-        let energy = reader.take(17);
-        let price = reader.take(price_width(execution));
-        Slot { energy, price }
-    } else {
-        Slot {
-            energy: 0,
-            price: 0,
-        }
-    }
-}
-
-// Fills in every hour's energy and price, after the fields before the slots were taken. The index is the hour's, in the map and in two arrays of C's struct.
+// Fills in the energy and the price of each hour that the map names, "energy 17, and for an offer price 15", after the fields before the slots
+// were taken. The others stay 0.
 fn take_hours(reader: &mut Reader, m: &mut Fields)
+    requires map { m.old.map < 2 ^ 25 }
+    requires energies { m.old.energies ≡ replicate 25 0 }
+    requires prices { m.old.prices ≡ replicate 25 0 }
     ensures taken { SlotsTaken (bits_of reader.old.message.now) form1.width m.old.execution (hour_bits m.old.map) reader.old.at m.new.energies m.new.prices reader.new.at }
     ensures others { m.new ≡ record m.old { energies = m.new.energies; prices = m.new.prices } }
 {
     let execution = m.execution;
-    let map = m.map;
+    let hours = Hours::of(m.map);
     let energies = &mut m.energies;
     let prices = &mut m.prices;
-    for i in 0..HOURS {
-        let slot = take_slot(reader, execution, named(map, i + 1));
-        energies[i] = slot.energy;
-        prices[i] = slot.price;
+    for h in hours {
+        energies[h] = reader.take(17);
+        prices[h] = reader.take(price_width(execution));
     }
 }
 

@@ -1,9 +1,13 @@
 -- What is taken one after the other is what the rules read.
 use Rattle.std.proofs.Common.{arith, refl, ◌∙◌}
 use Rattle.rules.specs.Message.{form1, form_of}
+use Rattle.rules.proofs.BitLaws.{bits_of-under, field_lt}
 use Rattle.message_cursor.specs.Taking.{taken}
 use Rattle.message_cursor.proofs.ReadLaws.{none-taken, step, taken-read}
 use Rattle.message_cursor.proofs.fieldwise.fields_of.Goals as goal
+
+pub take_hours-requires-clause-map : goal.take_hours-requires-clause-map
+take_hours-requires-clause-map c = rw c.take-map.ensures.value (field_lt _ 25 (bits_of-under _))
 
 pub returns : goal.returns
 unfolding form_of
