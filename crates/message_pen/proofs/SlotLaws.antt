@@ -123,10 +123,6 @@ slots_of-none w m map e = rw (e, slots-none w m.key.execution 25 m.energies m.pr
 
 -- The number of a slot
 
-pub slot-width : (w : ℕ) (x : Bool) (p : ℕ) → p ≡ price_width x → w + p ≡ slot_width w x
-unfolding slot_width
-slot-width w x p e = ap (λ n. w + n) e
-
 pub slot-execution : (w : ℕ) (x : Bool) (e p : ℕ) → x ≡ true → SlotFits w x e p → SlotWord w x e p e
 unfolding slot_width price_width slot
 slot-execution w true e p t f = record { small = rw (add-zero w) f.energy; bits = rw (add-zero w, no_bits p) (sym (append-nil (bits w e))) }

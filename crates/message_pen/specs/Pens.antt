@@ -43,8 +43,10 @@ pub record AppendedAt (old : List ℕ) (p : Place) (bs : List ℕ) (new : List �
   pub byte : r.acc < 256
   pub same : (rest : List ℕ) → completed_at new r rest ≡ completed_at old p (bs ++ rest)
 
-abbrev pub Appended : Pen → List ℕ → Pen → Type 0
-Appended p bs r = AppendedAt p.buffer.now (place_of p) bs r.buffer.now (place_of r)
+-- the pen stays at its buffer, and bits `bs` are appended there
+pub record Appended (p : Pen) (bs : List ℕ) (r : Pen) : Type 0 where
+  pub same : r.buffer.ghost_name ≡ p.buffer.ghost_name
+  pub at : AppendedAt p.buffer.now (place_of p) bs r.buffer.now (place_of r)
 
 -- fields that are not refused
 pub record InRanges (m : M.Fields) : Type 0 where

@@ -11,9 +11,9 @@ use message::Fields;
 // A message being written into the caller's buffer: `pos` bits so far, of which the last pos % 8 are no whole byte yet and wait in the low bits of `acc`.
 #[derive(Drop)]
 pub struct Pen<'a> {
-    buffer: &'a mut [u8],
-    pos: usize,
-    acc: u64,
+    pub buffer: &'a mut [u8],
+    pub pos: usize,
+    pub acc: u64,
 }
 
 impl<'a> Pen<'a> {
@@ -52,8 +52,7 @@ impl<'a> Pen<'a> {
         requires room { Room self.old w }
         requires width { w ≤ 40 }
         requires fits { v < 2 ^ w }
-        ensures same_reference { self.new.buffer.ghost_name ≡ self.old.buffer.ghost_name }
-        ensures appended { Appended self.old (bits w v) self.new }
+        ensures { Appended self.old (bits w v) self.new }
     {
         let all = (self.acc << w) + v;
         let n = self.pos % 8 + w;

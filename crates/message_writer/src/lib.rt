@@ -7,7 +7,7 @@ ghost use Rattle.rules.specs.Message.{buffer_after};
 ghost use Rattle.message.specs.View.{fields_in, written_as, written_of};
 ghost use Rattle.message_pen.specs.Pens.{Appended, InRanges, Room, slots_of};
 
-use message::form::{length_for, price_width};
+use message::form::{length_for, slot_width};
 use message::hours::Hours;
 use message::judge::bad_fields;
 use message::{Fields, Written};
@@ -20,8 +20,7 @@ use rules::row::Row;
 fn put_head(m: &Fields, pen: &mut Pen<'_>)
     requires ranges { InRanges (fields_in m.now) }
     requires room { Room pen.old 64 }
-    ensures same_reference { pen.new.buffer.ghost_name ≡ pen.old.buffer.ghost_name }
-    ensures appended { Appended pen.old (head_bits form1 (fields_in m.now)) pen.new }
+    ensures { Appended pen.old (head_bits form1 (fields_in m.now)) pen.new }
 {
     pen.put_bits(head_word(m), 39);
     pen.put_bits(u64::from(m.map), 25);
@@ -31,10 +30,9 @@ fn put_head(m: &Fields, pen: &mut Pen<'_>)
 fn put_hours(m: &Fields, pen: &mut Pen<'_>)
     requires ranges { InRanges (fields_in m.now) }
     requires room { Room pen.old (length (slots_of form1.width (fields_in m.now) m.now.map)) }
-    ensures same_reference { pen.new.buffer.ghost_name ≡ pen.old.buffer.ghost_name }
-    ensures appended { Appended pen.old (slots_of form1.width (fields_in m.now) m.now.map) pen.new }
+    ensures { Appended pen.old (slots_of form1.width (fields_in m.now) m.now.map) pen.new }
 {
-    let width = 17 + price_width(m.execution);
+    let width = slot_width(m.execution);
     for h in Hours::of(m.map) {
         let word = slot_word(m.execution, m.energies[h], m.prices[h]);
         pen.put_bits(word, width);

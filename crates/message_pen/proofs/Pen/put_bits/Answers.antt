@@ -6,7 +6,9 @@ use Rattle.message_pen.proofs.Pen.put_bits.Goals as goal
 pub overflow_add-all : goal.overflow_add-all
 overflow_add-all c = record { fits = shift_fits _ _ _ c.requires.room.byte c.requires.width c.requires.fits }
 
-pub returns-clause-appended : goal.returns-clause-appended
-returns-clause-appended c =
-    rw (ap (λ p. p.pos) c.put_bytes.ensures.place)
-    (put-appended _ (place_of c.args.self.now) c.args.v c.args.w _ c.requires.fits (shift-whole _ _ c.requires.room.byte c.requires.width) _ c.put_bytes.ensures.buffer)
+pub returns : goal.returns
+returns c = record {
+  same = c.put_bytes.ensures.same_reference;
+  at = rw (ap (λ p. p.pos) c.put_bytes.ensures.place)
+      (put-appended _ (place_of c.args.self.now) c.args.v c.args.w _ c.requires.fits (shift-whole _ _ c.requires.room.byte c.requires.width) _ c.put_bytes.ensures.buffer);
+}
