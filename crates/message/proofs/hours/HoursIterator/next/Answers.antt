@@ -9,7 +9,9 @@ overflow_sub-self-2 c =
     omega (arith, one_shifted (31 - count_leading_zeros 32 c.self.inside.left) (omega arith))
 
 pub overflow_sub-result : goal.overflow_sub-result
-overflow_sub-result c = (leading c.self.inside.left (pos_of_ne-zero c.if-self-eq0.false) c.self.invariant).0
+overflow_sub-result c =
+    let l = leading c.self.inside.left (pos_of_ne-zero c.if-self-eq0.false) c.self.invariant in
+    omega (arith, l.0, l.1)
 
 pub returns-clause-steps : goal.returns-clause-steps
 returns-clause-steps c =
