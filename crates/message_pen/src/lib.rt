@@ -30,8 +30,7 @@ impl<'a> Pen<'a> {
         }
     }
 
-    // The last n bytes of v, highest first, from byte `from` on. Four are by themselves, since their copy is compiled to one store, and a
-    // slot of an offer has four.
+    // The last n bytes of v, highest first, from byte `from` on.
     fn put_bytes(&mut self, from: usize, v: u64, n: usize)
         requires eight { n ≤ 8 }
         requires room { from + n ≤ length self.old.buffer.now }
@@ -40,11 +39,7 @@ impl<'a> Pen<'a> {
         ensures buffer { self.new.buffer.now ≡ stored self.old.buffer.now from v n }
     {
         let bytes = v.to_be_bytes();
-        if n == 4 {
-            self.buffer[from..from + 4].copy_from_slice(&bytes[4..]);
-        } else {
-            self.buffer[from..from + n].copy_from_slice(&bytes[8 - n..]);
-        }
+        self.buffer[from..from + n].copy_from_slice(&bytes[8 - n..]);
     }
 
     // v in w bits after those that are written. Whole bytes are stored, the rest waits.
