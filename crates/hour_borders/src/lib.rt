@@ -1,7 +1,7 @@
 // Energy at the borders in one hour: directions, flows, maxima, excesses (document 01, "Split" and "Withdrawal step").
 #![tactic(auto)]
 
-ghost use Rattle.std.specs.Prelude.{◌≡◌, Bool, List, Option, None, map, cond, ℕ, ◌≤◌, ◌<◌, get_or, length, ltb};
+ghost use Rattle.std.specs.Prelude.{◌≡◌, Bool, List, Option, None, map, ℕ, ◌≤◌, ◌<◌, get_or, length, ltb};
 ghost use Rattle.std.specs.List.{list_any};
 ghost use Rattle.std.specs.Fn.{FnReturnsAt};
 ghost use Rattle.rules.specs.Lists.{All, sum_of};
@@ -70,7 +70,8 @@ fn flows<T, F: Fn(&T) -> Amount>(holders: &[T], of: F) -> [u32; 10]
 }
 
 // What is matched, by way. Three functions over `flows`, market, legacy and executions: each says what it gives in the rules' words for a
-// list of its own, which one of a trait could not say more plainly.
+// list of its own, which one of a trait could not say more plainly. That a list is short and its energies in range is asked: a slice's type
+// has neither.
 pub fn market_flows(offers: &[Offer]) -> [u32; 10]
     requires few { length offers.now ≤ 128 }
     requires in_range { All MatchedInRange (offers_in offers.now) }
@@ -115,7 +116,9 @@ fn flow_at(flows: &[u32; 10], w: usize) -> Flow
 }
 
 // The market maximum of the direction at an index. "A direction without capacity has no maximum". The index is a number, and the flows are
-// arrays of ten as the session has them: neither type tells that the index is one of theirs, or that flows are small enough to be added.
+// arrays of ten as the session has them: neither type tells that the index is one of theirs, or that flows are small
+// enough to be added, and a type for either would be opened at each of the session's arrays. Split's own function has the two of a direction as
+// `Flow`s, so that the three kinds of flows come together here alone.
 fn maximum_at(
     w: usize,
     capacity: Option<u32>,

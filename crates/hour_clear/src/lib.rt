@@ -2,7 +2,7 @@
 #![tactic(auto)]
 
 ghost use Rattle.std.specs.Prelude.{◌≡◌, ◌≤◌, [], map, length};
-ghost use Rattle.hour_offers.specs.View.{offers_in, executions_in};
+ghost use Rattle.hour_offers.specs.View.{offers_in};
 ghost use Rattle.hour.specs.Ready.{figures_of};
 ghost use Rattle.hour.specs.View.{fresh_in};
 

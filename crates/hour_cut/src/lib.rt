@@ -1,7 +1,7 @@
 // Executions cut back to what the borders leave them (document 01, "Executions").
 #![tactic(auto)]
 
-ghost use Rattle.std.specs.Prelude.{◌≡◌, List, Option, ℕ, ◌+◌, ◌≤◌, ◌<◌, get_or, length, map};
+ghost use Rattle.std.specs.Prelude.{◌≡◌, List, Option, ℕ, ◌+◌, ◌≤◌, ◌<◌, get_or, length};
 ghost use Rattle.rules.specs.Lists.{All, Each};
 ghost use Rattle.rules.specs.Match.{Offer};
 ghost use Rattle.rules.specs.Executions.{less_each, cut_all};
@@ -34,7 +34,8 @@ fn reduce(executions: &mut [Execution], lost: &[u32])
     }
 }
 
-// The executions after cuts, by the flows of the final match and of the executions before the cut.
+// The executions after cuts, by the flows of the final match and of the executions before the cut. A slice's type does not tell that these are few and
+// in range.
 pub fn cut(
     executions: &mut [Execution],
     capacities: &[Option<u32>; 10],

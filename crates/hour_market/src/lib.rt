@@ -25,7 +25,8 @@ pub struct Market {
 }
 
 // The market of an hour: first match, Split, withdrawal. `executions` are the flows of the hour's executions. "Split figures stay those of
-// the first match". What an offer has as matched at entry is not looked at.
+// the first match". What an offer has as matched at entry is not looked at. A slice of offers and arrays of ten as
+// the session has them: no type of theirs tells that energies are in range.
 pub fn clear(offers: &mut [Offer], capacities: &[Option<u32>; 10], executions: &[u32; 10]) -> Market
     requires sound { SoundUnmatched (offers_in offers.old) }
     requires capacities_small { (w : ℕ) → w < 10 → get_or (energies_of capacities.now) w 0 < 2147483648 }

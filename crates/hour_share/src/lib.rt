@@ -41,7 +41,7 @@ fn pro_rata(r: u32, g: u32, m: u32) -> u32
     floor as u32
 }
 
-// The sum of some energies.
+// The sum of some energies. That they are few and in range is asked, here and below: a slice's type has neither.
 fn total(energies: &[u32]) -> u32
     requires few { length energies.now ≤ 128 }
     requires ranged { Ranged energies.now }

@@ -50,7 +50,8 @@ fn add(sums: &mut [u64; HOURS], row: &[u32; HOURS])
     }
 }
 
-// The energies by hour of those that are counted, added up: of so few none wraps.
+// The energies by hour of those that are counted, added up: of so few none wraps. Indices are asked to be those of the energies: a list of
+// numbers has no type that tells of which slice.
 pub fn sums_of(energies: &[Energies], counted: &[usize]) -> [u64; HOURS]
     requires { IndicesIn energies.now counted.now }
     ensures { SumsAt energies.now counted.now result × Below 128 result }

@@ -17,7 +17,7 @@ use rules::row::Row;
 use session::units::holder_of;
 use session::{Holder, Key, Lodgement, Session};
 
-// The key of a message.
+// The key of a message: no `From`, since neither type is this crate's.
 pub fn key_of(m: &Fields) -> Key
     ensures { result ≡ key_for m.now }
 {

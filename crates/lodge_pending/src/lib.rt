@@ -1,7 +1,7 @@
 // A message that is read, before its energy is judged: the row that refuses it, or what its judgement by the limits looks at.
 #![tactic(auto)]
 
-ghost use Rattle.std.specs.Prelude.{◌≡◌, IfOk};
+ghost use Rattle.std.specs.Prelude.{IfOk};
 ghost use Rattle.session.specs.Parts.{Within};
 ghost use Rattle.lodge_judge.specs.Judging.{GivesRow};
 ghost use Rattle.lodge_pending.specs.Awaiting.{Found, Pends};

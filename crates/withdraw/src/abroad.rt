@@ -18,7 +18,7 @@ pub struct Abroad {
 }
 
 impl Abroad {
-    // Those of an hour's offers that are at a border.
+    // Those of an hour's offers that are at a border. A slice's type does not tell that they are at most 128.
     pub fn of(offers: &[Offer]) -> Abroad
         requires { length offers.now ≤ 128 }
         ensures { Beside (offers_in offers.now) result }

@@ -61,7 +61,8 @@ fn remaining(over: &[u32; 10], group: Group, offer: &Offer, deduction: u32) -> u
     }
 }
 
-// What each offer loses in all directions passed. That offers are at most 128 is asked: their slice's type has no length.
+// What each offer loses in all directions passed. That offers are at most 128 is asked of a slice, which an hour's list and those
+// at a border are both lent as.
 fn deductions(over: &[u32; 10], group: Group, offers: &[Offer]) -> ArrayVec<u32, LODGEMENTS>
     requires few { length offers.now ≤ 128 }
     requires in_range { All (λ o. o.matched ≤ max_energy) (offers_in offers.now) }
