@@ -30,7 +30,7 @@ pub struct DayEnd {
 }
 
 // The hour at index k, `holders` being those of the standing lodgements. An hour that no session of calls has, one that is not ready, gets
-// figures of 0.
+// figures of 0. `Within` is asked: a session is C's struct, so no type of this repository's can say it.
 fn clear_hour(s: &Session, holders: &[Holder], k: usize) -> HourEnd
     requires { Within s.now × (length holders.now ≤ 128) × (k < 25) }
     ensures { Holders s.now holders.now → HourAs s.now k result }
@@ -48,7 +48,7 @@ fn clear_hour(s: &Session, holders: &[Holder], k: usize) -> HourEnd
     }
 }
 
-// Every hour of the day, 1 to H. The index is the hour's, in the session and in the figures.
+// Every hour of the day, 1 to H. The loop is by index: it is the hour's, in several arrays of C's session and in the figures.
 fn clear_hours(s: &Session) -> DayEnd
     requires { Within s.now }
     ensures { HoursAs s.now s.now.hours result.figures result.steps }

@@ -2,30 +2,23 @@
 #![tactic(auto)]
 
 ghost use Rattle.std.specs.Prelude.{◌≡◌, ◌&&◌, ◌≤◌, ◌<◌, ltb, take, map, length};
-ghost use Rattle.std.specs.List.{find};
 ghost use Rattle.rules.specs.Lists.{from};
-ghost use Rattle.session.specs.Parts.{number_is};
 ghost use Rattle.clear_gather.specs.Built.{unit_among, holder_of, capacity_on, Built};
 
 use arrayvec::ArrayVec;
 use hour::Hour;
 use hour_offers::{Execution, Holder, Offer};
 use rules::{DIRECTIONS, LODGEMENTS};
-use session::{Lodgement, Notice, Session, Unit, Verdict};
-
-// The unit with a number among some units, where one has it.
-fn unit_with(units: &[Unit], number: u32) -> Option<Unit>
-    ensures { result ≡ find (number_is number) units.now }
-{
-    units.iter().copied().find(|u| u.number == number)
-}
+use session::{Lodgement, Notice, Session, Unit, Verdict, units};
 
 // The unit with a number among some units; of a number that none has, a unit with nothing.
-#[tactic(auto, using(crate::proofs::HolderLaws::found_first), unfolding(crate::specs::Built::unit_among))]
 fn unit_among(units: &[Unit], number: u32) -> Unit
     ensures { result ≡ unit_among units.now number }
 {
-    unit_with(units, number).unwrap_or(session::no_unit())
+    match units::holder_of(units, number) {
+        Some(found) => found.unit,
+        None => session::no_unit(),
+    }
 }
 
 // Whose a lodgement's energies are.
@@ -62,7 +55,8 @@ fn counted(verdict: &Verdict, energy: u32) -> bool
     verdict.accepted && 0 < energy
 }
 
-// The capacity of the direction at a way in the hour at index k: "Absent means no maximum", and border 0 has none.
+// The capacity of the direction at a way in the hour at index k: "Absent means no maximum", and border 0 has none. The row and the hour are
+// indices of C's arrays, whose bounds no type of these indices has.
 #[tactic(auto, unfolding(crate::specs::Built::capacity_on))]
 fn capacity_on(notices: &[Notice; DIRECTIONS], k: usize, way: usize) -> Option<u32>
     requires { (k < 25) × (way < 10) }
@@ -84,7 +78,7 @@ fn capacities_at(notices: &[Notice; DIRECTIONS], k: usize) -> [Option<u32>; 10]
 }
 
 // The hour at index k: its accepted offers and executions by rising lodging number, and its published capacities. `holders` are those
-// of the standing lodgements (`holders_of`).
+// of the standing lodgements (`holders_of`), at the index of each, which is also the lodgement's in four arrays of the session, as C has it.
 pub fn hour_at(s: &Session, holders: &[Holder], k: usize) -> Hour
     requires { (length holders.now ≤ 128) × (k < 25) }
     ensures { Built s.now holders.now k result }

@@ -92,7 +92,7 @@ impl Slots {
         held.energy_of(unit) + energy_among(unit, self.others.as_slice())
     }
 
-    // Each unit's, at the unit's index.
+    // Each unit's, at the unit's index. By index: there may be fewer units than places, so `from_fn` would have to test each index.
     fn by_unit(&self, units: &[Unit]) -> [u32; UNITS]
         requires units { length units.now ≤ 64 }
         ensures { result ≡ pad 64 0 (map (λ u. energy_in u.number self.now) units.now) }
@@ -105,15 +105,11 @@ impl Slots {
     }
 }
 
-// Maxima by way, 0 where there is none.
+// Maxima by way, as C's figures have them: 0 where there is none.
 fn plain(maxima: &[Option<u32>; 10]) -> [u32; 10]
     ensures { result ≡ map (λ m. unwrap_or m 0) maxima.now }
 {
-    let mut energies = [0; 10];
-    for (way, maximum) in maxima.iter().enumerate() {
-        energies[way] = maximum.unwrap_or(0);
-    }
-    energies
+    maxima.map(|maximum| maximum.unwrap_or(0))
 }
 
 // What the session keeps of an hour's figures, `units` being those registered.

@@ -1,7 +1,7 @@
 use Rattle.std.proofs.Common.{arith, refl}
 use Rattle.rules.proofs.ListLaws.{all-at}
 use Rattle.hour_match.specs.Walks.{named}
-use Rattle.withdraw.proofs.PlaceLaws.{renew-more, renew-end}
+use Rattle.withdraw.proofs.PlaceLaws.{renew-more}
 use Rattle.withdraw.proofs.abroad.renew.Goals as goal
 
 pub loop-k-init : goal.loop-k-init
@@ -16,6 +16,3 @@ offset_bounds-offers-i c = let g = c.well_formed in let i = bounds-offers-i c in
 
 pub loop-k-preserved : goal.loop-k-preserved
 loop-k-preserved c = renew-more c.args.offers.now c.args.places.now c.loop-k.k c.loop-k.abroad c.args.abroad.now c.loop-k-test.true c.requires.same_length c.loop-k.invariant
-
-pub returns : goal.returns
-returns c = renew-end c.args.offers.now c.args.places.now c.loop-k.k c.loop-k.abroad c.args.abroad.now (omega arith) c.requires.same_length c.loop-k.invariant

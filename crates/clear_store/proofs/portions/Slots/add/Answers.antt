@@ -15,9 +15,3 @@ unfolding energy_in
 returns-else-held-eq0-clause-sums c u =
     let a = c.args in
     rw c.push.ensures.items (omega (arith, sum_by_push (energy_of u) a.self.now.others.items a.portion))
-
-pub returns-else-held-eq0-clause-kept_after : goal.returns-else-held-eq0-clause-kept_after
-returns-else-held-eq0-clause-kept_after c k kept = record {
-  room = λ i. omega (arith, kept.room i);
-  few = omega (arith, c.push.ensures.len, kept.few);
-}

@@ -1,10 +1,7 @@
-use Rattle.std.proofs.Common.{arith, refl, ◌∙◌}
+use Rattle.std.proofs.Common.{arith, ◌∙◌}
 use Rattle.withdraw.proofs.PlaceLaws.{place-taken, place-left, places-end, offer-taken, offer-left, offers-end}
 use Rattle.withdraw.proofs.abroad.Abroad.of.Goals as goal
 use Rattle.withdraw.proofs.abroad.Abroad.of.Goals.{then-offer-gt0, else-offer-gt0}
-
-pub loop-i-init : goal.loop-i-init
-loop-i-init c = rw (c.new-places.ensures, c.new-abroad.ensures) record { few_places = omega arith; few_offers = omega arith; places = refl; offers = refl }
 
 pub loop-i-preserved : goal.loop-i-preserved
 loop-i-preserved c =
