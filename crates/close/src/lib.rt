@@ -14,7 +14,7 @@ use session::{Effect, Session, Verdict};
 use session_changes::{Call, ClosingChange, Step, run};
 
 // The verdicts of the standing lodgements: "normal executions, default executions, offers". It is all that closing changes
-// beside the mark.
+// beside the mark. `Within` is what `Session::sound` has told.
 fn verdicts(s: &Session) -> [Verdict; LODGEMENTS]
     requires { Within s.now }
     ensures { Entered s.now close (closed_effect s.now result) }
@@ -48,9 +48,10 @@ impl Call for GateClosing {
     }
 
     fn enter(&self, s: &Session, _found: ()) -> Step<ClosingChange> {
-        let verdicts = verdicts(s);
         Step {
-            change: ClosingChange { verdicts },
+            change: ClosingChange {
+                verdicts: verdicts(s),
+            },
             answer: Response::accepted(),
         }
     }

@@ -67,6 +67,7 @@ pub fn accepted() -> Verdict
 }
 
 impl<'a> Standing<'a> {
+    // `Within` is what `Session::sound` has told.
     pub fn of(session: &'a Session) -> Standing<'a>
         requires { Within session.now }
         ensures { result.session ≡ session.entry }
