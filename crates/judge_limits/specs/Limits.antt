@@ -1,8 +1,8 @@
 -- What a unit, its notice and the capacities of a session say, and the judgement by their limits.
-use Rattle.std.specs.Prelude.{ℕ, Bool, true, false, cond, List, [], ◌∷◌, map, replicate, Some, None}
+use Rattle.std.specs.Prelude.{ℕ, Bool, cond, List, [], ◌∷◌, map, replicate, Some, None}
 use Rattle.std.proofs.Math.Option.{Option, some, none}
 use Rattle.rules.specs.Lists.{hourly}
-use Rattle.rules.specs.Refusals.{Row, first_row}
+use Rattle.rules.specs.Refusals.{first_row}
 use Rattle.rules.specs.Rows.{number_of}
 use Rattle.rules.specs.declared.row.Row.TheVariants.{Maximum, Available, Border}
 use Rattle.rules.specs.Units.{Registered, Lines}
@@ -30,17 +30,6 @@ lines_in cs = record { capacities = map notice_in cs }
 -- The judgement: the first of the limits that is passed, with the lowest hour in which it is.
 unfoldable pub judged_in : Unit → Notice → List Notice → Bool → ℕ → List ℕ → (ℕ → ℕ) → Option (ℕ × ℕ)
 judged_in u n cs only H own load = given_by (first_row (limit_rows H own load (judged_by (lines_in cs) (registered_in u n) only)))
-
--- the row of a limit by the hour in which it is passed, if it is
-abbrev pub row_at : ℕ → O.Option ℕ → Row
-row_at n = elim [
-  | None ↦ record { number = n; hour = 0; applies = false }
-  | Some h ↦ record { number = n; hour = h; applies = true }
-]
-
--- the row that is given, by the lowest hours in which 10, 11 and 12 are passed
-unfoldable pub lowest_row : O.Option ℕ → O.Option ℕ → O.Option ℕ → Option (ℕ × ℕ)
-lowest_row ten eleven twelve = given_by (first_row (row_at 10 ten ∷ row_at 11 eleven ∷ row_at 12 twelve ∷ []))
 
 -- a limit by hour in an hour, none where it does not apply
 unfoldable pub border_at : O.Option (List ℕ) → ℕ → Option ℕ

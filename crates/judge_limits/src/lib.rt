@@ -5,7 +5,7 @@ ghost use Rattle.std.specs.Prelude.{◌≡◌, cond, map, ℕ, ◌+◌, ◌<◌,
 ghost use Rattle.rules.specs.Units.{border_sum};
 ghost use Rattle.judge_loads.specs.Loads.{IndicesIn, load_by};
 ghost use Rattle.session.specs.Parts.{said};
-ghost use Rattle.judge_limits.specs.Limits.{notice_in, lowest_row, limits_for, first_passed, border_at};
+ghost use Rattle.judge_limits.specs.Limits.{notice_in, limits_for, first_passed, border_at};
 
 use answer::Refusal;
 use judge_loads::lowest_hour;
@@ -54,20 +54,6 @@ pub fn border_limit(border: u32, capacities: &[Notice; DIRECTIONS]) -> Option<[u
         return None;
     }
     Some(together(&export.energies, &import.energies))
-}
-
-// "The lowest applicable number is given": the first limit that is passed in an hour.
-#[tactic(auto, unfolding(crate::specs::Limits::lowest_row, rules::specs::Refusals::first_row, session::specs::Parts::given_by))]
-pub fn lowest_row(ten: Option<u32>, eleven: Option<u32>, twelve: Option<u32>) -> Result<(), Refusal>
-    ensures { said result ≡ lowest_row ten eleven twelve }
-{
-    let (row, hour) = match (ten, eleven, twelve) {
-        (Some(hour), _, _) => (Row::Maximum, hour),
-        (_, Some(hour), _) => (Row::Available, hour),
-        (_, _, Some(hour)) => (Row::Border, hour),
-        _ => return Ok(()),
-    };
-    Err(Refusal { row, hour })
 }
 
 // A limit by hour, none where it does not apply, and the row that refuses what passes it.
