@@ -1,10 +1,7 @@
-use mathlib.Core.Path.{refl, sym, ◌∙◌}
+use mathlib.Core.Path.{sym, ◌∙◌}
 use native.Mathlib.Omega.{arith}
 use Rattle.judge_limits.proofs.RowLaws.{at-absent, at-passed, at-kept, at-end}
 use Rattle.judge_limits.proofs.judge_energy.Goals as goal
-
-pub loop-limit-init : goal.loop-limit-init
-loop-limit-init c = refl
 
 pub loop-limit-preserved-in_default : goal.loop-limit-preserved-in_default
 loop-limit-preserved-in_default c = c.loop-limit.invariant ∙ at-absent _ _ _ _ c.loop-limit.limit-index _ (omega arith) c.in_default.is

@@ -1,12 +1,9 @@
-use mathlib.Core.Path.{refl, sym, ap, ◌∙◌}
+use mathlib.Core.Path.{sym, ap, ◌∙◌}
 use native.Mathlib.Omega.{arith}
 use Rattle.judge_limits.proofs.RowLaws.{at-absent, at-passed, at-kept, at-end}
 use Rattle.lodge_limits.specs.Judging.{is_clear}
 use Rattle.lodge_limits.proofs.KeptLaws.{kept-nowhere, passed-somewhere}
 use Rattle.lodge_limits.proofs.keeps_all.Goals as goal
-
-pub loop-limit-init : goal.loop-limit-init
-loop-limit-init c = refl
 
 pub loop-limit-preserved-in_default : goal.loop-limit-preserved-in_default
 loop-limit-preserved-in_default c = c.loop-limit.invariant ∙ at-absent _ _ _ _ c.loop-limit.limit-index _ (omega arith) c.in_default.is

@@ -1,10 +1,7 @@
 use mathlib.Core.Path.{refl}
 use native.Mathlib.Omega.{arith}
-use Rattle.lodge_keys.proofs.SumLaws.{adding-start, adding-low, adding-next, adding-end, adding-below}
+use Rattle.lodge_keys.proofs.SumLaws.{adding-low, adding-next, adding-end, adding-below}
 use Rattle.lodge_keys.proofs.beside.add.Goals as goal
-
-pub loop-h-init : goal.loop-h-init
-loop-h-init c = adding-start _ _
 
 pub overflow_add-sum : goal.overflow_add-sum
 overflow_add-sum c =
