@@ -1,7 +1,6 @@
 -- The session with a message's lodgement entered.
-use Prim.Native.Nat.{ℕ, suc, ◌+◌, ◌≤◌, ◌<◌}
+use Prim.Native.Nat.{ℕ, suc, ◌+◌, ◌<◌}
 use mathlib.Core.Path.{◌≡◌, refl}
-use lib.ListN.{length}
 use Rattle.std.specs.Prelude.{Some, None}
 use Rattle.std.specs.Option.{unwrap_or}
 use Rattle.std.specs.declared.option.Option.{Option}
@@ -9,15 +8,15 @@ use native.Mathlib.Omega.{arith}
 use Rattle.rules.specs.DayBook as D
 use Rattle.message.specs.View.{fields_in}
 use Rattle.message.specs.declared.Fields.{Fields}
-use Rattle.session_changes.specs.Changes.{Indexed, standing_with}
+use Rattle.session_changes.specs.Changes.{standing_with}
 use Rattle.answer.specs.Told.{told, is_refusal, numbered}
 use Rattle.session.specs.declared.Session.{Session}
 use Rattle.session_changes.specs.Effects.{done}
 use Rattle.session_changes.specs.declared.Step.{Step}
 use Rattle.session_changes.specs.declared.StandingChange.{StandingChange}
 use Rattle.session.proofs.ImageLaws.{last_as}
-use Rattle.lodge_keys.specs.Keys.{key_for, key_index, of_key, left_of, from_at}
-use Rattle.lodge_keys.proofs.TakenLaws.{from-before, entered-image}
+use Rattle.lodge_keys.specs.Keys.{key_for, key_index, left_of, from_at}
+use Rattle.lodge_keys.proofs.TakenLaws.{entered-image}
 use Rattle.lodge_judge.specs.Judging.{Room}
 use Rattle.lodge.specs.Entries.{EnteredFields}
 
@@ -41,13 +40,8 @@ module _ (s : Session) (f : Fields) (o : Option ℕ) (at : o ≡ key_index s (ke
   left = left_of s.standing o
 
   -- the index behind those left is free
-  pub room-left : left < 128
+  room-left : left < 128
   room-left = rw at r.index
-
-  pub entering-indexed : s.standing ≤ length s.lodgements → (number : ℕ) → Indexed (entering f (from_at s.standing o) left number).change
-  entering-indexed fit number =
-      let b : from_at s.standing o ≤ left = rw at (from-before (of_key (key_for f)) s.lodgements s.standing fit) in
-      record { forward = b; to = room-left; at = room-left }
 
   pub entered : EnteredFields s f (done standing_with s (entering f (from_at s.standing o) left (s.last + 1)))
   unfolding told is_refusal D.entry

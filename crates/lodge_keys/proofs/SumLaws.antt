@@ -1,6 +1,6 @@
 -- Energies by hour, added up: the loop that adds a row, and what sums over indices are.
 use Prim.Native.Nat.{ℕ, ◌+◌, ◌*◌, ◌≤◌, ◌<◌}
-use mathlib.Core.Path.{◌≡◌, refl, ap, sym, ◌∙◌}
+use mathlib.Core.Path.{◌≡◌, ap, sym, ◌∙◌}
 use mathlib.Core.Logic.{⊎_elim}
 use mathlib.Core.List.{List, [], ◌∷◌, ◌++◌}
 use native.Mathlib.Nat.{eq-or-lt_of_le}
@@ -20,9 +20,6 @@ pub record Adding (before row after : List ℕ) (h : ℕ) : Type 0 where
   pub added : (k : ℕ) → k < h → get_or after k 0 ≡ get_or before k 0 + get_or row k 0
   pub below : (i : ℕ) → Below i before → (k : ℕ) → k < h → k < 25 → get_or after k 0 ≤ (i + 1) * 4294967295
   pub kept : (k : ℕ) → h ≤ k → get_or after k 0 ≡ get_or before k 0
-
-pub adding-start : (before row : List ℕ) → Adding before row before 0
-adding-start before row = record { added = λ k m. absurd (omega arith); below = λ i b k m. absurd (omega arith); kept = λ k m. refl }
 
 module _ (before row after : List ℕ) (h : ℕ) (p : Adding before row after h) where
   -- the next hour's sum is not added to yet

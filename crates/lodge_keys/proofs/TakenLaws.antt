@@ -7,7 +7,7 @@ use native.Mathlib.Omega.{arith}
 use lib.Dec.{eqb, ltb}
 use lib.ListN.{take, length, set, replicate, length-map}
 use lib.Seq.{set-set, length-take-le}
-use borrow.Author.Tests.{eqb-true, lt-ltb, le-ltb, ltb-true, ltb-false}
+use borrow.Author.Tests.{eqb-true, lt-ltb, le-ltb, ltb-false}
 use Rattle.rules.specs.Lists.{All, none, more, Pairwise, empty, ahead, keep, any}
 use Rattle.rules.specs.Message as M
 use Rattle.rules.specs.Lodging as L
@@ -45,10 +45,6 @@ left_in n p h = rw (lt-ltb p n h)
 left-all : (n p : ℕ) → n ≤ p → left_at n p ≡ n
 unfolding left_at
 left-all n p h = rw (le-ltb p n h)
-
-left_behind : (n p : ℕ) → p ≤ n → p ≤ left_at n p
-left_behind n p h =
-    by_bool (ltb p n) (λ e. let k = ltb-true p n e in omega (arith, left_in n p k)) (λ e. omega (arith, left-all n p (ltb-false p n e)))
 
 -- Lists in which at most one passes
 
@@ -181,12 +177,6 @@ module _ {A : Type 0} (q : A → Bool) (l : List A) (n : ℕ) (fit : n ≤ lengt
   left-as : left_of n (position q (take n l)) ≡ left_at n first
   unfolding left_at
   left-as = ap (left_of n) found-as ∙ by_bool (ltb first n) (λ t. rw t refl) (λ t. rw t refl)
-
--- How many are left, and where those behind begin
-
-module _ {A : Type 0} (q : A → Bool) (l : List A) (n : ℕ) where
-  pub from-before : n ≤ length l → from_at n (position q (take n l)) ≤ left_of n (position q (take n l))
-  from-before fit = rw (from-as q l n fit, left-as q l n fit) (left_behind n (index_of q (take n l)) (most q l n fit))
 
 -- The session: p is the key's index, m lodgements are left without it
 
