@@ -21,6 +21,7 @@ pub fn admits(row: &mut [u32; HOURS], own: &[u32]) -> bool
     if !fits(row, own) {
         return false;
     }
+    // By index: of what a zip of `iter_mut` has written no element is known, and so the proof did not close.
     for (h, energy) in own.iter().enumerate() {
         row[h] -= *energy;
     }
