@@ -112,7 +112,8 @@ fn plain(maxima: &[Option<u32>; 10]) -> [u32; 10]
     maxima.map(|maximum| maximum.unwrap_or(0))
 }
 
-// What the session keeps of an hour's figures, `units` being those registered.
+// What the session keeps of an hour's figures, `units` being those registered. Energies are asked to be those of a ready hour's figures: any caller
+// can build the type.
 pub fn stored(units: &[Unit], figures: &Figures) -> HourFigures
     requires { (length units.now ≤ 64) × All (λ o. o.matched ≤ max_energy) figures.now.offers.items
         × All (λ x. x.energy ≤ max_energy) figures.now.executions.items }

@@ -22,7 +22,7 @@ pub struct Hour {
 
 // What clearing gives: the offers with what is still offered and what is matched of each, the executions with what is executed of each;
 // by direction the market maximum where a capacity is published, and the energy of matched offers and of executions at the end, border 0
-// being domestic; the count of withdrawal steps and the price.
+// being domestic; the count of withdrawal steps and the price. Arrays by direction, as C's `HourFigures` has them.
 #[derive(Drop)]
 pub struct Figures {
     pub offers: ArrayVec<Offer, LODGEMENTS>,
