@@ -1,4 +1,9 @@
 // What is written of an answer about a date or a message.
+ghost use Rattle.std.specs.Prelude.{◌≡◌, length};
+ghost use Rattle.std.specs.Fn.{FnReturnsAt};
+ghost use Rattle.rules.specs.Message.{write as writing, buffer_after};
+ghost use Rattle.message.specs.View.{fields_in, written_as, written_of};
+
 use answer::{ClockName, Kind, Response};
 use message::{Fields, Reading};
 use rules::row::Row;
@@ -45,6 +50,7 @@ impl Told {
     // By whichever reads it.
     pub(crate) fn of<F: Fn(&[u8]) -> Reading>(message: &[u8], read: F) -> Told
         requires { F.IsAlwaysCallable read }
+        ensures { FnReturnsAt F.Fn read message.now result.0 }
     {
         Told(read(message))
     }
@@ -96,7 +102,10 @@ pub(crate) struct Written<'a> {
 }
 
 impl<'a> Written<'a> {
-    pub(crate) fn into(buffer: &'a mut [u8], fields: &Fields) -> Written<'a> {
+    pub(crate) fn into(buffer: &'a mut [u8], fields: &Fields) -> Written<'a>
+        ensures count { written_of result.count ≡ written_as (writing (length buffer.old) (fields_in fields.now)) }
+        ensures buffer { result.buffer.now ≡ buffer_after (writing (length buffer.old) (fields_in fields.now)) buffer.old }
+    {
         let count = message_writer::write_fields(fields, buffer);
         Written { count, buffer }
     }

@@ -1,15 +1,54 @@
 // An hour given line by line, cleared, and its figures shown.
+ghost use Rattle.std.specs.Prelude.{◌≡◌, ◌+◌, true, false, Some, None};
+ghost use Rattle.std.proofs.Math.IntN.{sub_ℕ};
+ghost use Rattle.figures.specs.Hours.{no_parts, with_part, put_in, cleared_of, answer_of};
+
 use arrayvec::ArrayVec;
 use hour::{Figures, Hour};
 use hour_offers::{Execution, Offer};
 use std::{fmt, mem};
+
+// A part of an hour: a lodgement, or the capacity of a border's direction.
+#[derive(Clone, Copy)]
+pub(crate) enum Part {
+    Offer(Offer),
+    Execution(Execution),
+    Capacity {
+        border: u32,
+        export: bool,
+        energy: u32,
+    },
+}
+
+// Whether an hour has room for a part, which it then has. A capacity of what is no border is passed over.
+fn takes(hour: &mut Hour, part: Part) -> bool
+    ensures taken { result ≡ true → with_part part hour.old ≡ Some hour.new }
+    ensures full { result ≡ false → with_part part hour.old ≡ None }
+{
+    match part {
+        Part::Offer(offer) => hour.offers.try_push(offer).is_ok(),
+        Part::Execution(execution) => hour.executions.try_push(execution).is_ok(),
+        Part::Capacity {
+            border,
+            export,
+            energy,
+        } => {
+            if border < 5 {
+                hour.capacities[hour_borders::way(border, export)] = Some(energy);
+            }
+            true
+        }
+    }
+}
 
 // The hour that is being given; none after more lodgements than an hour has room for.
 #[derive(Drop)]
 pub(crate) struct NextHour(Option<Hour>);
 
 impl NextHour {
-    pub(crate) fn new() -> NextHour {
+    pub(crate) fn new() -> NextHour
+        ensures { result.0 ≡ Some no_parts }
+    {
         NextHour(Some(Hour {
             offers: ArrayVec::new(),
             executions: ArrayVec::new(),
@@ -17,33 +56,21 @@ impl NextHour {
         }))
     }
 
-    pub(crate) fn offer(&mut self, offer: Offer) {
+    pub(crate) fn put(&mut self, part: Part)
+        ensures { self.new.0 ≡ put_in part self.old.0 }
+    {
         if let Some(hour) = &mut self.0 {
-            if hour.offers.try_push(offer).is_err() {
+            if !takes(hour, part) {
                 self.0 = None;
             }
-        }
-    }
-
-    pub(crate) fn execution(&mut self, execution: Execution) {
-        if let Some(hour) = &mut self.0 {
-            if hour.executions.try_push(execution).is_err() {
-                self.0 = None;
-            }
-        }
-    }
-
-    // Of a border's direction; what is no border is passed over.
-    pub(crate) fn capacity(&mut self, border: u32, export: bool, energy: u32) {
-        if border < 5
-            && let Some(hour) = &mut self.0
-        {
-            hour.capacities[hour_borders::way(border, export)] = Some(energy);
         }
     }
 
     // The hour cleared, and the next begins.
-    pub(crate) fn clear(&mut self) -> Answer {
+    pub(crate) fn clear(&mut self) -> Answer
+        ensures answer { result.0 ≡ answer_of self.old.0 }
+        ensures next { self.new.0 ≡ Some no_parts }
+    {
         let NextHour(hour) = mem::replace(self, NextHour::new());
         Answer(hour.and_then(|hour| Cleared::of(hour)))
     }
@@ -70,7 +97,9 @@ struct Cleared {
 }
 
 impl Cleared {
-    fn of(hour: Hour) -> Option<Cleared> {
+    fn of(hour: Hour) -> Option<Cleared>
+        ensures { result ≡ cleared_of hour }
+    {
         let figures = hour_clear::clear(&hour)?;
         let capacities = hour.capacities;
         Some(Cleared {
@@ -105,8 +134,10 @@ struct Balances<'a>(&'a [u32; 10]);
 impl fmt::Display for Balances<'_> {
     fn fmt<W: fmt::Write>(&self, f: &mut fmt::Formatter<W>) -> fmt::Result {
         let flows = self.0;
-        for border in 1..5 {
-            let balance = i64::from(flows[border * 2]) - i64::from(flows[border * 2 + 1]);
+        let (pairs, _) = flows.as_chunks::<2>();
+        // The first pair is domestic.
+        for [exports, imports] in pairs.iter().skip(1) {
+            let balance = i64::from(*exports) - i64::from(*imports);
             write!(f, " {balance}")?;
         }
         Ok(())
@@ -123,16 +154,17 @@ impl fmt::Display for Maxima<'_> {
             capacities,
             figures,
         } = self.0;
-        for border in 1..5 {
-            for (name, way, across) in [
-                ("export", border * 2, border * 2 + 1),
-                ("import", border * 2 + 1, border * 2),
-            ] {
-                if let (Some(capacity), Some(maximum)) = (capacities[way], figures.maxima[way]) {
-                    let market = &figures.market;
-                    let bilateral = maximum_left(capacity, market[across], market[way]);
-                    write!(f, " {border} {name} {maximum} {bilateral}")?;
-                }
+        let market = &figures.market;
+        // An hour that is cleared has no capacity of border 0.
+        for (way, maximum) in figures.maxima.iter().enumerate() {
+            if let (Some(capacity), Some(maximum)) = (capacities[way], maximum) {
+                let name = if way % 2 == 0 { "export" } else { "import" };
+                let bilateral = maximum_left(
+                    capacity,
+                    market[hour_borders::across(way)],
+                    market[way],
+                );
+                write!(f, " {} {name} {maximum} {bilateral}", way / 2)?;
             }
         }
         Ok(())
@@ -140,6 +172,8 @@ impl fmt::Display for Maxima<'_> {
 }
 
 // A direction's capacity less the final market balance: what it still carries, executions aside.
-fn maximum_left(capacity: u32, across: u32, along: u32) -> i64 {
+fn maximum_left(capacity: u32, across: u32, along: u32) -> i64
+    ensures { result ≡ sub_ℕ (capacity + across) along }
+{
     i64::from(capacity) + i64::from(across) - i64::from(along)
 }

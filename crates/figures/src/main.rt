@@ -61,16 +61,8 @@ fn answer<W: Write>(question: Question, hour: &mut NextHour, out: &mut W) -> io:
             Told::of(&message, message_cursor::fieldwise::read)
         ),
         Question::Write(room, fields) => write(room, fields, out),
-        Question::Offer(offer) => {
-            hour.offer(offer);
-            Ok(())
-        }
-        Question::Execution(execution) => {
-            hour.execution(execution);
-            Ok(())
-        }
-        Question::Capacity(border, export, energy) => {
-            hour.capacity(border, export, energy);
+        Question::Part(part) => {
+            hour.put(part);
             Ok(())
         }
         Question::Clear => writeln!(out, "{}", hour.clear()),

@@ -1,10 +1,10 @@
 // The numbers of a line.
-ghost use Rattle.std.specs.Prelude.{◌≡◌, ◌≤◌, ◌<◌, IfSome, None, Some, cond, length};
+ghost use Rattle.std.specs.Prelude.{◌≡◌, ◌≤◌, ◌<◌, IfSome, None, Some, cond, eqb, length};
 ghost use Rattle.std.specs.Iterator.{at_most};
 ghost use Rattle.std.specs.Option.{unwrap_or};
 ghost use Rattle.figures.specs.Numbers.{counts, is_digit, longer, reads};
 
-// A number above this has no digit more: it jumps to the last of 32 bits.
+// A number above this has no digit more: it jumps to the last of 32 bits. (A bound, and no number for a kind.)
 const LAST_TO_GROW: u32 = 268_435_454;
 
 // The numbers of a text to a base, 10 or 16, parted by anything that is no digit of it.
@@ -40,7 +40,11 @@ impl<'a> Numbers<'a> {
     }
 
     // A mark: 1 is yes.
-    pub(crate) fn mark(&mut self) -> bool {
+    pub(crate) fn mark(&mut self) -> bool
+        ensures base { self.new.base ≡ self.old.base }
+        ensures mark { result ≡ eqb (unwrap_or (reads self.old.base None self.old.text.now).0 0) 1 }
+        ensures rest { self.new.text.now ≡ (reads self.old.base None self.old.text.now).1 }
+    {
         self.number() == 1
     }
 }

@@ -1,4 +1,5 @@
 // What a line asks.
+use crate::hours::Part;
 use crate::numbers::Numbers;
 use arrayvec::ArrayVec;
 use calendar::{Clock, Date};
@@ -19,16 +20,14 @@ pub(crate) enum Question {
     ReadFieldwise(ArrayVec<u8, 128>),
     // A message written into so many bytes.
     Write(usize, Fields),
-    Offer(Offer),
-    Execution(Execution),
-    // Of a border and direction, true for export.
-    Capacity(u32, bool, u32),
+    // Of the next hour.
+    Part(Part),
     // The hour so given, cleared.
     Clear,
 }
 
 impl Question {
-    // None of a line that asks nothing.
+    // None of a line that asks nothing. No clause says what a line asks: that is the table of main.rt, and a contract would be these functions again.
     pub(crate) fn of(line: &[u8]) -> Option<Question> {
         let (kind, text) = line.split_first()?;
         let numbers = Numbers::decimal(text);
@@ -39,9 +38,9 @@ impl Question {
             b'r' => Some(Question::Read(bytes(text))),
             b'f' => Some(Question::ReadFieldwise(bytes(text))),
             b'w' => Some(write(numbers)),
-            b'o' => Some(offer(numbers)),
-            b'x' => Some(execution(numbers)),
-            b'k' => Some(capacity(numbers)),
+            b'o' => Some(Question::Part(offer(numbers))),
+            b'x' => Some(Question::Part(execution(numbers))),
+            b'k' => Some(Question::Part(capacity(numbers))),
             b'h' => Some(Question::Clear),
             _ => None,
         }
@@ -117,7 +116,7 @@ fn write(mut numbers: Numbers<'_>) -> Question {
 }
 
 // Of a unit with the number of its lodgement.
-fn offer(mut numbers: Numbers<'_>) -> Question {
+fn offer(mut numbers: Numbers<'_>) -> Part {
     let number = numbers.number();
     let border = numbers.number();
     let purchase = numbers.mark();
@@ -131,10 +130,10 @@ fn offer(mut numbers: Numbers<'_>) -> Question {
         purchase,
         legacy,
     };
-    Question::Offer(Offer::new(holder, price, energy))
+    Part::Offer(Offer::new(holder, price, energy))
 }
 
-fn execution(mut numbers: Numbers<'_>) -> Question {
+fn execution(mut numbers: Numbers<'_>) -> Part {
     let number = numbers.number();
     let border = numbers.number();
     let purchase = numbers.mark();
@@ -146,11 +145,17 @@ fn execution(mut numbers: Numbers<'_>) -> Question {
         purchase,
         legacy: false,
     };
-    Question::Execution(Execution::new(holder, energy))
+    Part::Execution(Execution::new(holder, energy))
 }
 
-fn capacity(mut numbers: Numbers<'_>) -> Question {
+// Of a border and direction, true for export.
+fn capacity(mut numbers: Numbers<'_>) -> Part {
     let border = numbers.number();
     let export = numbers.mark();
-    Question::Capacity(border, export, numbers.number())
+    let energy = numbers.number();
+    Part::Capacity {
+        border,
+        export,
+        energy,
+    }
 }
