@@ -185,6 +185,10 @@ pub record-fits : (l : List ℕ) → starts l ≡ true → 3 + size_of l ≤ len
 unfolding starts
 record-fits l h = leb-true (3 + size_of l) (length l) (both (leb (3 + size_of l) (length l)) _ h).0
 
+-- so it ends within the log
+pub record-inside : (log : List ℕ) (at size : ℕ) {A : Type 0} → at ≤ length log → (starts (drop at log) ≡ true) × A × (size ≡ size_of (drop at log)) → at + 3 + size ≤ length log
+record-inside log at size l head = omega (arith, record-fits (drop at log) head.0, length-drop at log, head.2)
+
 -- the same as the code has it: the record's bytes stand from `at + 3` on
 pub running-on : (b : Book) (log : List ℕ) (old : List ℕ) (s : Session) (at n : ℕ) (words : List ℕ) (k size word : ℕ) (p : List ℕ) (r : Effect)
     → Running b log (length old) old s at n words → n < length old
@@ -223,5 +227,5 @@ module _ (b : Book) (log : List ℕ) (N : ℕ) (old words : List ℕ) (s : Sessi
 
 -- from the session that opening gave
 pub replays-opened : (d : Date) (log : List ℕ) (N : ℕ) (old words : List ℕ) (o : Opened) (r : Reached) → Opens d o → ReplaysOn o.session log N old words r
-    → Replays d log N old words (record { opened = o.answer; session = r.session; calls = r.calls; read = r.read })
+    → Replays d log N old words (record { opened = o.answer; run = r })
 replays-opened d log N old words o r p w = record { opened = p.answer; run = w.book (D.opening d).book (opening-sound d) p.session }

@@ -49,7 +49,7 @@ pub record ReplaysOn (s : Session) (log : List ℕ) (N : ℕ) (old words : List 
 pub record Replays (d : Date) (log : List ℕ) (N : ℕ) (old words : List ℕ) (r : Replayed) : Type 0 where
   -- the date's answer
   pub opened : r.opened ≡ told (D.opening d).answer
-  pub run : Reruns (D.opening d).book log N old words (record { session = r.session; calls = r.calls; read = r.read })
+  pub run : Reruns (D.opening d).book log N old words r.run
 
 -- some of the calls were run, from a session that stands for a book: n of them, their records ending at `at`
 pub record Running (b : Book) (log : List ℕ) (N : ℕ) (old : List ℕ) (s : Session) (at n : ℕ) (words : List ℕ) : Type 0 where

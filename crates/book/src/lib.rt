@@ -1,9 +1,8 @@
 // Demand 3: specs/Demand3.antt states it over every list of calls, proofs/DemandLaws.antt proves it. `replay` runs a log of
-// calls, `replay_on` from a session: every answer and the session at its end are the day book's, so that a recovery and a
-// rehearsal can run on it.
+// calls, `replay_on` from a session: every answer and the session at its end are the day book's, so that a recovery can run on it.
 #![tactic(auto)]
 
-ghost use Rattle.std.specs.Prelude.{◌≡◌, length};
+ghost use Rattle.std.specs.Prelude.{length};
 ghost use Rattle.calendar.specs.View.{date_in};
 ghost use Rattle.session.specs.Steps.{Met};
 ghost use Rattle.book_log.specs.Calls.{call_of};
@@ -27,13 +26,11 @@ pub struct Reached {
     pub read: usize,
 }
 
-// The same from a fresh session, with the date's answer.
+// A log run from a fresh session, and the date's answer.
 #[derive(Clone, Copy)]
 pub struct Replayed {
     pub opened: Response,
-    pub session: Session,
-    pub calls: usize,
-    pub read: usize,
+    pub run: Reached,
 }
 
 // The head of a call's record: its kind, and how many bytes follow.
@@ -90,7 +87,7 @@ fn run_call(s: Session, kind: Kind, p: &[u8]) -> Effect
     }
 }
 
-// Runs the call of one record. What is no call's record is refused as 3 and changes nothing.
+// Runs the call of one record. What is no call's record is refused as 3 and changes nothing: the kind is a number, which may be no kind's.
 pub fn run(s: Session, kind: u8, p: &[u8]) -> Effect
     ensures { RunsRecord s kind p.now result }
 {
@@ -111,9 +108,7 @@ fn head_of(log: &[u8]) -> Option<Head>
     if rest.len() < size {
         return None;
     }
-    let Some(kind) = Kind::of(*number, size) else {
-        return None;
-    };
+    let kind = Kind::of(*number, size)?;
     Some(Head { kind, size })
 }
 
@@ -153,8 +148,6 @@ pub fn replay(date: Date, log: &[u8], answers: &mut [u64]) -> Replayed
     let run = replay_on(opened.session, log, answers);
     Replayed {
         opened: opened.answer,
-        session: run.session,
-        calls: run.calls,
-        read: run.read,
+        run,
     }
 }

@@ -3,7 +3,7 @@ use mathlib.Core.Path.{refl, sym, ◌∙◌}
 use native.Mathlib.Omega.{arith}
 use lib.ListN.{length-set, length-drop, drop}
 use Rattle.std.proofs.lemmas.List.{set-get_or, take_rest}
-use Rattle.book.proofs.ReplayLaws.{running-start, running-on, record-fits, ended-full, ended-stopped}
+use Rattle.book.proofs.ReplayLaws.{running-start, running-on, record-fits, record-inside, ended-full, ended-stopped}
 use Rattle.book.proofs.replay_on.Goals as goal
 
 pub loop-calls-init : goal.loop-calls-init
@@ -16,20 +16,10 @@ returns-in_default c =
     rw (set-get_or w.answers w.calls 0) (record { book = λ b g e. ended-stopped b _ _ _ _ _ _ _ (w.invariant.2 b g e) (sym none) })
 
 pub overflow_add-to : goal.overflow_add-to
-overflow_add-to c =
-    let h = rw (take_rest c.args.log.now c.loop-calls.read) at c.in-Some.ensures in
-    let k = record-fits (drop c.loop-calls.read c.args.log.now) h.0 in
-    let n = length-drop c.loop-calls.read c.args.log.now in
-    let z = h.2 in
-    search rules
+overflow_add-to c = let h = record-inside _ _ _ c.loop-calls.invariant.1 (rw (take_rest c.args.log.now c.loop-calls.read) at c.in-Some.ensures) in search rules
 
 pub slice_bounds-run_call-end : goal.slice_bounds-run_call-end
-slice_bounds-run_call-end c =
-    let h = rw (take_rest c.args.log.now c.loop-calls.read) at c.in-Some.ensures in
-    let k = record-fits (drop c.loop-calls.read c.args.log.now) h.0 in
-    let n = length-drop c.loop-calls.read c.args.log.now in
-    let z = h.2 in
-    omega arith
+slice_bounds-run_call-end c = record-inside _ _ _ c.loop-calls.invariant.1 (rw (take_rest c.args.log.now c.loop-calls.read) at c.in-Some.ensures)
 
 pub loop-calls-preserved : goal.loop-calls-preserved
 loop-calls-preserved c =
