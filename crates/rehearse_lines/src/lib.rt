@@ -13,8 +13,8 @@ ghost use Rattle.rules.specs.Book.{fresh};
 ghost use Rattle.rehearse_lines.specs.Runs.{call_in, Lodges, Ran, IfAnswer};
 
 use crate::telling::Said;
-use answer::{Refusal, Response};
-use calendar::Date;
+use answer::Response;
+use calendar::{Date, FIRST};
 use message::Fields;
 use rehearse_words::calls::Call;
 use rehearse_words::lines::Line;
@@ -24,11 +24,7 @@ use session::{Effect, Session};
 pub fn first_session() -> Session
     ensures { result ≡ image (fresh (record { year = 2002; month = 1; day = 1 })) }
 {
-    Session::fresh(Date {
-        year: 2002,
-        month: 1,
-        day: 1,
-    })
+    Session::fresh(FIRST)
 }
 
 fn open(session: &mut Session, date: Date) -> Response
@@ -73,7 +69,7 @@ fn lodge_message(session: &mut Session, fields: Fields) -> Response
             *session = effect.session;
             effect.answer
         }
-        Err(row) => Response::from(Refusal::from(row)),
+        Err(row) => Response::from(row),
     }
 }
 

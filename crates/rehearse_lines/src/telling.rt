@@ -34,7 +34,7 @@ impl fmt::Display for Said {
     }
 }
 
-// "12: accepted"; a report's tables are further lines.
+// "12: accepted"; a report's tables are further lines. No clause: it writes, and what it writes is `Said`'s and `Report`'s `Display`.
 pub fn tell(rt: &impl Print, index: u64, said: Said, session: &Session) -> io::Result<()> {
     println!(rt; "{index}: {said}")?;
     match said {

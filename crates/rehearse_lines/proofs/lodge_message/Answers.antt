@@ -23,4 +23,4 @@ returns-in-Ok c =
 
 pub returns-in-Err : goal.returns-in-Err
 returns-in-Err c =
-    lodges-refused (M.write 108 (fields_in c.args.fields)) c.in-Err.row (ap (λ (w : Written). w.row) c.in-Err.ensures.outcome) _ _ (rw c.from.ensures at c.from-in-Err.ensures)
+    lodges-refused (M.write 108 (fields_in c.args.fields)) c.in-Err.row (ap (λ (w : Written). w.row) c.in-Err.ensures.outcome) _ _ c.from.ensures
