@@ -154,7 +154,7 @@ pub extern "C" fn gate_clear(s: &mut Session) -> Response
     perform(s, &clear::Clearing)
 }
 
-// Queries
+// Queries. Unit, border, direction and hour are C's parameters, one by one.
 
 // "a lodging number's verdict", after closing: 2, 13.
 #[unsafe(no_mangle)]

@@ -11,7 +11,9 @@
 // independent model, what is expected.
 #![tactic(auto)]
 
+use answer::Response;
 use arrayvec::ArrayVec;
+use book::Replayed;
 use calendar::Date;
 use rehearse_lines::telling::{Said, tell};
 use rehearse_report::replies::Told;
@@ -30,7 +32,7 @@ const LOG: usize = 16384;
 // How many answers there is room for at most.
 const ANSWERS: usize = 256;
 
-// What stands where no answer was written: no answer has all its bits.
+// What stands where no answer was written: no answer has all its bits. It is a number, as the answers are that `book::replay` writes down.
 const NO_ANSWER: u64 = u64::MAX;
 
 // The bytes of the log that are run, and the room for answers.
@@ -89,9 +91,11 @@ fn read(line: &[u8]) -> Option<Line> {
     Some(line)
 }
 
-// A log run: "calls 12, bytes 1848:", then an answer or nothing in each index that there was room for.
+// A log run: "calls 12, bytes 1848:", then what stands in each index that there was room for, an answer or `NO_ANSWER`. In front stands the
+// date's answer, where there is a date.
 #[derive(Clone, Copy)]
 struct Run<'a> {
+    opened: Option<Response>,
     calls: usize,
     read: usize,
     answers: &'a [u64],
@@ -99,6 +103,9 @@ struct Run<'a> {
 
 impl fmt::Display for Run<'_> {
     fn fmt<W: fmt::Write>(&self, f: &mut fmt::Formatter<W>) -> fmt::Result {
+        if let Some(opened) = self.opened {
+            write!(f, "{}, ", Told(opened))?;
+        }
         write!(f, "calls {}, bytes {}:", self.calls, self.read)?;
         for answer in self.answers {
             write!(f, " {answer:016x}")?;
@@ -141,29 +148,21 @@ impl Day {
         let Some(log) = self.log.as_slice().get(part.from..part.to) else {
             return self.not_understood(rt);
         };
-        match date {
+        let (opened, reached) = match date {
             Some(date) => {
-                let run = book::replay(date, log, answers);
-                self.session = run.session;
-                let opened = Told(run.opened);
-                let run = Run {
-                    calls: run.calls,
-                    read: run.read,
-                    answers,
-                };
-                println!(rt; "{}: {opened}, {run}", self.lines)
+                let Replayed { opened, run } = book::replay(date, log, answers);
+                (Some(opened), run)
             }
-            None => {
-                let run = book::replay_on(self.session, log, answers);
-                self.session = run.session;
-                let run = Run {
-                    calls: run.calls,
-                    read: run.read,
-                    answers,
-                };
-                println!(rt; "{}: {run}", self.lines)
-            }
-        }
+            None => (None, book::replay_on(self.session, log, answers)),
+        };
+        self.session = reached.session;
+        let run = Run {
+            opened,
+            calls: reached.calls,
+            read: reached.read,
+            answers,
+        };
+        println!(rt; "{}: {run}", self.lines)
     }
 
     fn put_byte(&mut self, rt: &impl Print, at: usize, byte: u8) -> io::Result<()> {

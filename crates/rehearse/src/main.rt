@@ -14,7 +14,8 @@ use std::{fmt, io};
 // How many bytes of a line are kept.
 const ROOM: usize = 8192;
 
-// A line so far, from its first word on, and whether there was more than there is room for.
+// A line so far, from its first word on, and whether there was more than there is room for: a mark beside the bytes, which still say whether a line
+// that is too long is a comment.
 #[derive(Drop)]
 struct Line {
     bytes: ArrayVec<u8, ROOM>,
