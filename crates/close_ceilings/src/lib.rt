@@ -48,13 +48,6 @@ fn line_row(border: u32) -> usize
     border as usize
 }
 
-// Limit 12 of a border by hour, as it is laid.
-pub fn line_of(lines: &Lines, border: u32) -> [u64; HOURS]
-    ensures { (cs : List Notice) → LinesOf cs lines.now → (h : ℕ) → h < 25 → get_or result h 0 ≡ line_at cs border h }
-{
-    lines[line_row(border)].map(|sum| u64::from(sum))
-}
-
 // The least of the limits in the hour at index h: "without one, the maximum is available".
 #[tactic(auto, unfolding(crate::specs::Ceilings::ceiling_by))]
 fn ceiling_at(unit: Unit, notice: &Notice, line: &[u32; HOURS], h: usize) -> u32

@@ -1,23 +1,19 @@
 -- What the session's arrays show of a standing lodgement and its unit.
-use Prim.Native.Nat.{ℕ, zero, suc, ◌≤◌, ◌<◌}
+use Prim.Native.Nat.{ℕ, zero, suc, ◌<◌}
 use mathlib.Core.Path.{◌≡◌, sym, ap, ◌∙◌}
-use mathlib.Core.Bool.{true, ◌&&◌, ◌||◌}
+use mathlib.Core.Bool.{true}
 use mathlib.Core.List.{List, [], ◌∷◌, map}
 use native.Mathlib.Omega.{arith}
 use lib.Dec.{ltb}
 use lib.ListN.{length, get_or, take, length-map, length-take}
 use lib.Seq.{get_or-take}
-use borrow.Author.Tests.{ltb-true, ltb-false, lt-ltb}
-use Rattle.rules.specs.Units.{max_energy, bad_number, bad_unit, domestic, nobody}
+use borrow.Author.Tests.{ltb-true, lt-ltb}
 use Rattle.rules.specs.Book.{Book}
-use Rattle.rules.proofs.BoolLaws.{neither}
-use Rattle.rules.proofs.ListLaws.{all-at}
-use Rattle.session.specs.Image.{image, Sound, no_unit, unit_of, lodgement_as, energies_as}
-use Rattle.session.specs.declared.Unit.{Unit}
+use Rattle.session.specs.Image.{image, lodgement_as, energies_as}
 use Rattle.session.specs.declared.Lodgement.{Lodgement}
 use Rattle.session.specs.declared.Energies.{Energies}
 use Rattle.session.specs.declared.Session.{Session}
-use Rattle.session.proofs.ImageLaws.{enrolled-as, units-as, standing-as, lodgements-as, energies-as}
+use Rattle.session.proofs.ImageLaws.{standing-as, lodgements-as, energies-as}
 use Rattle.session.proofs.IndexLaws.{get_or-map}
 use Rattle.session.specs.Image.{no_lodgement}
 use Rattle.session.specs.Parts.{index_of, number_is}
@@ -85,19 +81,6 @@ module _ (s : Session) (hs : List (O.Option ℕ)) (held : HoldersOf s hs) (i : �
       ∙ (get_or-map (holder_of us) no_lodgement None (take s.standing s.lodgements) i (omega arith)
       ∙ (ap (holder_of us) (get_or-take s.standing s.lodgements i no_lodgement h)
       ∙ (position-as (number_is number) us ∙ rw (lt-ltb _ _ k))))
-
--- a unit that is registered has a maximum in its range
-pub maximum-small : (s : Session) (b : Book) → Sound b → s ≡ image b → (p : ℕ) → p < s.enrolled → (get_or s.units p no_unit).maximum ≤ max_energy
-unfolding bad_unit
-maximum-small s b sound e p h =
-    let inside : p < length b.units = omega (arith, enrolled-as s b e) in
-    let u = (get_or b.units p nobody).unit in
-    let q = neither (bad_number u.number || bad_number u.agent || ltb 4 u.border || ltb max_energy u.maximum) (u.legacy && domestic u) (all-at p nobody sound.ranges.units.ranges inside) in
-    let m = ltb-false max_energy u.maximum (neither (bad_number u.number || bad_number u.agent || ltb 4 u.border) (ltb max_energy u.maximum) q.0).1 in
-    let same : get_or s.units p no_unit ≡ unit_of (get_or b.units p nobody) =
-    sym (get_or-take s.enrolled s.units p no_unit h)
-    ∙ (ap (λ (l : List Unit). get_or l p no_unit) (units-as s b e) ∙ get_or-map unit_of nobody no_unit b.units p inside) in
-    rw same m
 
 -- for the functions that index by it
 pub ruleset holder_laws = (holder-inside)

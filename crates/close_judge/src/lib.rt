@@ -4,7 +4,6 @@
 ghost use Rattle.std.specs.Prelude.{◌≡◌, false, List, ℕ, ◌<◌, ◌≤◌, get_or, take, length, Some, None};
 ghost use Rattle.judge_loads.specs.Loads.{IndicesIn, load_by};
 ghost use Rattle.judge_limits.specs.Limits.{judged_in};
-ghost use Rattle.close_ceilings.specs.Ceilings.{LinesOf};
 ghost use Rattle.session.specs.Bare.{bare_notice, bare_energies};
 ghost use Rattle.session.specs.Image.{no_unit};
 ghost use Rattle.session.specs.Parts.{Within, said};
@@ -13,9 +12,8 @@ ghost use Rattle.close_judge.specs.Classes.{HoldersOf, accepted_for, verdict_by,
 
 use answer::Refusal;
 use arrayvec::ArrayVec;
-use close_ceilings::{Lines, line_of, lines_of};
 use close_holders::holders_of;
-use judge_limits::{judge_energy, limits_of};
+use judge_limits::{border_limit, judge_energy, limits_of};
 use rules::LODGEMENTS;
 use session::{Energies, Session, Verdict};
 
@@ -26,14 +24,11 @@ pub struct Standing<'a> {
     pub energies: &'a [Energies],
     // The index of each one's unit.
     pub holders: ArrayVec<Option<usize>, LODGEMENTS>,
-    // Limit 12 by border and hour.
-    pub lines: Lines,
     pub ghost within: { Within session.now },
     pub ghost loads: { energies.now ≡ take session.now.standing session.now.energies },
     pub ghost long: { length energies.now ≡ session.now.standing },
     pub ghost units: { HoldersOf session.now holders.items },
     pub ghost found: { length holders.items ≡ session.now.standing },
-    pub ghost borders: { LinesOf session.now.capacities lines },
 }
 
 // Accepted, or "refused whole" by the first limit passed in its lowest hour. No `From`: both types are of crates below.
@@ -78,7 +73,6 @@ impl<'a> Standing<'a> {
             session,
             energies: &session.energies[..session.standing],
             holders: holders_of(units, lodgements),
-            lines: lines_of(&session.capacities),
         }
     }
 
@@ -105,23 +99,34 @@ impl<'a> Standing<'a> {
         }
     }
 
-    // The verdict of the lodgement at an index, of the unit at index p: "its energy, plus that of those accepted before it on its unit",
-    // which are the others, against the limits of its unit. Limit 12 is read as it is laid for the border, cut at what a maximum can be:
-    // what passes that passes limit 10.
+    // The first limit of the unit at index p that the lodgement at an index passes together with others, and the lowest hour in which it
+    // does.
     #[tactic(auto, using(crate::proofs::StandingLaws::holder_laws))]
+    fn judge_limits(&self, at: usize, p: usize, others: &[usize]) -> Result<(), Refusal>
+        requires standing { at < self.now.session.now.standing }
+        requires holder { get_or self.now.holders.items at None ≡ Some p }
+        requires others { IndicesIn self.now.energies.now others.now }
+        ensures { let s = self.now.session.now in let es = self.now.energies.now in let own = (get_or es at bare_energies).energies in
+            said result ≡ judged_in (get_or s.units p no_unit) (get_or s.notices p bare_notice) s.capacities false s.hours own (load_by own es others.now) }
+    {
+        let session = self.session;
+        let unit = &session.units[p];
+        let line = border_limit(unit.border, &session.capacities);
+        let limits = limits_of(unit, &session.notices[p], line, false);
+        let own = &self.energies[at].energies;
+        let hours = session.hours as usize;
+        judge_energy(&limits, own, self.energies, others, hours)
+    }
+
+    // The verdict of the lodgement at an index, of the unit at index p: "its energy, plus that of those accepted before it on its unit",
+    // which are the others, against the limits of its unit.
     pub fn judge(&self, at: usize, p: usize, others: &[usize]) -> Verdict
         requires standing { at < self.now.session.now.standing }
         requires holder { get_or self.now.holders.items at None ≡ Some p }
         requires others { IndicesIn self.now.energies.now others.now }
         ensures { (vs : List Verdict) → others.now ≡ accepted_for p vs self.now.holders.items → JudgesAt self.now.session.now vs at result }
     {
-        let session = self.session;
-        let unit = &session.units[p];
-        let line = line_of(&self.lines, unit.border);
-        let limits = limits_of(unit, &session.notices[p], Some(line), false);
-        let own = &self.energies[at].energies;
-        let hours = session.hours as usize;
-        let judged = judge_energy(&limits, own, self.energies, others, hours);
+        let judged = self.judge_limits(at, p, others);
         verdict_by(judged)
     }
 }

@@ -13,7 +13,7 @@ pub mod room;
 
 use crate::room::admits;
 use arrayvec::ArrayVec;
-use close_ceilings::ceilings_of;
+use close_ceilings::{ceilings_of, lines_of};
 use close_judge::{Standing, accepted};
 use lodge_keys::is_hidden;
 use rules::{HOURS, LODGEMENTS, UNITS};
@@ -66,7 +66,8 @@ impl<'a> Closing<'a> {
         let standing = Standing::of(session);
         let units = &session.units[..session.enrolled];
         let notices = &session.notices[..session.enrolled];
-        let room = ceilings_of(units, notices, &standing.lines);
+        let lines = lines_of(&session.capacities);
+        let room = ceilings_of(units, notices, &lines);
         Closing {
             standing,
             room,
