@@ -1,5 +1,5 @@
 -- The unit with a number, as the session finds it: the first that has it.
-use Rattle.std.proofs.Common.{ℕ, ◌≡◌, refl, sym, ◌∙◌, List, length, ltb, unwrap_or, option_map, Option, arith}
+use Rattle.std.proofs.Common.{ℕ, ◌≡◌, refl, sym, List, length, ltb, unwrap_or, option_map, Option, arith}
 use lib.ListN.{get_or-eq_default}
 use borrow.Author.Tests.{ltb-false}
 use Rattle.rules.specs.Lists.{first}

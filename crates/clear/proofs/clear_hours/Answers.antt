@@ -2,7 +2,7 @@ use Rattle.std.proofs.Common.{arith, refl}
 use mathlib.Core.Path.{◌∙◌}
 use lib.ListN.{length-set}
 use Rattle.session.specs.declared.HourFigures.{HourFigures}
-use Rattle.clear.proofs.EndLaws.{hours-start, hours-next, hours-end}
+use Rattle.clear.proofs.EndLaws.{hours-start, hours-next}
 use Rattle.clear.proofs.clear_hours.Goals as goal
 
 pub loop-k-init : goal.loop-k-init
@@ -17,6 +17,3 @@ loop-k-preserved c =
       omega (arith, l.invariant.2, c.from-steps.ensures),
       hours-next c.args.s.now l.k l.figures l.steps c.from-steps.result h.result l.invariant.3 (h.ensures (c.deref.ensures.0 ∙ c.holders_of-holders.ensures)) c.from-steps.ensures (omega (arith, c.loop-k-test.true, c.requires.hours)),
     )
-
-pub returns : goal.returns
-returns c = hours-end _ _ _ _ _ (omega arith) c.loop-k.invariant.3
