@@ -1,5 +1,5 @@
 // The C interface (include/gate.h). "The session is lent to each call and changed in place": thin entries that run the calls
-// (`session_changes::perform`), and hand on the queries. The numbers at each are the rows of the refusal table that it can answer with.
+// (`session_changes::perform`; lodging, which reads a message first, by `settle`), and hand on the queries. The numbers at each are the rows of the refusal table that it can answer with.
 #![tactic(auto)]
 
 ghost use Rattle.std.specs.Prelude.{◌≡◌, length};

@@ -48,7 +48,7 @@ pub enum Query {
 }
 
 impl Query {
-    // The query with a number of its own, as another program names it; calls have the numbers 1 to 7 (crates/book_log). It is of a lodging number,
+    // The query with a number of its own, as a program may keep it; calls have the numbers 1 to 7 (crates/book_log). It is of a lodging number,
     // a unit or a border, of a direction and of an hour, as far as it asks for these.
     #[tactic(auto, unfolding(crate::specs::Asked::asked))]
     pub fn numbered(kind: u8, of: u32, export: bool, hour: u32) -> Option<Query>

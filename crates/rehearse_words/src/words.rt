@@ -120,10 +120,7 @@ impl<'a> Words<'a> {
     pub fn end(&mut self) -> Option<()>
         ensures { IsSome result ↔ All (λ b. IsTrue (is_blank b)) self.old.rest.now }
     {
-        match self.next() {
-            None => Some(()),
-            Some(_) => None,
-        }
+        self.next().is_none().then_some(())
     }
 }
 
