@@ -34,28 +34,37 @@ fn uncut(executions: &[Execution], uncut: &mut ArrayVec<Execution, LODGEMENTS>)
 }
 
 // An hour cleared: its market, then the cut of its executions. The rules' figures where it is one that a session can hold, and none where it
-// is not. In one function, since figures are long to hand on.
+// is not. In one function, and the lists where they stay: figures are long to hand on.
 pub fn clear(h: &Hour) -> Option<Figures>
     ensures { result ≡ figures_of h.now }
 {
     if hour::ready(h) {
-        let mut offers = ArrayVec::new();
-        let mut executions = ArrayVec::new();
-        fresh(&h.offers, &mut offers);
-        uncut(&h.executions, &mut executions);
-        let before = hour_borders::execution_flows(&executions);
-        let market = hour_market::clear(&mut offers, &h.capacities, &before);
-        hour_cut::cut(&mut executions, &h.capacities, &market.flows, &before);
-        let bilateral = hour_borders::execution_flows(&executions);
-        Some(Figures {
-            offers,
-            executions,
-            maxima: market.maxima,
-            market: market.flows,
-            bilateral,
-            steps: market.steps,
-            price: market.price,
-        })
+        let mut figures = Figures {
+            offers: ArrayVec::new(),
+            executions: ArrayVec::new(),
+            maxima: [None; 10],
+            market: [0; 10],
+            bilateral: [0; 10],
+            steps: 0,
+            price: 0,
+        };
+        fresh(&h.offers, &mut figures.offers);
+        uncut(&h.executions, &mut figures.executions);
+        let before = hour_borders::execution_flows(&figures.executions);
+        let market = hour_market::clear(&mut figures.offers, &h.capacities, &before);
+        hour_cut::cut(
+            &mut figures.executions,
+            &h.capacities,
+            &market.flows,
+            &before,
+        );
+        let bilateral = hour_borders::execution_flows(&figures.executions);
+        figures.maxima = market.maxima;
+        figures.market = market.flows;
+        figures.bilateral = bilateral;
+        figures.steps = market.steps;
+        figures.price = market.price;
+        Some(figures)
     } else {
         None
     }
