@@ -9,7 +9,6 @@ use lib.Dec.{eqb}
 use lib.ListN.{length, get_or, drop, replicate, get_or-replicate}
 use lib.Seq.{drop-cons}
 use Rattle.std.proofs.lemmas.List.{drop_all}
-use borrow.Author.Tests.{eqb-true}
 use Rattle.rules.proofs.BoolLaws.{by_bool}
 use Rattle.rules.specs.Lists.{first, from, lowest, hourly}
 use Rattle.rules.specs.Refusals.{Row, limit_row, first_row}
@@ -22,7 +21,7 @@ use Rattle.session.specs.declared.Unit.{Unit}
 use Rattle.session.specs.declared.Notice.{Notice}
 use Rattle.session.specs.Parts.{given_by}
 use Rattle.judge_loads.specs.Loads.{hour_at, laid}
-use Rattle.judge_limits.specs.Limits.{notice_in, registered_in, lines_in, judged_in, border_at, limit_in, limits_for, first_passed}
+use Rattle.judge_limits.specs.Limits.{notice_in, registered_in, judged_in, border_at, limit_in, limits_for, first_passed}
 use Rattle.judge_limits.specs.declared.Limit as Code
 use Rattle.std.specs.declared.option.Option as O
 use Rattle.std.specs.Prelude.{Some, None}
@@ -65,11 +64,6 @@ module _ (H : ℕ) (own : List ℕ) (load : ℕ → ℕ) where
   limit-absent l f = lowest-none _ H (λ h a b. rw (f h) (and-false (not (eqb (hourly own h) 0)) false refl))
 
 -- The judgement by a list of limits
-
--- what applies is given, whatever is behind it
-first-one : (a : Row) (xs ys : List Row) → a.applies ≡ true → first_row (a ∷ xs) ≡ first_row (a ∷ ys)
-unfolding first_row
-first-one a xs ys e = rw e
 
 -- what does not apply is as nothing
 first-alone : (a b c : Row) → b.applies ≡ false → c.applies ≡ false → first_row (a ∷ b ∷ c ∷ []) ≡ first_row (a ∷ [])
@@ -159,13 +153,3 @@ module _ (H : ℕ) (own : List ℕ) (load : ℕ → ℕ) where
         none-at : (h : ℕ) → border_at None h ≡ none
         none-at h = refl
     judged-limits false line is = ap given_by (rows-three maximum-row available-row (row-same _ _ refl (λ h a b. is h)))
-
-    -- the same of a line that is passed as its border's sum is, where limit 10 is not passed
-    pub judged-laid : (line : List ℕ)
-        → (lowest (passed_at own load (laid (replicate 25 u.maximum))) H ≡ 0 → lowest (passed_at own load (laid line)) H ≡ lowest (passed_at own load (border_limit (lines_in cs) r)) H)
-        → first_passed (limits_for u n (Some line) false) H own load ≡ judged_in u n cs false H own load
-    unfolding first_passed limits_for limit_rows limit_row judged_in judged_by limits own_limits border_limits border_limit border_at passed_at
-    judged-laid line f =
-        by_bool (eqb (lowest (passed_at own load (laid (replicate 25 u.maximum))) H) 0)
-        (λ t. ap given_by (rows-three maximum-row available-row (ap (λ (h : ℕ). record { number = 12; hour = h; applies = not (eqb h 0) }) (f (eqb-true _ 0 t)))))
-        (λ t. ap given_by (first-one _ _ _ (rw t refl) ∙ rows-three maximum-row available-row refl))
