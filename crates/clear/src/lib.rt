@@ -4,7 +4,7 @@
 ghost use Rattle.std.specs.Prelude.{◌<◌, ◌≤◌, length};
 ghost use Rattle.rules.specs.DayBook.{clear};
 ghost use Rattle.session.specs.Steps.{Met};
-ghost use Rattle.session.specs.Parts.{Within};
+ghost use Rattle.session.specs.Parts.{Within, JudgesRow};
 ghost use Rattle.clear_gather.specs.Built.{Holders};
 ghost use Rattle.clear.specs.Hours.{HourAs, HoursAs};
 
@@ -70,6 +70,19 @@ fn clear_hours(s: &Session) -> DayEnd
 #[derive(Clone, Copy)]
 pub struct Clearing;
 
+// The row that refuses clearing, of any session: 2, "clearing [..] before closing", "closing or clearing twice".
+pub fn judge_clear(s: &Session) -> Result<(), Row>
+    ensures { JudgesRow s.now clear result }
+{
+    if !s.closed {
+        return Err(Row::Gate);
+    }
+    if s.cleared {
+        return Err(Row::Gate);
+    }
+    Ok(())
+}
+
 impl Call for Clearing {
     type Found = ();
 
@@ -79,15 +92,8 @@ impl Call for Clearing {
 
     ghost is_found = { λ _ _ _. Unit {0} };
 
-    // The row that refuses clearing: 2, "clearing [..] before closing", "closing or clearing twice".
     fn judge(&self, s: &Session) -> Result<(), Row> {
-        if !s.closed {
-            return Err(Row::Gate);
-        }
-        if s.cleared {
-            return Err(Row::Gate);
-        }
-        Ok(())
+        judge_clear(s)
     }
 
     // "clearing gives the figures of Queries by the rules above and answers the step count"
