@@ -113,9 +113,6 @@ pub hours-start : (s : Session) (x : HourFigures) → x ≡ I.no_figures → Hou
 unfolding pad from sum_of sum
 hours-start s x q b sound closed e = (rw q refl, refl)
 
-pub hours-end : (s : Session) (k n : ℕ) (figures : List HourFigures) (steps : ℕ) → k ≡ n → HoursAs s k figures steps → HoursAs s n figures steps
-hours-end s k n figures steps q a b sound closed e = rw (← q) (a b sound closed e)
-
 pub hours-next : (s : Session) (k : ℕ) (figures : List HourFigures) (steps x : ℕ) (r : HourEnd) → HoursAs s k figures steps → HourAs s k r → x ≡ r.steps → k < 25 → HoursAs s (k + 1) (set figures k r.figures) (steps + x)
 hours-next s k figures steps x r a c q h b sound closed e =
     let g = a b sound closed e in

@@ -1,7 +1,7 @@
 // An hour of the day, from the lodgements accepted at closing that name it.
 #![tactic(auto)]
 
-ghost use Rattle.std.specs.Prelude.{◌≡◌, ◌&&◌, ◌≤◌, ◌<◌, ltb, take, map, length};
+ghost use Rattle.std.specs.Prelude.{◌≡◌, ◌&&◌, ◌≤◌, ◌<◌, ltb, map, length};
 ghost use Rattle.rules.specs.Lists.{from};
 ghost use Rattle.clear_gather.specs.Built.{unit_among, holder_of, capacity_on, Built};
 

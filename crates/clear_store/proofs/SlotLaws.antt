@@ -16,8 +16,7 @@ use Rattle.rules.specs.Units.{max_energy}
 use Rattle.rules.proofs.BoolLaws.{by_bool}
 use Rattle.rules.proofs.SumLaws.{cond-le}
 use Rattle.clear_store.specs.declared.portions.Portion.{Portion}
-use Rattle.clear_store.specs.declared.portions.Slots.{Slots}
-use Rattle.clear_store.specs.Slots.{energy_of, energy_held, nothing, Kept}
+use Rattle.clear_store.specs.Slots.{energy_of, energy_held, nothing}
 
 cond-none : (b : Bool) → ◌≡◌ {A = ℕ} (cond b 0 0) 0
 cond-none true = refl
@@ -46,13 +45,6 @@ module _ (held : List Portion) (p : Portion) (u : ℕ) where
       (λ t. rw (eqb-true (u % 256) (p.unit % 256) t, get_or-set_same held (p.unit % 256) both nothing l) (joined there p u e))
       (λ t. let d = eqb-false (u % 256) (p.unit % 256) t in
       rw (get_or-set_other held (p.unit % 256) (u % 256) both nothing d, ne_eqb p.unit u (λ z. d (ap (λ x. x % 256) (sym z)))) (omega arith))
-
--- more portions may come
-pub kept-more : {k m : ℕ} {s : Slots} → k ≤ m → Kept k s → Kept m s
-kept-more h kept = record {
-  room = λ j. omega (arith, kept.room j);
-  few = omega (arith, kept.few);
-}
 
 -- Nothing yet
 

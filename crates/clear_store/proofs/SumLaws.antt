@@ -1,12 +1,11 @@
 -- Energies of a unit, added one after the other, and laid at the units' indices.
-use Prim.Native.Nat.{ℕ, zero, suc, ◌+◌, ◌-◌, ◌/◌, ◌%◌, ◌≤◌, ◌<◌}
+use Prim.Native.Nat.{ℕ, zero, suc, ◌+◌, ◌/◌, ◌%◌, ◌<◌}
 use mathlib.Core.Path.{◌≡◌, refl, sym, ap, ◌∙◌}
 use mathlib.Core.Bool.{Bool, ◌&&◌, beq}
-use mathlib.Core.List.{List, [], ◌∷◌, ◌++◌, map, map-map, append-nil}
+use mathlib.Core.List.{List, [], ◌∷◌, ◌++◌, map, map-map}
 use native.Mathlib.Omega.{arith}
 use lib.Dec.{eqb}
 use lib.ListN.{get_or, set, length, take, length-map, length-take}
-use lib.Seq.{take_all}
 use Rattle.std.specs.Prelude.{unwrap_or}
 use Rattle.rules.specs.Lists.{keep, sum, sum_of, from}
 use Rattle.rules.specs.Borders.{Directed}
@@ -31,13 +30,6 @@ pub laid-next : {A : Type 0} (size : ℕ) (f : A → ℕ) (xs : List A) (i : ℕ
 laid-next size f xs i d es e h l s q =
     let n : length (map f (take i xs)) ≡ i = length-map (take i xs) f ∙ (length-take i xs ∙ omega arith) in
     rw (take-last xs i d h, s, q) (set-pad size 0 (map f (take i xs)) i (f (get_or xs i d)) (sym n) (omega (arith, n)) ∙ ap (pad size 0) (sym (map_last f (take i xs) (get_or xs i d))))
-
--- an array that is filled
-pub laid-whole : {A : Type 0} (size : ℕ) (f : A → ℕ) (xs : List A) (i : ℕ) → length xs ≡ size → length xs ≤ i → pad size 0 (map f (take i xs)) ≡ map f xs
-unfolding pad
-laid-whole size f xs i n h =
-    let z : size - length (map f xs) ≡ 0 = omega (arith, length-map xs f) in
-    rw (take_all i xs h, z) (append-nil (map f xs))
 
 -- a list read by another type's eyes
 pub kept-sum : {A B : Type 0} (g : A → B) (energy : B → ℕ) (p : B → Bool) (xs : List A) → sum_of energy (keep p (map g xs)) ≡ sum_of (λ x. energy (g x)) (keep (λ x. p (g x)) xs)

@@ -1,5 +1,5 @@
 // Portions of energy, and the slots at which each unit's are added up.
-ghost use Rattle.std.specs.Prelude.{◌≡◌, ◌≤◌, ◌*◌, length};
+ghost use Rattle.std.specs.Prelude.{◌≤◌, ◌*◌};
 ghost use Rattle.std.specs.List.{All};
 ghost use Rattle.rules.specs.Units.{max_energy};
 

@@ -4,7 +4,7 @@ use Rattle.std.proofs.Math.Seq.{set-append_seam, append_snoc}
 use Rattle.std.proofs.lemmas.List.{length-map, length-take, map-set}
 use mathlib.Core.List.{map-append}
 use lib.ListN.{drop_of_length-le}
-use lib.Seq.{take-suc, take_all}
+use lib.Seq.{take-suc}
 use borrow.Author.Tests.{eq-eqb, ne_eqb}
 use Rattle.rules.specs.Lists.{keep}
 use Rattle.rules.specs.Match.{Offer}
@@ -82,11 +82,6 @@ module _ (xs : List Held) (ps : List ℕ) (k : ℕ) where
     where
       seam : {A : Type 0} (us : List A) (u : A) (vs : List A) (v : A) (i : ℕ) → length us ≡ i → set (us ++ u ∷ vs) i v ≡ us ++ v ∷ vs
       seam us u vs v i e = rw (← e) (set-append_seam us u vs v)
-
-  pub renew-end : (ys bs : List Held) → length ps ≤ k → length bs ≡ length ps → offers_in ys ≡ named (offers_in xs) (take k ps) ++ drop k (offers_in bs) → offers_in ys ≡ named (offers_in xs) ps
-  renew-end ys bs h l e =
-      let n : length (offers_in bs) ≤ k = omega (arith, length-map bs offer_in) in
-      e ∙ rw (take_all k ps h, drop_of_length-le (offers_in bs) {i = k} n) (append-nil (named (offers_in xs) ps))
 
 -- Writing
 
