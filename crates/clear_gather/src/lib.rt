@@ -36,7 +36,7 @@ fn holder_of(units: &[Unit], lodgement: &Lodgement) -> Holder
     }
 }
 
-// The holders of some lodgements, each found once for all hours of the day.
+// The holders of some lodgements, each found once for all hours of the day. A slice's type does not tell that they are at most 128.
 pub fn holders_of(units: &[Unit], lodgements: &[Lodgement]) -> ArrayVec<Holder, LODGEMENTS>
     requires { length lodgements.now ≤ 128 }
     ensures { result.items ≡ map (holder_of units.now) lodgements.now }

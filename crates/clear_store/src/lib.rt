@@ -68,7 +68,8 @@ impl Slots {
         }
     }
 
-    // What some holders have: `of` says which unit each one's energy is, and how much it is.
+    // What some holders have: `of` says which unit each one's energy is, and how much it is. No type tells that `of` may be called always, nor
+    // that a slice has at most 128 elements.
     fn of<T, F: Fn(&T) -> Portion>(holders: &[T], of: F) -> Slots
         requires callable { F.IsAlwaysCallable of }
         requires few { length holders.now ≤ 128 }
