@@ -1,5 +1,5 @@
 // What a line asks for.
-ghost use Rattle.std.specs.Prelude.{All, IsTrue, IsNone};
+ghost use Rattle.std.specs.Prelude.{◌≡◌, All, IsTrue, IsNone, Some, codes};
 ghost use Rattle.rehearse_words.specs.Blanks.{is_blank};
 
 use crate::calls::{Call, availability, capacities, key, unit};
@@ -32,9 +32,13 @@ fn date(word: &[u8]) -> Option<Date> {
     })
 }
 
-// What a line asks for by its first word and those behind it that are read. No clause says what: that is the whole of docs/REHEARSAL.md, and a
-// contract would be these functions again.
-pub fn asked(name: &[u8], words: &mut Words) -> Option<Line> {
+// What a line asks for by its first word and those behind it that are read. The clauses say it of the words that ask for nothing more; of the others it
+// is the whole of docs/REHEARSAL.md, and a contract would be these functions again.
+pub fn asked(name: &[u8], words: &mut Words) -> Option<Line>
+    ensures close { name.now ≡ codes "close" → result ≡ Some (Line.Call Call.Close) }
+    ensures clear { name.now ≡ codes "clear" → result ≡ Some (Line.Call Call.Clear) }
+    ensures report { name.now ≡ codes "report" → result ≡ Some Line.Report }
+{
     Some(match name {
         b"open" => Line::Open(date(words.next()?)?),
         b"register" => Line::Call(Call::Register(unit(words)?)),
