@@ -51,7 +51,8 @@ pub fn amount(holder: &Holder, energy: u32) -> Amount
     }
 }
 
-// The energy of some holders by way: `of` says what each of them has, and in which direction it runs.
+// The energy of some holders by way: `of` says what each of them has, and in which direction it runs. That a closure can be called, and how
+// long a slice is, no type tells, so it is asked.
 fn flows<T, F: Fn(&T) -> Amount>(holders: &[T], of: F) -> [u32; 10]
     requires callable { F.IsAlwaysCallable of }
     requires few { length holders.now ≤ 128 }

@@ -137,6 +137,7 @@ pub fn share(excess: u32, amounts: &[u32]) -> ArrayVec<u32, LODGEMENTS>
 }
 
 // What each of some holders counts for in direction w, written to an empty list: `of` says what it has, and in which direction it gives way.
+// How long a slice is and what its numbers are, and that a closure can be called, no type tells, so each function asks it.
 fn energies_in<T, F: Fn(&T) -> Amount>(
     w: usize,
     holders: &[T],
