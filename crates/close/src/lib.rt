@@ -14,7 +14,7 @@ use session::{Effect, Session, Verdict};
 use session_changes::{Call, ClosingChange, Step, run};
 
 // The verdicts of the standing lodgements: "normal executions, default executions, offers". It is all that closing changes
-// beside the mark. `Within` is what `Session::sound` has told.
+// beside the mark. (`Within`: `Session::sound` says why no type has it.)
 fn verdicts(s: &Session) -> [Verdict; LODGEMENTS]
     requires { Within s.now }
     ensures { Entered s.now close (closed_effect s.now result) }

@@ -1,7 +1,7 @@
 // One lodgement's verdict at closing (document 01, "Closing").
 #![tactic(auto)]
 
-ghost use Rattle.std.specs.Prelude.{◌≡◌, false, List, ℕ, ◌<◌, ◌≤◌, get_or, take, length, Some, None};
+ghost use Rattle.std.specs.Prelude.{◌≡◌, false, List, ◌<◌, get_or, take, length, Some, None};
 ghost use Rattle.judge_loads.specs.Loads.{IndicesIn, load_by};
 ghost use Rattle.judge_limits.specs.Limits.{judged_in};
 ghost use Rattle.session.specs.Bare.{bare_notice, bare_energies};
@@ -31,7 +31,8 @@ pub struct Standing<'a> {
     pub ghost found: { length holders.items ≡ session.now.standing },
 }
 
-// Accepted, or "refused whole" by the first limit passed in its lowest hour. No `From`: both types are of crates below.
+// Accepted, or "refused whole" by the first limit passed in its lowest hour. No `From`: it would stand in `session`, far from this
+// one use of it.
 #[tactic(auto, unfolding(crate::specs::Classes::verdict_by))]
 fn verdict_by(judged: Result<(), Refusal>) -> Verdict
     ensures { result ≡ verdict_by (said judged) }
@@ -62,7 +63,7 @@ pub fn accepted() -> Verdict
 }
 
 impl<'a> Standing<'a> {
-    // `Within` is what `Session::sound` has told.
+    // (`Within`: `Session::sound` says why no type has it.)
     pub fn of(session: &'a Session) -> Standing<'a>
         requires { Within session.now }
         ensures { result.session ≡ session.entry }

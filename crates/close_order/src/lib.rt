@@ -1,9 +1,9 @@
 // The order of closing: its three classes, and within each the latest number first.
 #![tactic(auto)]
 
-ghost use Rattle.std.specs.Prelude.{◌≡◌, ℕ, ◌+◌, ◌<◌, get_or, set, length, Some, None};
+ghost use Rattle.std.specs.Prelude.{◌≡◌, ◌+◌, ◌<◌, get_or, set, length, Some, None};
 ghost use Rattle.rules.specs.Book.{Book};
-ghost use Rattle.session.specs.Image.{image, Sound, no_lodgement};
+ghost use Rattle.session.specs.Image.{image, Sound};
 ghost use Rattle.session.specs.Parts.{Within};
 ghost use Rattle.judge_loads.specs.Loads.{IndicesIn};
 ghost use Rattle.close_judge.specs.Classes.{Used, accepted_for};
@@ -17,7 +17,7 @@ use close_ceilings::{ceilings_of, lines_of};
 use close_judge::{Standing, accepted};
 use lodge_keys::is_hidden;
 use rules::{HOURS, LODGEMENTS, UNITS};
-use session::{Key, Lodgement, Session, Verdict, no_verdict};
+use session::{Key, Session, Verdict, no_verdict};
 
 // The classes in which lodgements are taken: "normal executions, default executions, offers".
 #[derive(Clone, Copy, Debug, PartialEq, Eq)]
@@ -57,7 +57,8 @@ pub struct Closing<'a> {
 }
 
 impl<'a> Closing<'a> {
-    // Before the first class: no verdict is given, and all is left.
+    // Before the first class: no verdict is given, and all is left. (`Within`: `Session::sound` says why no type has it.) Below, indices are those of
+    // C's arrays, whose bounds no type of an index has.
     pub fn of(session: &'a Session) -> Closing<'a>
         requires { Within session.now }
         ensures session { result.standing.session ≡ session.entry }

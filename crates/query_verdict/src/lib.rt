@@ -19,7 +19,7 @@ fn lodged_at(lodgements: &[Lodgement], number: u32) -> Option<usize>
     lodgements.binary_search_by_key(&number, |l| l.number).ok()
 }
 
-// A verdict with no limit's number is hidden. A function of its own, since neither type is this crate's, which an `impl From` would need.
+// A verdict with no limit's number is hidden. No `From`: it would stand in `session`, far from this one use of it.
 #[tactic(auto, unfolding(crate::specs::Parts::told_as))]
 fn told(v: Verdict) -> Response
     ensures { result ≡ told_as v }
