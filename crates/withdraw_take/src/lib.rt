@@ -1,7 +1,7 @@
 // Steps 3 and 4 of a withdrawal (document 01, "Withdrawal step"): what the group loses.
 #![tactic(auto)]
 
-ghost use Rattle.std.specs.Prelude.{◌≡◌, ◌≤◌, ◌-◌, length};
+ghost use Rattle.std.specs.Prelude.{◌≡◌, ◌≤◌, ◌-◌, if◌then◌else◌, length};
 ghost use Rattle.rules.specs.Lists.{All, Each};
 ghost use Rattle.rules.specs.Units.{max_energy};
 ghost use Rattle.rules.specs.Withdrawal.{in_group, all_deductions, take_from};
