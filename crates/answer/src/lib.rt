@@ -40,6 +40,7 @@ pub enum Kind {
 }
 
 impl Kind {
+    // A method, as `Row::number`.
     pub fn number(self) -> u32
         ensures { result ≡ kind_number self }
     {
@@ -47,7 +48,7 @@ impl Kind {
     }
 }
 
-// A number that is no kind's.
+// A number that is no kind's; a type of its own, as `UnknownRow`.
 #[derive(Clone, Copy, Debug, PartialEq, Eq)]
 pub struct UnknownKind(pub u32);
 
@@ -145,7 +146,7 @@ impl Response {
         plain(Kind::Accepted)
     }
 
-    // A refusal: the table's number and its hour.
+    // A refusal: the table's number and its hour. It takes any number, as it always did; of a `Refusal`, which has fourteen rows, it is `From`.
     pub fn refused(row: u32, hour: u32) -> Response
         ensures { result ≡ T.refused row hour }
     {
@@ -226,7 +227,7 @@ impl From<Row> for Response {
 }
 
 impl ClockName {
-    // No clock name: the refusal table's number.
+    // No clock name: the refusal table's number, any, as it always did; of a row it is `From`.
     pub fn unnamed(row: u32) -> ClockName
         ensures { result ≡ T.unnamed row }
     {

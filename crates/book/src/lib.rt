@@ -18,7 +18,8 @@ use rules::row::Row;
 use session::{Effect, Session};
 
 // A log run: the session at its end, how many calls were run and the bytes of their records. Fewer bytes than the log has: there
-// was room for no more answers, or what follows is no call.
+// was room for no more answers, or what follows is no call. Answers go to the caller's room, since there is no heap; `calls` says how much of it
+// is written.
 #[derive(Clone, Copy)]
 pub struct Reached {
     pub session: Session,
@@ -112,7 +113,7 @@ fn head_of(log: &[u8]) -> Option<Head>
     Some(Head { kind, size })
 }
 
-// Runs the calls of a log from a session, one after the other, and writes down each answer.
+// Runs the calls of a log from a session, one after the other, and writes down each answer. By index: how far the log was read is answered.
 pub fn replay_on(start: Session, log: &[u8], answers: &mut [u64]) -> Reached
     ensures { ReplaysOn start log.now (length answers.old) answers.old answers.new result }
 {

@@ -26,7 +26,7 @@ pub enum Kind {
     Clear,
 }
 
-// A number that is no kind's.
+// A number that is no kind's; a type of its own, as `UnknownRow`.
 #[derive(Clone, Copy, Debug, PartialEq, Eq)]
 pub struct UnknownKind(pub u8);
 
@@ -92,7 +92,7 @@ fn above_zero(n: i64) -> u64
     u64::try_from(n).unwrap_or(0)
 }
 
-// A call's answer as one number.
+// A call's answer as one number: 1, 2 and 3 are docs/LOG.md's own, whatever kinds C has. No `From`: neither type is this crate's.
 #[tactic(auto, unfolding(crate::specs::Calls::answer_word))]
 pub fn answer_word(a: Response) -> u64
     ensures { result ≡ answer_word a }
@@ -105,7 +105,7 @@ pub fn answer_word(a: Response) -> u64
     }
 }
 
-// The number in the four bytes from index i on.
+// The number in the four bytes from index i on: `word_at` by the log's name, so that `book` needs no bits of messages.
 pub fn number_at(p: &[u8], i: usize) -> u32
     ensures { result ≡ word_at p.now i }
 {

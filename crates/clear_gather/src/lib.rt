@@ -11,7 +11,7 @@ use hour_offers::{Execution, Holder, Offer};
 use rules::{DIRECTIONS, LODGEMENTS};
 use session::{Lodgement, Notice, Session, Unit, Verdict, units};
 
-// The unit with a number among some units; of a number that none has, a unit with nothing.
+// The unit with a number among some units; of a number that none has, a unit with nothing, which stands for none in C's arrays.
 fn unit_among(units: &[Unit], number: u32) -> Unit
     ensures { result ≡ unit_among units.now number }
 {
@@ -78,7 +78,8 @@ fn capacities_at(notices: &[Notice; DIRECTIONS], k: usize) -> [Option<u32>; 10]
 }
 
 // The hour at index k: its accepted offers and executions by rising lodging number, and its published capacities. `holders` are those
-// of the standing lodgements (`holders_of`), at the index of each, which is also the lodgement's in four arrays of the session, as C has it.
+// of the standing lodgements (`holders_of`), at the index of each, which is also the lodgement's in three arrays of the session, as C has them. A slice's type does
+// not tell that they are at most 128.
 pub fn hour_at(s: &Session, holders: &[Holder], k: usize) -> Hour
     requires { (length holders.now ≤ 128) × (k < 25) }
     ensures { Built s.now holders.now k result }

@@ -49,7 +49,8 @@ impl Slots {
         }
     }
 
-    // A portion more: at its unit's slot where the unit has it or nothing stands there, or else beside.
+    // A portion more: at its unit's slot where the unit has it or nothing stands there, or else beside. A slot with energy 0 is empty: it adds
+    // nothing to a sum, so an Option would say what the sum says.
     fn add(&mut self, portion: Portion)
         requires kept { Kept 127 self.old }
         requires ranged { portion.energy ≤ max_energy }

@@ -6,10 +6,12 @@ ghost use Rattle.rules.specs.Units.{max_energy};
 use arrayvec::ArrayVec;
 use rules::LODGEMENTS;
 
-// Units are found by slots, the remainders of their numbers: a pass over all for each unit would take most of a quiet hour's time.
+// Units are found by slots, the remainders of their numbers: a pass over all for each unit would take most of a quiet hour's time, and a map
+// would need a heap, which the gate does not use.
 pub const SLOTS: usize = 256;
 
-// An energy, and the number of the unit that has it.
+// An energy, and the number of the unit that has it. Beside `hour_share::Amount`, whose energy is looked up by direction: one type over both keys
+// would name neither.
 #[derive(Clone, Copy, Default)]
 pub struct Portion {
     pub unit: u32,

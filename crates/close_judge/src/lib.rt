@@ -22,7 +22,7 @@ use session::{Energies, Session, Verdict};
 pub struct Standing<'a> {
     pub session: &'a Session,
     pub energies: &'a [Energies],
-    // The index of each one's unit.
+    // The index of each one's unit, beside C's arrays of lodgements and energies, at whose indices it is read.
     pub holders: ArrayVec<Option<usize>, LODGEMENTS>,
     pub ghost within: { Within session.now },
     pub ghost loads: { energies.now ≡ take session.now.standing session.now.energies },
@@ -101,7 +101,8 @@ impl<'a> Standing<'a> {
     }
 
     // The first limit of the unit at index p that the lodgement at an index passes together with others, and the lowest hour in which it
-    // does.
+    // does. What index, unit and others are is asked, here and of `judge`: no type of an index has the list that it is of, and a struct of the
+    // three would be made for each call and opened at once.
     #[tactic(auto, using(crate::proofs::StandingLaws::holder_laws))]
     fn judge_limits(&self, at: usize, p: usize, others: &[usize]) -> Result<(), Refusal>
         requires standing { at < self.now.session.now.standing }

@@ -27,11 +27,11 @@ pub enum Class {
     Offers,
 }
 
-impl Class {
+impl From<Key> for Class {
+    ghost from_gives = { λ key class. class ≡ class_in key };
+
     #[tactic(auto, unfolding(crate::specs::Passes::class_in))]
-    fn of(key: Key) -> Class
-        ensures { result ≡ class_in key }
-    {
+    fn from(key: Key) -> Class {
         if !key.execution {
             Class::Offers
         } else if key.default {
@@ -84,7 +84,7 @@ impl<'a> Closing<'a> {
     {
         let session = self.standing.session;
         let key = session.lodgements[at].key;
-        Class::of(key) == class
+        Class::from(key) == class
             && !(key.default && is_hidden(&session.lodgements[..session.standing], key))
     }
 
@@ -101,7 +101,7 @@ impl<'a> Closing<'a> {
         self.standing.put_accepted(&self.verdicts, p, others);
     }
 
-    // The verdict of the lodgement at an index, of the unit at index p, is given.
+    // The verdict of the lodgement at an index, of the unit at index p, is given. (That p is its unit is asked as `Standing::judge` asks it.)
     fn give(&mut self, at: usize, p: usize, verdict: Verdict)
         requires standing { at < 128 }
         requires unit { p < 64 }
@@ -150,6 +150,7 @@ impl<'a> Closing<'a> {
             → ClosingAt s b (number_of class) 0 self.new.verdicts self.new.room.items }
     {
         let mut others = ArrayVec::new();
+        // By index: a lodgement's key, unit, energies and verdict stand at it in four arrays, and a step writes one of them.
         for at in (0..self.standing.session.standing).rev() {
             self.step(class, at, &mut others);
         }

@@ -155,7 +155,7 @@ impl fmt::Display for Maxima<'_> {
             figures,
         } = self.0;
         let market = &figures.market;
-        // An hour that is cleared has no capacity of border 0.
+        // An hour that is cleared has no capacity of border 0. By index: the way names the border, the direction and the one across.
         for (way, maximum) in figures.maxima.iter().enumerate() {
             if let (Some(capacity), Some(maximum)) = (capacities[way], maximum) {
                 let name = if way % 2 == 0 { "export" } else { "import" };

@@ -16,6 +16,7 @@ pub(crate) struct Numbers<'a> {
 }
 
 impl<'a> Numbers<'a> {
+    // Two constructors, so that no caller is asked for a base of at most 16.
     pub(crate) fn decimal(text: &'a [u8]) -> Numbers<'a>
         ensures base { result.base ≡ 10 }
         ensures text { result.text.now ≡ text.now }
@@ -49,6 +50,7 @@ impl<'a> Numbers<'a> {
     }
 }
 
+// Not `to_digit`: it takes small letters too, and the program does what it did.
 fn digit(byte: u8, base: u32) -> Option<u32>
     ensures value { result ≡ cond (is_digit base byte) (Some (counts byte)) None }
     ensures small { IfSome result (λ d. d < 16) }
@@ -60,7 +62,7 @@ fn digit(byte: u8, base: u32) -> Option<u32>
     }
 }
 
-// A number with a digit more.
+// A number with a digit more. Not `saturating_mul`: to base 10 it would stop later, and the program does what it did.
 fn longer(number: u32, base: u32, digit: u32) -> u32
     requires base { base ≤ 16 }
     requires digit { digit < 16 }

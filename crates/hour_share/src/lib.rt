@@ -38,6 +38,7 @@ fn pro_rata(r: u32, g: u32, m: u32) -> u32
         return 0;
     }
     let floor = u64::from(r) * u64::from(m) / u64::from(g);
+    // A cast: no `From` narrows, and a `TryFrom` would have a refusal that never is.
     floor as u32
 }
 

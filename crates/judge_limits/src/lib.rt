@@ -21,7 +21,7 @@ pub fn maximum_energies(maximum: u32) -> [u64; HOURS]
     [u64::from(maximum); HOURS]
 }
 
-// Limit 11 by hour: "without one, the maximum is available".
+// Limit 11 by hour: "without one, the maximum is available". By index: `map` of an array takes it by value, and would copy the notice's.
 pub fn available_energies(maximum: u32, notice: &Notice) -> [u64; HOURS]
     ensures { result ≡ cond notice.now.given notice.now.energies (replicate 25 maximum) }
 {

@@ -40,8 +40,8 @@ fn is_full(n: usize, last: u32, at: Option<usize>) -> bool
     Session::MAX_LODGEMENTS <= n && at.is_none() || Session::MAX_NUMBER <= last
 }
 
-// The unit of a message, or the row that refuses its fields, in the table's order. What it replaces has the index `replaces`. `Within` is
-// what `Session::sound` has told.
+// The unit of a message, or the row that refuses its fields, in the table's order. What it replaces has the index `replaces`.
+// (`Within`: `Session::sound` says why no type has it.)
 pub fn judge_fields(
     s: &Session,
     m: &Fields,

@@ -85,7 +85,7 @@ pub fn bad_key(key: Key) -> bool
     message_ranges::bad_key(key.execution, key.unit, key.contract)
 }
 
-// The unit of a key, or row 6: "unregistered, or domestic for an execution". `Within` is what `Session::sound` has told.
+// The unit of a key, or row 6: "unregistered, or domestic for an execution". (`Within`: `Session::sound` says why no type has it.)
 pub fn holder_for(s: &Session, key: Key) -> Result<Holder, Row>
     requires { Within s.now }
     ensures { HolderFor s.now key result }

@@ -25,7 +25,7 @@ pub struct Pending {
     pub beside: ArrayVec<usize, LODGEMENTS>,
 }
 
-// What is found for a message of the right form, or the row from 4 to 9 that refuses it. `Within` is what `Session::sound` has told.
+// What is found for a message of the right form, or the row from 4 to 9 that refuses it. (`Within`: `Session::sound` says why no type has it.)
 fn found(s: &Session, m: Fields, top: u32) -> Result<Pending, Row>
     requires { Within s.now }
     ensures rows { GivesRow s.now top m result }

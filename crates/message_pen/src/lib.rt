@@ -42,7 +42,8 @@ impl<'a> Pen<'a> {
         self.buffer[from..from + n].copy_from_slice(&bytes[8 - n..]);
     }
 
-    // v in w bits after those that are written. Whole bytes are stored, the rest waits.
+    // v in w bits after those that are written. Whole bytes are stored, the rest waits. The room that is asked differs with each call, so that the
+    // pen's type cannot hold it.
     pub fn put_bits(&mut self, v: u64, w: usize)
         requires room { Room self.old w }
         requires width { w ≤ 40 }
@@ -69,7 +70,7 @@ impl<'a> Pen<'a> {
 }
 
 // Form, kind, default mark, unit and contract as one number of 39 bits. Ranges are asked of C's struct, which any caller may write: the writer
-// has looked at them, and an invariant in the type would ask them of C.
+// has looked at them, an invariant in the type would ask them of C, and a wrapper with a ghost field would be opened at each field written.
 pub fn head_word(m: &Fields) -> u64
     requires { InRanges (fields_in m.now) }
     ensures small { result < 2 ^ 39 }

@@ -30,7 +30,7 @@ impl<'a> Head<'a> {
         }
     }
 
-    // The number in `width` bits from bit `at` on.
+    // The number in `width` bits from bit `at` on. (The width's bound: `message_bits::part` says why it is asked.)
     fn field(self, at: usize, width: usize) -> u32
         requires width { width ≤ 32 }
         requires some { 1 ≤ at + width }

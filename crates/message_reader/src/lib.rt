@@ -46,6 +46,7 @@ fn fill<const EXECUTION: bool>(s: &[u8], m: &mut Fields) -> bool
     let price = price_width(EXECUTION);
     let width = slot_width(EXECUTION);
     let mask = (1u32 << price) - 1;
+    // The bit of the next slot: the reader goes by slice and number, as document 01 names the form.
     let mut at = 64;
     let mut bad = false;
     for h in hours {
@@ -91,7 +92,7 @@ pub fn formed(s: &[u8]) -> Option<Fields>
     Some(said(right_head(s)?))
 }
 
-// What a message says, after its form was found right.
+// What a message says, after its form was found right. It stands since a public function stays: `formed` is the form to use.
 pub fn fields_of(s: &[u8]) -> Fields
     requires { wrong_form s.now ≡ false }
     ensures { fields_in result ≡ message_of s.now }

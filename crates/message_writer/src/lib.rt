@@ -16,7 +16,8 @@ use message_ranges::bad_map;
 use rules::MAX_ENERGY;
 use rules::row::Row;
 
-// The first 64 bits, from the start of the buffer on.
+// The first 64 bits, from the start of the buffer on. (`InRanges`, here and below: `message_pen::head_word` says why no type has it; `Room`: a pen's
+// `put_bits` does.)
 fn put_head(m: &Fields, pen: &mut Pen<'_>)
     requires ranges { InRanges (fields_in m.now) }
     requires room { Room pen.old 64 }

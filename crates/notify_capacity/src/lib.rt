@@ -50,7 +50,7 @@ fn any_off_range(ps: &[Published]) -> bool
     ps.iter().any(|p| bad_published(p))
 }
 
-// A direction as the session keeps it.
+// A direction as the session keeps it: no `From`, since neither type is this crate's.
 #[tactic(auto, unfolding(crate::specs::Capacities::direction_as))]
 fn stored_direction(p: &Published) -> Notice
     ensures { result ≡ direction_as p.now }
@@ -62,7 +62,7 @@ fn stored_direction(p: &Published) -> Notice
     }
 }
 
-// The notice as the session keeps it.
+// The notice as the session keeps it. By index: `map` of an array takes it by value, and would copy the eight directions.
 fn stored_directions(ps: &[Published; DIRECTIONS]) -> [Notice; DIRECTIONS]
     ensures { result ≡ map direction_as ps.now }
 {

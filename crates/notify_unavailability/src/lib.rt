@@ -37,7 +37,7 @@ pub fn bad_energies(energies: &[u32]) -> bool
     energies.iter().any(|energy| Session::MAX_ENERGY < *energy)
 }
 
-// A notice as the session keeps it: its energies, 0 after them.
+// A notice as the session keeps it: its energies, 0 after them. No `From`: `Notice` is not this crate's, and more than one could be meant.
 pub fn stored_notice(energies: &[u32]) -> Notice
     ensures { result ≡ stored_as energies.now }
 {

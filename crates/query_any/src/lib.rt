@@ -49,7 +49,7 @@ pub enum Query {
 
 impl Query {
     // The query with a number of its own, as a program may keep it; calls have the numbers 1 to 7 (crates/book_log). It is of a lodging number,
-    // a unit or a border, of a direction and of an hour, as far as it asks for these.
+    // a unit or a border, of a direction and of an hour, as far as it asks for these. No `TryFrom`: it is made of four values.
     #[tactic(auto, unfolding(crate::specs::Asked::asked))]
     pub fn numbered(kind: u8, of: u32, export: bool, hour: u32) -> Option<Query>
         ensures { query_of result ≡ asked kind of export hour }
@@ -99,7 +99,8 @@ impl Query {
     }
 }
 
-// The reply to a query by its number, where `Query::reply` has the query itself. A number that is no query's is refused as 3.
+// The reply to a query by its number, where `Query::reply` has the query itself. A number that is no query's is refused as 3. It was public
+// before `Query` was, so it stays, and makes the number an enum at once.
 pub fn reply_to(s: &Session, kind: u8, of: u32, export: bool, hour: u32) -> Response
     ensures { Replied s.now (asked kind of export hour) result }
 {

@@ -88,6 +88,8 @@ impl Query for BalanceQuery {
     }
 }
 
+// Two functions over one query, since C has an entry for each; what is asked comes one by one, as C hands it.
+
 // The final market balance of a border: 2, 4, 5.
 pub fn market(s: &Session, border: u32, hour: u32) -> Response
     ensures { Answered s.now (Q.market border hour) result }

@@ -14,7 +14,7 @@ use query_balance::judge_border;
 use rules::row::Row;
 use session::{HourFigures, Session};
 
-// Which of a direction's maxima is asked for.
+// Which of a direction's maxima is asked for. The cases of `query_balance`'s enum, of another figure: one for both would be no plainer at either use.
 #[derive(Clone, Copy, Debug, PartialEq, Eq)]
 enum Maximum {
     Market,
@@ -89,6 +89,8 @@ impl Query for MaximumQuery {
         }
     }
 }
+
+// Two functions over one query, since C has an entry for each; what is asked comes one by one, as C hands it.
 
 // The market maximum of a border's direction, "absent without capacity": 2, 4, 5.
 pub fn market_maximum(s: &Session, border: u32, export: bool, hour: u32) -> Response

@@ -78,6 +78,8 @@ impl Query for UnitQuery {
     }
 }
 
+// Two functions over one query, since C has an entry for each; what is asked comes one by one, as C hands it.
+
 // "a unit's matched [..] energy in an hour": 2, 4, 5, 6.
 pub fn matched(s: &Session, unit: u32, hour: u32) -> Response
     ensures { Answered s.now (Q.matched unit hour) result }

@@ -83,7 +83,7 @@ fn asked(words: &mut Words) -> Option<Line> {
     })
 }
 
-// What a line asks for, where all its words are understood.
+// What a line asks for, where all its words are understood: `Line::read` of rehearse_words, for more lines.
 fn read(line: &[u8]) -> Option<Line> {
     let mut words = Words { rest: line };
     let line = asked(&mut words)?;
@@ -139,7 +139,7 @@ impl Day {
         println!(rt; "{}: bytes {}", self.lines, self.log.len())
     }
 
-    // From a fresh session of the date, where one is given.
+    // From a fresh session of the date, where one is given. Each of the two is a line, and a closure for it would be longer.
     fn run_log(&mut self, rt: &impl Print, date: Option<Date>, part: Part) -> io::Result<()> {
         let mut room = [NO_ANSWER; ANSWERS];
         let Some(answers) = room.get_mut(..part.room) else {

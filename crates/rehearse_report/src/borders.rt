@@ -6,7 +6,7 @@ use std::fmt;
 
 #[derive(Clone, Copy, Debug, PartialEq, Eq)]
 enum Border {
-    France,
+    France = 1,
     Andorra,
     Portugal,
     Morocco,
@@ -21,12 +21,7 @@ impl Border {
     ];
 
     fn number(self) -> u32 {
-        match self {
-            Border::France => 1,
-            Border::Andorra => 2,
-            Border::Portugal => 3,
-            Border::Morocco => 4,
-        }
+        self as u32
     }
 }
 

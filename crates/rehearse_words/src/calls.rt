@@ -78,7 +78,7 @@ fn run(word: &[u8]) -> Option<(u32, usize)> {
     Some((number(energy)?, times as usize))
 }
 
-// Energies, comma-separated: how many there are, and the first 25.
+// Energies, comma-separated: how many there are, and the first 25, as C's notices have them, where the count may be more.
 fn energies(word: &[u8]) -> Option<(usize, [u32; HOURS])> {
     let mut count = 0usize;
     let mut energies = [0u32; HOURS];

@@ -25,7 +25,7 @@ pub enum Row {
 }
 
 impl Row {
-    // The table's number.
+    // The table's number: a method, since `From` would not say at a call which number it is.
     pub fn number(self) -> u32
         ensures { result ≡ number_of self }
     {
@@ -35,7 +35,7 @@ impl Row {
 
 impl Error for Row {}
 
-// A number that is none of the table's.
+// A number that is none of the table's. A type of its own: one for several enums would not say whose number it is not.
 #[derive(Clone, Copy, Debug, PartialEq, Eq)]
 pub struct UnknownRow(pub u32);
 

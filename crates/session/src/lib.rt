@@ -146,7 +146,8 @@ pub struct Opened {
     pub session: Session,
 }
 
-// What stands at an index that is not used.
+// What stands at an index that is not used. For three of them the default is it: they have names since contracts name the blanks, these and those
+// with arrays.
 pub fn no_unit() -> Unit
     ensures { result ≡ no_unit }
 {
@@ -244,7 +245,7 @@ impl Session {
             && self.last <= Self::MAX_NUMBER
     }
 
-    // A refused call hands the session back.
+    // A refused call hands the session back. Row and hour are any numbers, as they always were: a `Refusal` has fourteen rows.
     pub fn refused(self, row: u32, hour: u32) -> Effect
         ensures { result ≡ refused_as self row hour }
     {

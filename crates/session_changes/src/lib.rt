@@ -146,6 +146,7 @@ pub trait Call: Copy {
 
     ghost is_found: { Session → Self → Self.Found → Type 0 };
 
+    // (`Within`: `Session::sound` says why no type has it.)
     fn judge(&self, s: &Session) -> Result<Self::Found, Row>
         requires { Within s.now }
         ensures judges { JudgesRow s.now (call self.now) result }

@@ -47,7 +47,8 @@ fn highest_sale_price(offers: &[Offer], over: &[u32; 10]) -> Option<u32>
         .max()
 }
 
-// What an offer has matched, where it counts. Added by this every offer is, since a sum without branches is the quicker one.
+// What an offer has matched, where it counts. A sum of what each counts is how the contracts below say it; that it fits is
+// asked, which a slice's type does not tell.
 fn counted(counts: bool, matched: u32) -> u32
     ensures { result ≡ cond counts matched 0 }
 {

@@ -31,7 +31,8 @@ fn is_inside(group: Group, offer: &Offer) -> bool
     }
 }
 
-// Whether an offer gives way in a direction passed.
+// Whether an offer gives way in a direction passed. `over` and `group` come one by one: `runs_over` and Share read the one, `is_inside` the other, so
+// that a struct of both would be opened in each.
 fn gives_way(over: &[u32; 10], group: Group, offer: &Offer) -> bool
     ensures { result ≡ gives_in (group_in group) (over_in over.now) (offer_in offer.now) }
 {
@@ -61,7 +62,7 @@ fn remaining(over: &[u32; 10], group: Group, offer: &Offer, deduction: u32) -> u
     }
 }
 
-// What each offer loses in all directions passed. That offers are at most 128 is asked of a slice, which an hour's list and those
+// What each offer loses in all directions passed. That offers are at most 128 and in range is asked, here and below, of a slice, which an hour's list and those
 // at a border are both lent as.
 fn deductions(over: &[u32; 10], group: Group, offers: &[Offer]) -> ArrayVec<u32, LODGEMENTS>
     requires few { length offers.now ≤ 128 }
