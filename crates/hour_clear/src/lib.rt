@@ -23,7 +23,7 @@ fn fresh(offers: &[Offer], fresh: &mut ArrayVec<Offer, LODGEMENTS>)
     }
 }
 
-// Executions before their hour's cut, likewise.
+// Executions before their hour's cut, likewise: `try_extend_from_slice` would bring a `Result` to let go.
 fn uncut(executions: &[Execution], uncut: &mut ArrayVec<Execution, LODGEMENTS>)
     requires few { length executions.now ≤ 128 }
     requires empty { uncut.old.items ≡ [] }

@@ -52,8 +52,8 @@ fn total(energies: &[u32]) -> u32
 }
 
 // The pro rata deductions, added to others index by index, and their sum. By index: the proof of a `zip` does not close, since nothing is
-// known of what an adapter of `iter_mut` writes, but for `enumerate`. That the two slices are of one length no type of theirs tells, so
-// each function asks it.
+// known of what an adapter of `iter_mut` writes, but for `enumerate`. That the two slices are of one length, and that there is room to add, no type
+// of theirs tells, so each function asks it.
 fn add_floors(r: u32, g: u32, amounts: &[u32], deductions: &mut [u32]) -> u32
     requires within { r ≤ g }
     requires few { length amounts.now ≤ 128 }
@@ -97,7 +97,7 @@ fn hand_out(left: u32, amounts: &[u32], deductions: &mut [u32])
 }
 
 // To take an excess from amounts: what each of them loses, "the lesser of the excess and" their sum being taken, added to what it loses
-// already. The deductions are added where they stand, since a withdrawal shares at each of its steps.
+// already: they are added where they stand, as the rules add those of a direction to those of the others.
 fn add_share(excess: u32, amounts: &[u32], deductions: &mut [u32])
     requires few { length amounts.now ≤ 128 }
     requires ranged { Ranged amounts.now }
@@ -137,27 +137,23 @@ pub fn share(excess: u32, amounts: &[u32]) -> ArrayVec<u32, LODGEMENTS>
     deductions
 }
 
-// What each of some holders counts for in direction w, written to an empty list: `of` says what it has, and in which direction it gives way.
+// What each of some holders counts for in direction w: `of` says what it has, and in which direction it gives way.
 // How long a slice is and what its numbers are, and that a closure can be called, no type tells, so each function asks it.
-fn energies_in<T, F: Fn(&T) -> Amount>(
-    w: usize,
-    holders: &[T],
-    of: &F,
-    energies: &mut ArrayVec<u32, LODGEMENTS>,
-)
+fn energies_in<T, F: Fn(&T) -> Amount>(w: usize, holders: &[T], of: &F) -> ArrayVec<u32, LODGEMENTS>
     requires callable { F.IsAlwaysCallable of.now }
     requires few { length holders.now ≤ 128 }
-    requires empty { energies.old.items ≡ [] }
     requires ranged { All (λ x. (a : Amount) → FnReturnsAt F.Fn of.now x a → AmountInRange a) holders.now }
     ensures value { (amount : T → Amount)
         → All (λ x. (a : Amount) → FnReturnsAt F.Fn of.now x a → a ≡ amount x) holders.now
-        → energies.new.items ≡ map (energy_in w) (map amount holders.now) }
-    ensures same_length { length energies.new.items ≡ length holders.now }
-    ensures ranged_after { Ranged energies.new.items }
+        → result.items ≡ map (energy_in w) (map amount holders.now) }
+    ensures same_length { length result.items ≡ length holders.now }
+    ensures ranged_after { Ranged result.items }
 {
+    let mut energies = ArrayVec::new();
     for x in holders {
         energies.push(of(x).energy_in(w));
     }
+    energies
 }
 
 // What each holder loses in all directions, of their excesses; the directions are added from the last to the first, as the rules do.
@@ -178,8 +174,7 @@ pub fn deductions<T, F: Fn(&T) -> Amount>(
     // By index: w is the direction, of which `over` tells one thing and each holder's amount another.
     for w in (2..10).rev() {
         if 0 < over[w] {
-            let mut energies = ArrayVec::new();
-            energies_in(w, holders, &of, &mut energies);
+            let energies = energies_in(w, holders, &of);
             add_share(over[w], &energies, &mut sums);
         }
     }

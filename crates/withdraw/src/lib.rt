@@ -79,6 +79,7 @@ pub fn withdraw(
     let mut abroad = Abroad::of(offers);
     let mut volume = volume;
     let mut flows = *market;
+    // The count of steps is answered.
     for steps in 0..bound {
         let over = hour_borders::excesses(maxima, &flows);
         if !hour_borders::passed(&over) {

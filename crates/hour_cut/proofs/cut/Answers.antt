@@ -1,4 +1,4 @@
-use Rattle.std.proofs.Common.{rules, ◌≡◌, ◌∙◌, ap, length}
+use Rattle.std.proofs.Common.{rules, ◌≡◌, ◌∙◌, ap}
 use Rattle.rules.specs.Executions.{less_each, cut_all}
 use Rattle.rules.proofs.ListLaws.{all_map}
 use Rattle.rules.proofs.ElementLaws.{all-every, all-unmapped}
@@ -9,9 +9,6 @@ use Rattle.hour_cut.proofs.cut.Goals as goal
 pub deductions-lost-requires-clause-ranged : goal.deductions-lost-requires-clause-ranged
 deductions-lost-requires-clause-ranged c =
     all_map (λ x r a h. let e : a ≡ given x = search rules in rw e r.energy) (all-unmapped execution_in c.args.executions.now c.requires.in_range)
-
-pub reduce-requires : goal.reduce-requires
-reduce-requires c = ap length c.deref.ensures.0 ∙ c.deductions-lost.ensures.same_length
 
 pub returns-clause-cut : goal.returns-clause-cut
 unfolding cut_all

@@ -51,9 +51,3 @@ pub returns-clause-lowered : goal.returns-clause-lowered
 returns-clause-lowered c =
     let m = first-matched c.requires.sound c.deref.ensures.0 c.order-sales.ensures.ordered c.deref-2.ensures.0 c.order-purchases.ensures.ordered c.match_offers-volume.ensures.matched in
     market-lowered m c.withdraw-end.ensures.lowered
-
-pub returns-clause-ranges : goal.returns-clause-ranges
-returns-clause-ranges c = c.withdraw-end.ensures.laid.sound
-
-pub returns-clause-within : goal.returns-clause-within
-returns-clause-within c = c.withdraw-end.ensures.laid.within

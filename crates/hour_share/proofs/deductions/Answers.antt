@@ -20,28 +20,22 @@ loop-w-init g c =
       added = λ amount k. e ∙ zeros-map amount hs ∙ deductions-start c.args.over.now (map amount hs) 10 (omega arith);
     }
 
-pub add_share-requires-clause-ranged : goal.add_share-requires-clause-ranged
-add_share-requires-clause-ranged g c = rw c.deref.ensures.0 c.energies_in.ensures.ranged_after
-
-pub add_share-requires-clause-room : goal.add_share-requires-clause-room
-add_share-requires-clause-room g c i = rw c.deref_mut.ensures.value (omega (arith, c.loop-w.invariant.room i))
-
 pub loop-w-preserved-then-over-w-gt0 : goal.loop-w-preserved-then-over-w-gt0
 loop-w-preserved-then-over-w-gt0 g c =
     let l = c.loop-w in
     let over = c.args.over.now in
     let v = l.w - 1 in
-    let es = c.energies_in.new.energies.items in
+    let es = c.energies_in-energies.result.items in
     let lost = share (min (get_or over v 0) (sum es)) es in
     let w : l.w ≡ v + 1 = omega arith in
     let added : c.add_share.new.deductions ≡ add_each lost l.sums.items = rw (c.add_share.ensures, c.deref.ensures.0, c.deref_mut.ensures.value) in
-    let even : length lost ≡ length l.sums.items = omega (arith, share-length (min (get_or over v 0) (sum es)) es (omega arith), c.energies_in.ensures.same_length, l.invariant.same_length) in
+    let even : length lost ≡ length l.sums.items = omega (arith, share-length (min (get_or over v 0) (sum es)) es (omega arith), c.energies_in-energies.ensures.same_length, l.invariant.same_length) in
     let e : length c.add_share.new.deductions ≡ length l.sums.items = ap length added ∙ sums-length lost l.sums.items even in
     let room : (i : ℕ) → get_or c.add_share.new.deductions i 0 ≤ (10 - v) * max_energy =
     λ i. omega (
       arith,
       ap (λ (s : List ℕ). get_or s i 0) added,
-      sums-small ((10 - l.w) * max_energy) lost l.sums.items (lost-ranged (min (get_or over v 0) (sum es)) es (omega arith) c.energies_in.ensures.ranged_after) l.invariant.room i,
+      sums-small ((10 - l.w) * max_energy) lost l.sums.items (lost-ranged (min (get_or over v 0) (sum es)) es (omega arith) c.energies_in-energies.ensures.ranged_after) l.invariant.room i,
     ) in
     rw (refilled l.sums.items c.add_share.new.deductions e) record {
       first = omega arith;
@@ -50,7 +44,7 @@ loop-w-preserved-then-over-w-gt0 g c =
       room = room;
       added = λ amount k.
           let ams = map amount c.args.holders.now in
-          deductions-more over ams v l.sums.items (omega arith) c.if-over-w-gt0.true (lost-said (get_or over v 0) v ams (c.energies_in.ensures.value amount k) refl)
+          deductions-more over ams v l.sums.items (omega arith) c.if-over-w-gt0.true (lost-said (get_or over v 0) v ams (c.energies_in-energies.ensures.value amount k) refl)
           (l.invariant.added amount k ∙ ap (deductions_from over ams) w) added;
     }
 

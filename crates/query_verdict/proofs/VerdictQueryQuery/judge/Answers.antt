@@ -1,6 +1,5 @@
 use mathlib.Core.Path.{sym, ◌∙◌}
-use Rattle.session.proofs.ImageLaws.{guarded}
-use Rattle.query_verdict.proofs.VerdictLaws.{verdict-unsound, verdict-2, verdict-found, found-fits}
+use Rattle.query_verdict.proofs.VerdictLaws.{verdict-unsound, verdict-2, verdict-found}
 use Rattle.query_verdict.proofs.VerdictQueryQuery.judge.Goals as goal
 use Rattle.query_verdict.proofs.VerdictQueryQuery.judge.Goals.{then-not-sound-via-then-not-sound, then-not-sound-via-else-not-sound+then-not-s}
 
@@ -13,8 +12,3 @@ returns-then-not-sound-clause-judges c =
 
 pub returns-clause-judges : goal.returns-clause-judges
 returns-clause-judges c = rw c.ok_or.ensures.value (verdict-found _ _ c.if-not-s.false _ c.lodged_at.ensures.found)
-
-pub returns-clause-found : goal.returns-clause-found
-returns-clause-found c =
-    rw c.ok_or.ensures.value
-    (found-fits _ _ (guarded _ (sym c.sound.ensures ∙ c.if-not-sound.false)) c.if-not-s.false _ c.lodged_at.ensures.inside c.lodged_at.ensures.found)
