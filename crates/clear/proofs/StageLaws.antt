@@ -7,6 +7,7 @@ use Rattle.rules.specs.Refusals.{row, first_row}
 use Rattle.rules.specs.DayBook as D
 use Rattle.rules.specs.declared.row.Row as Code
 use Rattle.rules.specs.declared.row.Row.TheVariants.{Gate}
+use Rattle.rules.proofs.BoolLaws.{by_bool}
 use Rattle.session.specs.declared.Session.{Session}
 use Rattle.session.specs.Parts.{JudgesRow, given_by}
 use Rattle.session.proofs.ImageLaws.{closed-as, cleared-as}
@@ -21,9 +22,9 @@ module _ (s : Session) where
   clear-early h b e = rw (closed-as s b e, h)
 
   -- "clearing twice"
-  pub clear-twice : s.closed ≡ true → s.cleared ≡ true → Judged (Err Gate)
+  pub clear-twice : s.cleared ≡ true → Judged (Err Gate)
   unfolding D.rows_of D.gate_row D.call_rows row first_row given_by
-  clear-twice h k b e = rw (closed-as s b e, h, cleared-as s b e, k)
+  clear-twice k b e = by_bool b.closed (λ t. rw (t, cleared-as s b e, k)) (λ t. rw t)
 
   pub clear-0 : s.closed ≡ true → s.cleared ≡ false → Judged (Ok tt)
   unfolding D.rows_of D.gate_row D.call_rows row first_row given_by

@@ -5,3 +5,4 @@ pub mod DayLaws
 pub mod HourLaws
 pub mod OfferLaws
 pub mod ReadyLaws
+pub mod UnitLaws
