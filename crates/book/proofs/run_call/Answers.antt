@@ -1,21 +1,9 @@
-use Rattle.book_log.specs.declared.Kind.TheVariants.{Register, Capacity, Available, Lodge, Annul, Close, Clear}
+use Rattle.book_log.specs.declared.Kind.TheVariants.{Lodge, Close, Clear}
 use Rattle.book.proofs.CallLaws.{met-as, of-kind, call-4, call-6, call-7}
 use Rattle.book.proofs.run_call.Goals as goal
 
-pub returns-in-Register : goal.returns-in-Register
-returns-in-Register c = of-kind _ _ Register _ _ c.in-Register.is c.run_register.ensures
-
-pub returns-in-Capacity : goal.returns-in-Capacity
-returns-in-Capacity c = of-kind _ _ Capacity _ _ c.in-Capacity.is c.run_capacity.ensures
-
-pub returns-in-Available : goal.returns-in-Available
-returns-in-Available c = of-kind _ _ Available _ _ c.in-Available.is c.run_available.ensures
-
 pub returns-in-Lodge : goal.returns-in-Lodge
 returns-in-Lodge c = of-kind _ _ Lodge _ _ c.in-Lodge.is (met-as _ _ _ _ (call-4 _) c.lodge.ensures)
-
-pub returns-in-Annul : goal.returns-in-Annul
-returns-in-Annul c = of-kind _ _ Annul _ _ c.in-Annul.is c.run_annul.ensures
 
 pub returns-in-Close : goal.returns-in-Close
 returns-in-Close c = of-kind _ _ Close _ _ c.in-Close.is (met-as _ _ _ _ (call-6 _) c.close.ensures)
