@@ -19,7 +19,7 @@ use Rattle.session.specs.Bare.{bare_notice}
 use Rattle.session.specs.Image.{no_unit}
 use Rattle.session.specs.declared.Unit.{Unit}
 use Rattle.session.specs.declared.Notice.{Notice}
-use Rattle.judge_limits.specs.Limits.{notice_in, border_at}
+use Rattle.judge_limits.specs.Limits.{notice_in, limit_at}
 use Rattle.std.specs.Prelude.{Some, None}
 use Rattle.std.specs.Option.{unwrap_or}
 use Rattle.std.specs.declared.option.Option as O
@@ -29,8 +29,8 @@ use Rattle.close_ceilings.specs.Ceilings.{most, line_of, line_at, line_row, ceil
 -- Limit 12
 
 -- one that does not apply is as much as any
-pub line_as : (cs : List Notice) (b : ℕ) (l : O.Option (List ℕ)) (a h : ℕ) → most ≤ a → h < 25 → border_at l (suc h) ≡ border_sum (map notice_in cs) b (suc h) → min (get_or (unwrap_or l (replicate 25 a)) h 0) most ≡ line_at cs b h
-unfolding line_at line_of border_at
+pub line_as : (cs : List Notice) (b : ℕ) (l : O.Option (List ℕ)) (a h : ℕ) → most ≤ a → h < 25 → limit_at l (suc h) ≡ border_sum (map notice_in cs) b (suc h) → min (get_or (unwrap_or l (replicate 25 a)) h 0) most ≡ line_at cs b h
+unfolding line_at line_of limit_at
 line_as cs b None a h m i e = ap (λ n. min n most) (get_or-replicate {A = ℕ} 25 h a 0 i) ∙ (let k : min a most ≡ most = omega arith in k) ∙ ap line_of e
 line_as cs b (Some sums) a h m i e = ap (λ n. min n most) (sym (hourly-suc sums h)) ∙ ap line_of e
 

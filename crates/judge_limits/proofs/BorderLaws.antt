@@ -14,7 +14,7 @@ use Rattle.rules.specs.Lists.{hourly}
 use Rattle.rules.specs.Units.{Published, direction, capacity_of, both_at, border_sum}
 use Rattle.session.specs.Bare.{bare_notice}
 use Rattle.session.specs.declared.Notice.{Notice}
-use Rattle.judge_limits.specs.Limits.{notice_in, border_at}
+use Rattle.judge_limits.specs.Limits.{notice_in, limit_at}
 
 both-none : (h : ℕ) (p : Published) → both_at h p none ≡ none
 unfolding both_at
@@ -32,8 +32,8 @@ module _ (ns : List Notice) (b h : ℕ) where
   index-import = get_or-map notice_in ns ((b - 1) * 2 + 1) bare_notice
 
   -- "0 domestic"
-  pub off-domestic : b ≡ 0 → border_at None h ≡ border_sum (map notice_in ns) b h
-  unfolding border_at border_sum
+  pub off-domestic : b ≡ 0 → limit_at None h ≡ border_sum (map notice_in ns) b h
+  unfolding limit_at border_sum
   off-domestic e = rw (eq-eqb b 0 e)
 
   abbrev pub export : Notice
@@ -43,26 +43,26 @@ module _ (ns : List Notice) (b h : ℕ) where
   import = get_or ns ((b - 1) * 2 + 1) bare_notice
 
   module _ (z : b ≡ 0 → ⊥) where
-    absent-export : export.given ≡ false → border_at None h ≡ border_sum (map notice_in ns) b h
-    unfolding border_at border_sum notice_in both_at
+    absent-export : export.given ≡ false → limit_at None h ≡ border_sum (map notice_in ns) b h
+    unfolding limit_at border_sum notice_in both_at
     absent-export e = rw (ne_eqb b 0 z, index-export, e)
 
-    pub off-export : export.given ≡ false → border_at None h ≡ border_sum (map notice_in ns) b h
+    pub off-export : export.given ≡ false → limit_at None h ≡ border_sum (map notice_in ns) b h
     off-export e = absent-export e
 
-    pub off-import : import.given ≡ false → border_at None h ≡ border_sum (map notice_in ns) b h
-    unfolding border_at border_sum notice_in
+    pub off-import : import.given ≡ false → limit_at None h ≡ border_sum (map notice_in ns) b h
+    unfolding limit_at border_sum notice_in
     off-import e = rw (ne_eqb b 0 z, index-import, e) (sym (both-none h (capacity_of (map notice_in ns) b true)))
 
     -- a number that no border has
-    pub off-borders : length ns ≡ 8 → 4 < b → border_at None h ≡ border_sum (map notice_in ns) b h
+    pub off-borders : length ns ≡ 8 → 4 < b → limit_at None h ≡ border_sum (map notice_in ns) b h
     off-borders l k = absent-export (ap (λ (x : Notice). x.given) (get_or-eq_default ns bare_notice {n = (b - 1) * 2} (omega arith)))
 
     -- "the sum of the two capacities"
     pub on-border : (sums : List ℕ) → length sums ≡ 25 → length export.energies ≡ 25 → length import.energies ≡ 25
         → ((k : ℕ) → k < 25 → get_or sums k 0 ≡ get_or export.energies k 0 + get_or import.energies k 0) → export.given ≡ true → import.given ≡ true
-        → border_at (Some sums) h ≡ border_sum (map notice_in ns) b h
-    unfolding border_at border_sum notice_in both_at hourly
+        → limit_at (Some sums) h ≡ border_sum (map notice_in ns) b h
+    unfolding limit_at border_sum notice_in both_at hourly
     on-border sums l m n e x y = rw (ne_eqb b 0 z, index-export, index-import, x, y) (ap some (each (h - 1)))
       where
         each : (k : ℕ) → get_or sums k 0 ≡ get_or export.energies k 0 + get_or import.energies k 0

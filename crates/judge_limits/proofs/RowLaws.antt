@@ -21,7 +21,7 @@ use Rattle.session.specs.declared.Unit.{Unit}
 use Rattle.session.specs.declared.Notice.{Notice}
 use Rattle.session.specs.Parts.{given_by}
 use Rattle.judge_loads.specs.Loads.{hour_at, laid}
-use Rattle.judge_limits.specs.Limits.{notice_in, registered_in, judged_in, border_at, limit_in, limits_for, first_passed}
+use Rattle.judge_limits.specs.Limits.{notice_in, registered_in, judged_in, limit_at, limit_in, limits_for, first_passed}
 use Rattle.judge_limits.specs.declared.Limit as Code
 use Rattle.std.specs.declared.option.Option as O
 use Rattle.std.specs.Prelude.{Some, None}
@@ -88,7 +88,7 @@ module _ (H : ℕ) (own : List ℕ) (load : ℕ → ℕ) where
   -- the loop over them: one that does not apply, one that is passed, and one that is not
   module _ (l : Code.Limit) (ls : List Code.Limit) where
     pub first-absent : l.by_hour ≡ None → first_passed (l ∷ ls) H own load ≡ first_passed ls H own load
-    unfolding first_passed limit_rows first_row border_at
+    unfolding first_passed limit_rows first_row limit_at
     first-absent e = rw (row-absent (limit_in l) (λ h. rw e refl))
 
     module _ (es : List ℕ) (is : l.by_hour ≡ Some es) where
@@ -96,7 +96,7 @@ module _ (H : ℕ) (own : List ℕ) (load : ℕ → ℕ) where
       low = lowest (passed_at own load (laid es)) H
 
       low-is : lowest (passed_at own load (limit_in l)) H ≡ low
-      unfolding border_at
+      unfolding limit_at
       low-is = limit-same H own load (limit_in l) (laid es) (λ h a b. rw is refl)
 
       pub first-passed : (h : ℕ) → hour_at low ≡ Some h → first_passed (l ∷ ls) H own load ≡ some (number_of l.row, h)
@@ -136,20 +136,20 @@ module _ (H : ℕ) (own : List ℕ) (load : ℕ → ℕ) where
     r = registered_in u n
 
     maximum-row : row_by (limit_in (record { row = Maximum; by_hour = Some (replicate 25 u.maximum) })) ≡ row_by (maximum_limit r)
-    unfolding maximum_limit border_at
+    unfolding maximum_limit limit_at
     maximum-row = row-same _ _ refl (λ h a b. ap some (sym (maximum-hourly u.maximum h H most a b)))
 
     available-row : row_by (limit_in (record { row = Available; by_hour = Some (cond n.given n.energies (replicate 25 u.maximum)) })) ≡ row_by (available_limit r)
-    unfolding available_limit available_at notice_in border_at
+    unfolding available_limit available_at notice_in limit_at
     available-row = row-same _ _ refl (λ h a b. ap some (sym (available-hourly n.given n.energies u.maximum h H most a b)))
 
     -- those of a unit, with the line of its border
-    pub judged-limits : (default : Bool) (line : O.Option (List ℕ)) → ((h : ℕ) → border_at line h ≡ border_sum (map notice_in cs) u.border h)
+    pub judged-limits : (default : Bool) (line : O.Option (List ℕ)) → ((h : ℕ) → limit_at line h ≡ border_sum (map notice_in cs) u.border h)
         → first_passed (limits_for u n line default) H own load ≡ judged_in u n cs default H own load
-    unfolding first_passed limits_for limit_rows judged_in judged_by limits own_limits border_limits border_limit border_at
+    unfolding first_passed limits_for limit_rows judged_in judged_by limits own_limits border_limits border_limit limit_at
     judged-limits true line is =
         ap given_by (first-alone _ (row_by (limit_in (record { row = Available; by_hour = None }))) (row_by (limit_in (record { row = Border; by_hour = None }))) (row-absent _ none-at) (row-absent _ none-at) ∙ ap (λ (x : Row). first_row (x ∷ [])) maximum-row)
       where
-        none-at : (h : ℕ) → border_at None h ≡ none
+        none-at : (h : ℕ) → limit_at None h ≡ none
         none-at h = refl
     judged-limits false line is = ap given_by (rows-three maximum-row available-row (row-same _ _ refl (λ h a b. is h)))

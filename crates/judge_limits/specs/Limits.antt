@@ -32,14 +32,14 @@ unfoldable pub judged_in : Unit → Notice → List Notice → Bool → ℕ → 
 judged_in u n cs only H own load = given_by (first_row (limit_rows H own load (judged_by (lines_in cs) (registered_in u n) only)))
 
 -- a limit by hour in an hour, none where it does not apply
-unfoldable pub border_at : O.Option (List ℕ) → ℕ → Option ℕ
-border_at b h = option_map_or (λ (es : List ℕ). some (hourly es h)) b none
+unfoldable pub limit_at : O.Option (List ℕ) → ℕ → Option ℕ
+limit_at b h = option_map_or (λ (es : List ℕ). some (hourly es h)) b none
 
 -- A list of limits
 
 -- a limit, as the rules have it
 abbrev pub limit_in : Limit → U.Limit
-limit_in l = record { number = number_of l.row; at = border_at l.by_hour }
+limit_in l = record { number = number_of l.row; at = limit_at l.by_hour }
 
 -- the limits of a unit with its notice and the line of its border, a default lodgement's "against 10 only"
 unfoldable pub limits_for : Unit → Notice → O.Option (List ℕ) → Bool → List Limit

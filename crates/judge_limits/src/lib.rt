@@ -5,7 +5,7 @@ ghost use Rattle.std.specs.Prelude.{◌≡◌, cond, map, ℕ, ◌+◌, ◌<◌,
 ghost use Rattle.rules.specs.Units.{border_sum};
 ghost use Rattle.judge_loads.specs.Loads.{IndicesIn, load_by};
 ghost use Rattle.session.specs.Parts.{said};
-ghost use Rattle.judge_limits.specs.Limits.{notice_in, limits_for, first_passed, border_at};
+ghost use Rattle.judge_limits.specs.Limits.{notice_in, limits_for, first_passed, limit_at};
 
 use answer::Refusal;
 use judge_loads::lowest_hour;
@@ -42,7 +42,7 @@ fn together(exports: &[u32; HOURS], imports: &[u32; HOURS]) -> [u64; HOURS]
 // Limit 12 by hour: "at a border with both directions published, the sum of the two capacities".
 #[tactic(auto, using(crate::proofs::BorderLaws::border_laws))]
 pub fn border_limit(border: u32, capacities: &[Notice; DIRECTIONS]) -> Option<[u64; HOURS]>
-    ensures { (h : ℕ) → border_at result h ≡ border_sum (map notice_in capacities.now) border h }
+    ensures { (h : ℕ) → limit_at result h ≡ border_sum (map notice_in capacities.now) border h }
 {
     let 1..=4 = border else {
         return None;

@@ -30,12 +30,13 @@ pub fn key_of(m: &Fields) -> Key
     }
 }
 
-// Two keys that agree but for the default mark. A derived equality would look at the reserved bytes, which C may leave at anything.
+// Two keys that agree but for the default mark. A derived equality would look at the reserved bytes, which C may leave at anything. The unit comes
+// first: most lodgements are of another.
 #[tactic(auto, unfolding(rules::specs::Lodging::same_but_default))]
 fn same_but_default(a: Key, b: Key) -> bool
     ensures { result ≡ same_but_default (key_in a) (key_in b) }
 {
-    a.execution == b.execution && a.unit == b.unit && a.contract == b.contract
+    a.unit == b.unit && a.execution == b.execution && a.contract == b.contract
 }
 
 // "A key is kind, default mark, unit and contract": no derived equality, as above.

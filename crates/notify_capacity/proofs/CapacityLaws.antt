@@ -18,12 +18,11 @@ use Rattle.rules.proofs.RefusalLaws.{accepted-rows}
 use Rattle.rules.proofs.HoursLaws.{hours-most}
 use Rattle.session.specs.Laid.{counted}
 use Rattle.session.specs.Image.{image, verdicts_in, hours_in, published_in, capacities_in, notice_as, no_notice}
-use Rattle.session_changes.specs.Changes.{with_capacities, capacities_with}
 use Rattle.session_changes.specs.Effects.{done}
 use Rattle.answer.specs.Told.{told, is_refusal, accepted}
 use Rattle.session.specs.Parts.{JudgesRow, given_by, Entered}
 use Rattle.notify_unavailability.specs.Notices.{stored_as}
-use Rattle.notify_capacity.specs.Capacities.{capacity_in, direction_as, off_hours, off_range}
+use Rattle.notify_capacity.specs.Capacities.{capacity_in, direction_as, with_capacities, capacities_with, off_hours, off_range}
 use Rattle.notify_capacity.specs.declared.Capacities.{Capacities}
 use Rattle.std.specs.List.{list_any}
 use Rattle.std.specs.declared.result.Result.{Result}
@@ -103,7 +102,7 @@ unfolding B.hours
 hours-fit b = hours-most b.date
 
 pub capacity-entered : (s : Session) (a : Capacities)
-    → Entered s (capacity_in a) (done capacities_with s (record { change = record { capacities = map direction_as a.directions }; answer = accepted }))
+    → Entered s (capacity_in a) (done capacities_with s (record { change = a; answer = accepted }))
 unfolding told is_refusal D.reply D.rows_of D.gate_row D.call_rows
 capacity-entered s a = record {
   book = λ b sound o e.

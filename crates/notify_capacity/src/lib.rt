@@ -4,14 +4,14 @@
 ghost use Rattle.std.specs.Prelude.{◌≡◌, map};
 ghost use Rattle.std.specs.List.{list_any};
 ghost use Rattle.session.specs.Steps.{Met};
-ghost use Rattle.notify_capacity.specs.Capacities.{direction_as, off_hours, off_range, capacity_in};
+ghost use Rattle.notify_capacity.specs.Capacities.{direction_as, off_hours, off_range, capacity_in, capacities_with};
 
 use answer::Response;
-use notify_unavailability::{bad_energies, front, stored_notice};
-use rules::DIRECTIONS;
+use notify_unavailability::{bad_energies, front};
 use rules::row::Row;
+use rules::{DIRECTIONS, HOURS};
 use session::{Effect, Notice, Published, Session, no_notice};
-use session_changes::{Call, CapacityChange, Step, run};
+use session_changes::{Call, Change, Step, run};
 
 // A capacity notice: export and import of border 1, of 2, of 3, of 4.
 #[repr(C)]
@@ -50,29 +50,47 @@ fn any_off_range(ps: &[Published]) -> bool
     ps.iter().any(|p| bad_published(p))
 }
 
-// A direction as the session keeps it: no `From`, since neither type is this crate's.
+// A direction laid where the session keeps it.
 #[tactic(auto, unfolding(crate::specs::Capacities::direction_as))]
-fn stored_direction(p: &Published) -> Notice
-    ensures { result ≡ direction_as p.now }
+fn lay(stored: &mut Notice, p: &Published)
+    ensures { stored.new ≡ direction_as p.now }
 {
     if p.published {
-        stored_notice(front(p.count, &p.energies))
+        stored.given = true;
+        stored.reserved = 0;
+        stored.reserved2 = 0;
+        stored.energies = p.energies;
+        stored.energies[p.count.min(HOURS)..].fill(0);
     } else {
-        no_notice()
+        *stored = no_notice();
     }
 }
 
-// The notice as the session keeps it. By index: `map` of an array takes it by value, and would copy the eight directions.
-fn stored_directions(ps: &[Published; DIRECTIONS]) -> [Notice; DIRECTIONS]
-    ensures { result ≡ map direction_as ps.now }
+// All directions laid, each where it stands. By index: the proof of a `zip` does not close, since nothing is known of what an adapter of
+// `iter_mut` writes, but for `enumerate`.
+fn lay_all(stored: &mut [Notice; DIRECTIONS], ps: &[Published; DIRECTIONS])
+    ensures { stored.new ≡ map direction_as ps.now }
 {
-    std::array::from_fn(|i| stored_direction(&ps[i]))
+    for (i, notice) in stored.iter_mut().enumerate() {
+        lay(notice, &ps[i]);
+    }
+}
+
+// A notice is what it changes: its directions are laid in the lent session, and made nowhere before.
+impl Change for Capacities {
+    ghost applied = { capacities_with };
+
+    ghost fits = { λ _. Unit {0} };
+
+    fn apply(&self, s: &mut Session) {
+        lay_all(&mut s.capacities, &self.directions);
+    }
 }
 
 impl Call for Capacities {
     type Found = ();
 
-    type Part = CapacityChange;
+    type Part = Capacities;
 
     ghost call = { capacity_in };
 
@@ -93,11 +111,9 @@ impl Call for Capacities {
     }
 
     // "It replaces the notice before it."
-    fn enter(&self, _s: &Session, _found: ()) -> Step<CapacityChange> {
+    fn enter(&self, _s: &Session, _found: ()) -> Step<Capacities> {
         Step {
-            change: CapacityChange {
-                capacities: stored_directions(&self.directions),
-            },
+            change: *self,
             answer: Response::accepted(),
         }
     }

@@ -8,7 +8,6 @@ use Rattle.session.specs.declared.Verdict.{Verdict}
 use Rattle.session.specs.declared.HourFigures.{HourFigures}
 use Rattle.session.specs.declared.Session.{Session}
 use Rattle.session_changes.specs.declared.RegistryChange.{RegistryChange}
-use Rattle.session_changes.specs.declared.CapacityChange.{CapacityChange}
 use Rattle.session_changes.specs.declared.StandingChange.{StandingChange}
 use Rattle.session_changes.specs.declared.ClosingChange.{ClosingChange}
 use Rattle.session_changes.specs.declared.ClearingChange.{ClearingChange}
@@ -20,9 +19,6 @@ with_lodgements s n ls es last = record s { standing = n; lodgements = ls; energ
 
 abbrev pub with_registry : Session → ℕ → List Unit → List Notice → Session
 with_registry s n us ns = record s { enrolled = n; units = us; notices = ns }
-
-abbrev pub with_capacities : Session → List Notice → Session
-with_capacities s cs = record s { capacities = cs }
 
 abbrev pub with_verdicts : Session → Bool → List Verdict → Session
 with_verdicts s closed vs = record s { closed = closed; verdicts = vs }
@@ -38,11 +34,6 @@ registry_with s c = with_registry s c.enrolled (set s.units c.at c.unit) (set s.
 -- its index is one of the array
 abbrev pub Placed : RegistryChange → Type 0
 Placed c = c.at < 64
-
--- Capacities
-
-abbrev pub capacities_with : Session → CapacityChange → Session
-capacities_with s c = with_capacities s c.capacities
 
 -- Standing lodgements
 

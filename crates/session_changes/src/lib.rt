@@ -6,12 +6,12 @@ ghost use Rattle.rules.specs.DayBook as D;
 ghost use Rattle.session.specs.declared.Session.{Session};
 ghost use Rattle.session.specs.Steps.{Met};
 ghost use Rattle.session.specs.Parts.{Within, JudgesRow, Entered};
-ghost use Rattle.session_changes.specs.Changes.{Indexed, Placed, registry_with, capacities_with, standing_with, closed_with, cleared_with};
+ghost use Rattle.session_changes.specs.Changes.{Indexed, Placed, registry_with, standing_with, closed_with, cleared_with};
 ghost use Rattle.session_changes.specs.Effects.{effect_of, done};
 
 use answer::{Refusal, Response};
 use rules::row::Row;
-use rules::{DIRECTIONS, HOURS, LODGEMENTS};
+use rules::{HOURS, LODGEMENTS};
 use session::{Effect, Energies, HourFigures, Lodgement, Notice, Session, Unit, Verdict};
 
 // A part of a session that a call writes.
@@ -53,22 +53,6 @@ impl Change for RegistryChange {
         s.enrolled = self.enrolled;
         s.units[self.at] = self.unit;
         s.notices[self.at] = self.notice;
-    }
-}
-
-// All capacities. They are a change of their own, since no other call is to carry them.
-#[derive(Clone, Copy)]
-pub struct CapacityChange {
-    pub capacities: [Notice; DIRECTIONS],
-}
-
-impl Change for CapacityChange {
-    ghost applied = { capacities_with };
-
-    ghost fits = { λ _. Unit {0} };
-
-    fn apply(&self, s: &mut Session) {
-        s.capacities = self.capacities;
     }
 }
 
