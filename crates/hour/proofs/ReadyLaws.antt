@@ -17,7 +17,7 @@ use Rattle.rules.specs.Units.{max_energy, max_price, bad_number}
 use Rattle.rules.specs.Match as M
 use Rattle.rules.specs.Borders as B
 use Rattle.rules.proofs.BoolLaws.{by_bool, both, neither}
-use Rattle.rules.proofs.ListLaws.{all_map, all-mapped, all_keep, all-unkept, keep-passes}
+use Rattle.rules.proofs.ListLaws.{all_map, all_append, all-mapped, all_keep, all-unkept, keep-passes}
 use Rattle.rules.proofs.ElementLaws.{all_both, all-unmapped, pairwise_map}
 use Rattle.rules.proofs.IndexLaws.{from_all}
 use Rattle.hour_offers.specs.View.{offer_in, execution_in, executions_in}
@@ -25,8 +25,9 @@ use Rattle.hour_offers.specs.Sound.{Sound, ExecutionInRange}
 use Rattle.hour.specs.Ranges.{within, holder_ready, offer_ready, execution_ready, rises, capacity_ready, lodged_ready, offer_number, execution_number, capacities_ready}
 use Rattle.hour.specs.declared.Hour.{Hour}
 use Rattle.hour.specs.View.{fresh_in, hour_in}
+use Rattle.hour.specs.Units.{lodgement_of, lodgements_of}
 use Rattle.hour_borders.specs.Ways.{directed, energies_of, published_in}
-use Rattle.hour.specs.Ready.{Between, HolderReady, OfferReady, ExecutionReady, Ready, is_ready}
+use Rattle.hour.specs.Ready.{Between, HolderReady, OfferReady, ExecutionReady, InRange, is_in_range}
 
 -- Lists
 
@@ -64,7 +65,7 @@ module _ {A : Type 0} (number : A → ℕ) where
   rise-told (ahead none empty) = refl
   rise-told (ahead (more {x = y} h t) d) = rw (lt-ltb _ (number y) h) (rise-told d)
 
-pairwise-unmapped : {A B : Type 0} {S : B → B → Type 0} (f : A → B) (xs : List A) → Pairwise S (map f xs) → Pairwise (λ x y. S (f x) (f y)) xs
+pub pairwise-unmapped : {A B : Type 0} {S : B → B → Type 0} (f : A → B) (xs : List A) → Pairwise S (map f xs) → Pairwise (λ x y. S (f x) (f y)) xs
 pairwise-unmapped f [] empty = empty
 pairwise-unmapped f (x ∷ xs) (ahead h t) = ahead (all-unmapped f xs h) (pairwise-unmapped f xs t)
 
@@ -184,10 +185,10 @@ module _ (cs : List (Option ℕ)) where
 
 -- The test of an hour
 
--- an hour that passes the test is ready
-pub ready-holds : (h : Hour) → is_ready h ≡ true → Ready h
-unfolding is_ready hour_in lodged_ready capacities_ready offer_ready
-ready-holds h e =
+-- an hour that passes the test is in its ranges
+pub range-holds : (h : Hour) → is_in_range h ≡ true → InRange h
+unfolding is_in_range hour_in lodged_ready capacities_ready offer_ready
+range-holds h e =
     let os = h.offers.items in
     let xs = h.executions.items in
     let a = both _ _ e in
@@ -208,10 +209,10 @@ ready-holds h e =
       capacities = capacities-hold h.capacities k.1;
     }
 
--- an hour that is ready passes it
-pub ready-told : (h : Hour) → Ready h → is_ready h ≡ true
-unfolding is_ready hour_in lodged_ready capacities_ready offer_ready
-ready-told h r =
+-- an hour that is in them passes it
+pub range-told : (h : Hour) → InRange h → is_in_range h ≡ true
+unfolding is_in_range hour_in lodged_ready capacities_ready offer_ready
+range-told h r =
     let os = h.offers.items in
     let xs = h.executions.items in
     rw (
@@ -232,7 +233,7 @@ unfolding capacity_ready
 capacity-small None e = omega arith
 capacity-small (Some x) e = leb-true _ _ e
 
-module _ {h : Hour} (r : Ready h) where
+module _ {h : Hour} (r : InRange h) where
   -- its offers and executions are such as are cleared
   pub offers-sound : Sound (hour_in h).offers
   unfolding hour_in
@@ -248,6 +249,13 @@ module _ {h : Hour} (r : Ready h) where
   pub executions-in-range : All ExecutionInRange (executions_in h.executions.items)
   unfolding hour_in
   executions-in-range = all_map (λ x g. record { border = omega (arith, g.holder.border.1); energy = g.energy.1 }) r.executions
+
+  -- and both kinds together
+  pub lodgements-in-range : All ExecutionInRange (lodgements_of (hour_in h))
+  unfolding lodgements_of
+  lodgements-in-range =
+      all_append (all-mapped lodgement_of (all_map (λ o g. record { border = omega (arith, g.holder.border.1); energy = g.energy.1 }) r.offers))
+      (all_map (λ x g. record { border = omega (arith, g.holder.border.1); energy = g.energy.1 }) r.executions)
 
   -- its capacities are in their range, and 0 stands where there is none
   pub capacities-small : (w : ℕ) → w < 10 → get_or (energies_of h.capacities) w 0 ≤ max_energy

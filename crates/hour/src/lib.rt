@@ -2,9 +2,10 @@
 #![tactic(auto)]
 
 pub mod readiness;
+pub mod units;
 
 ghost use Rattle.std.specs.Prelude.{◌≡◌};
-ghost use Rattle.hour.specs.Ready.{is_ready};
+ghost use Rattle.hour.specs.Ready.{is_in_range, is_ready};
 
 use crate::readiness::{all_ready, capacities_ready};
 use arrayvec::ArrayVec;
@@ -34,10 +35,10 @@ pub struct Figures {
     pub price: u32,
 }
 
-// Whether an hour is one that a session can hold, as far as it tells by itself (`Ready` of specs/Ready.antt).
-#[tactic(auto, unfolding(crate::specs::Ready::is_ready))]
-pub fn ready(h: &Hour) -> bool
-    ensures { result ≡ is_ready h.now }
+// Whether every part of an hour is in its range, as those of a session are (`InRange` of specs/Ready.antt).
+#[tactic(auto, unfolding(crate::specs::Ready::is_in_range))]
+pub fn in_range(h: &Hour) -> bool
+    ensures { result ≡ is_in_range h.now }
 {
     let offers = h.offers.as_slice();
     let executions = h.executions.as_slice();
@@ -46,4 +47,12 @@ pub fn ready(h: &Hour) -> bool
         && all_ready(offers)
         && all_ready(executions)
         && capacities_ready(&h.capacities)
+}
+
+// Whether an hour is one that a session can hold (`Ready` of specs/Ready.antt).
+#[tactic(auto, unfolding(crate::specs::Ready::is_ready))]
+pub fn ready(h: &Hour) -> bool
+    ensures { result ≡ is_ready h.now }
+{
+    in_range(h) && crate::units::units_ready(h)
 }
