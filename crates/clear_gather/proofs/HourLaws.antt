@@ -50,7 +50,7 @@ execution-same a b = rw (a, b)
 directed-same : (border : ℕ) (export : Bool) {e f : ℕ} → e ≡ f → ◌≡◌ {A = List Directed} (record { border = border; export = export; energy = e } ∷ []) (record { border = border; export = export; energy = f } ∷ [])
 directed-same border export a = rw a
 
-hour-same : {c d : List Directed} {o p : List Offer} {x y : List Execution} → c ≡ d → o ≡ p → x ≡ y
+pub hour-same : {c d : List Directed} {o p : List Offer} {x y : List Execution} → c ≡ d → o ≡ p → x ≡ y
     → ◌≡◌ {A = R.Hour} (record { capacities = c; offers = o; executions = x }) (record { capacities = d; offers = p; executions = y })
 hour-same a b c = rw (a, b, c)
 

@@ -1,4 +1,4 @@
--- An hour built from a session that stands for a sound book is one that can be cleared.
+-- An hour built from a session that stands for a sound book has every part in its range.
 use Prim.Native.Nat.{ℕ, zero, suc, ◌-◌, ◌≤◌, ◌<◌}
 use mathlib.Core.Path.{◌≡◌, refl, sym, ap, subst, ◌∙◌}
 use mathlib.Core.Bool.{Bool, true, false, not, ◌&&◌, ◌||◌, false≢true}
@@ -28,7 +28,7 @@ use Rattle.hour.specs.declared.Hour.{Hour}
 use Rattle.hour_borders.specs.Ways.{directed, energies_of, published_in}
 use Rattle.hour.specs.View.{fresh_in, hour_in}
 use Rattle.hour.proofs.ReadyLaws.{energy-of}
-use Rattle.hour.specs.Ready.{Between, OfferReady, ExecutionReady, Ready}
+use Rattle.hour.specs.Ready.{Between, OfferReady, ExecutionReady, InRange}
 use Rattle.clear_gather.proofs.ListLaws.{all-within}
 use Rattle.session.specs.declared.Session.{Session}
 use Rattle.session.specs.Laid.{pad}
@@ -45,7 +45,7 @@ top-price true = omega arith
 top-price false = omega arith
 
 -- of a unit with a number, one that is registered
-first_one : {A : Type 0} {P : A → Type 0} (p : A → Bool) (d : A) {xs : List A} → any p xs ≡ true → All P xs → P (first p d xs)
+pub first_one : {A : Type 0} {P : A → Type 0} (p : A → Bool) (d : A) {xs : List A} → any p xs ≡ true → All P xs → P (first p d xs)
 unfolding first any
 first_one p d h none = absurd (false≢true h)
 first_one p d h (more {x} k t) = by_bool (p x) (λ e. rw e k) (λ e. rw e (first_one p d (rw e at h) t))
@@ -58,11 +58,12 @@ good-number : (n : ℕ) → U.bad_number n ≡ false → Between 1 65535 n
 unfolding U.bad_number
 good-number n h = let p = neither (eqb n 0) (ltb 65535 n) h in (positive n p.0, ltb-false 65535 n p.1)
 
--- number, border and legacy mark of a unit in its ranges
-record GoodUnit (u : U.TradingUnit) : Type 0 where
-  number : Between 1 65535 u.number
-  border : u.border ≤ 4
-  legacy : u.legacy ≡ true → 1 ≤ u.border
+-- number, border, maximum and legacy mark of a unit in its ranges
+pub record GoodUnit (u : U.TradingUnit) : Type 0 where
+  pub number : Between 1 65535 u.number
+  pub border : u.border ≤ 4
+  pub maximum : u.maximum ≤ U.max_energy
+  pub legacy : u.legacy ≡ true → 1 ≤ u.border
 
 good-unit : (u : U.TradingUnit) → U.bad_unit u ≡ false → GoodUnit u
 unfolding U.bad_unit U.domestic
@@ -74,6 +75,7 @@ good-unit u h =
     record {
       number = good-number u.number (neither (U.bad_number u.number) (U.bad_number u.agent) r.0).0;
       border = ltb-false 4 u.border r.1;
+      maximum = ltb-false U.max_energy u.maximum q.1;
       legacy = λ t. positive u.border (rw t at p.1);
     }
 
@@ -86,7 +88,7 @@ record Fit (us : List U.Registered) (h : ℕ) (l : L.Lodgement) : Type 0 where
   energy : L.energy_at l h ≤ U.max_energy
 
 module _ (b : B.Book) (sound : S.Sound b) (h : ℕ) where
-  unit-good : (l : L.Lodgement) → S.HasUnit b.units l.key → GoodUnit (U.unit_of b.units l.key.unit).unit
+  pub unit-good : (l : L.Lodgement) → S.HasUnit b.units l.key → GoodUnit (U.unit_of b.units l.key.unit).unit
   unfolding U.unit_of U.is_registered
   unit-good l g = first_one (U.has_number l.key.unit) U.nobody g.registered (all_map (λ r e. good-unit r.unit e) sound.units.ranges)
 
@@ -170,9 +172,9 @@ module _ (s : Session) (b : B.Book) (e : s ≡ I.image b) (sound : I.Sound b) (c
   unfolding published_in directed
   capacities-range = all-mapped (directed (energies_of h.capacities)) (all_keep (λ w. is_some (get_or h.capacities w None)) (from_all _ 2 8 (λ w l m. rw (energy-of h.capacities w) (capacity-range w l (omega arith)))))
 
-  pub hour-ready : Ready h
+  pub hour-in-range : InRange h
   unfolding hour_in R.hour_of_day R.offer_at R.execution_at R.holder_of C.accepted_at
-  hour-ready = record {
+  hour-in-range = record {
     offering = omega (arith, offers-count, few-offers b sound.ranges (λ l. ltb 0 (L.energy_at l (suc k))));
     room = omega (arith, offers-count, executions-count, all_room b sound.ranges (λ l. ltb 0 (L.energy_at l (suc k))));
     offers = subst (λ x. All OfferReady x.offers) (sym same) (offers-ready b sound.ranges (suc k));
