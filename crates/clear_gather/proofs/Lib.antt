@@ -6,3 +6,4 @@ pub mod HourLaws
 pub mod OfferLaws
 pub mod ReadyLaws
 pub mod UnitLaws
+pub mod InsertLaws
