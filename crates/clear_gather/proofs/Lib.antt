@@ -7,3 +7,4 @@ pub mod OfferLaws
 pub mod ReadyLaws
 pub mod UnitLaws
 pub mod InsertLaws
+pub mod HourReadyLaws
