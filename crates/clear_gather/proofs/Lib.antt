@@ -8,3 +8,4 @@ pub mod ReadyLaws
 pub mod UnitLaws
 pub mod InsertLaws
 pub mod HourReadyLaws
+pub mod HoldingLaws
