@@ -1,38 +1,39 @@
 -- Limit 12 of an hour's capacities, and a unit's energy.
-use Prim.Native.Nat.{ℕ, zero, suc, ◌+◌, ◌-◌, ◌/◌, ◌%◌, ◌<◌}
+use Prim.Native.Nat.{ℕ, ◌+◌, ◌-◌, ◌/◌, ◌<◌}
 use mathlib.Core.Path.{◌≡◌, refl, sym, ap₂, ◌∙◌}
 use mathlib.Core.Bool.{Bool, cond, ◌&&◌}
-use mathlib.Core.List.{List, [], ◌∷◌, ◌++◌}
+use mathlib.Core.List.{List, [], ◌∷◌, ◌++◌, map}
 use native.Mathlib.Omega.{arith}
 use lib.Dec.{eqb, ltb}
-use borrow.Author.Tests.{ltb-true, ltb-false, lt-ltb, le-ltb}
+use borrow.Author.Tests.{ltb-true, ltb-false, lt-ltb, le-ltb, ne_eqb}
 use Rattle.rules.proofs.BoolLaws.{by_bool}
 use lib.ListN.{get_or}
-use Rattle.std.specs.Prelude.{Option, None}
-use Rattle.rules.specs.Lists.{keep, sum, sum_of}
+use Rattle.std.specs.Prelude.{is_some, Option, None}
+use Rattle.rules.specs.Lists.{keep, from, sum, sum_of}
+use Rattle.rules.specs.Units.{direction}
 use Rattle.rules.specs.Borders.{Execution}
 use Rattle.rules.proofs.SumLaws.{sum-keep}
-use Rattle.hour_borders.specs.Ways.{way_of, published_in}
-use Rattle.hour_borders.proofs.WayLaws.{way-small, way-inner, way-low, way-border, way-export}
+use Rattle.hour_borders.specs.Directions.{directed, energies_of, published_in}
+use Rattle.hour_borders.proofs.DirectionLaws.{direction-small, direction-border, direction-export}
 use Rattle.hour.specs.View.{energy_among}
 use Rattle.hour.specs.Units.{unit_energy}
-use Rattle.hour.proofs.LaidLaws.{energy-home, energy-abroad}
+use Rattle.hour.proofs.LaidLaws.{energy-published}
+
+-- no direction is of border 0
+none-home : (a : List ℕ) (e : Bool) (ds : List ℕ) → energy_among (map (directed a) ds) 0 e ≡ None
+unfolding energy_among directed
+none-home a e [] = refl
+none-home a e (d ∷ ds) = rw (ne_eqb (d / 2 + 1) 0 (λ z. absurd (omega arith))) (none-home a e ds)
 
 module _ (a : List (Option ℕ)) where
-  by_way : (b : ℕ) (e : Bool) → energy_among (published_in a) (way_of b e / 2) (eqb (way_of b e % 2) 0) ≡ energy_among (published_in a) b e
-  by_way b e = ap₂ (energy_among (published_in a)) (way-border b e) (way-export b e)
-
   -- of one of the four borders what is published, and none of border 0
-  pub capacity-abroad : (b : ℕ) (e : Bool) → 0 < b → b < 5 → energy_among (published_in a) b e ≡ get_or a (way_of b e) None
-  capacity-abroad b e h l = sym (by_way b e) ∙ energy-abroad a (way_of b e) (way-inner b e h) (way-small b e l)
+  pub capacity-abroad : (b : ℕ) (e : Bool) → 0 < b → b < 5 → energy_among (published_in a) b e ≡ get_or a (direction b e) None
+  capacity-abroad b e h l =
+      sym (ap₂ (energy_among (published_in a)) (direction-border b e h) (direction-export b e)) ∙ energy-published a (direction b e) (direction-small b e l)
 
   pub capacity-home : (e : Bool) → energy_among (published_in a) 0 e ≡ None
-  capacity-home e = sym (by_way 0 e) ∙ energy-home a (way_of 0 e) (way-low 0 e refl)
-
-  module _ (home : (w : ℕ) → w < 2 → get_or a w None ≡ None) where
-    pub capacity-at : (b : ℕ) (e : Bool) → b < 5 → energy_among (published_in a) b e ≡ get_or a (way_of b e) None
-    capacity-at zero e l = capacity-home e ∙ sym (home (way_of zero e) (way-low zero e refl))
-    capacity-at (suc b) e l = capacity-abroad (suc b) e (omega arith) l
+  unfolding published_in
+  capacity-home e = none-home (energies_of a) e (keep (λ d. is_some (get_or a d None)) (from 0 8))
 
 -- above one of two what is left is above the other
 pub sum_above : (x y n : ℕ) → (ltb x n && ltb y (n - x)) ≡ ltb (x + y) n

@@ -1,5 +1,5 @@
 -- An hour that a session can hold, the test for it, and what clearing it gives.
-use Rattle.std.specs.Prelude.{ℕ, ◌+◌, ◌≤◌, ◌<◌, ◌≡◌, Bool, true, false, cond, ◌&&◌, map, length, leb, eqb, get_or, Option, Some, None}
+use Rattle.std.specs.Prelude.{ℕ, ◌+◌, ◌≤◌, ◌<◌, ◌≡◌, Bool, true, false, cond, ◌&&◌, map, length, leb, eqb, Option, Some, None}
 use Rattle.rules.specs.Lists.{All, Pairwise}
 use Rattle.rules.specs.Units.{max_energy, max_price, passes}
 use Rattle.rules.specs.Match.{Holder, Offer}
@@ -48,8 +48,6 @@ pub record InRange (h : Hour) : Type 0 where
   pub offers-rise : Pairwise (λ o p. o.holder.number < p.holder.number) (hour_in h).offers
   pub executions : All ExecutionReady (hour_in h).executions
   pub executions-rise : Pairwise (λ x y. x.holder.number < y.holder.number) (hour_in h).executions
-  -- "A capacity notice covers the 4 borders": none is published of border 0
-  pub home : (w : ℕ) → w < 2 → get_or h.capacities w None ≡ None
   pub capacities : All (λ c. c.energy ≤ max_energy) (hour_in h).capacities
 
 -- `InRange` as a test (`range-holds` and `range-told` of proofs/ReadyLaws.antt)

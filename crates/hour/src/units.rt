@@ -1,11 +1,11 @@
 // Whether the units of an hour's lodgements are such as a session's hours have. Both kinds stand in one list, offers first.
-ghost use Rattle.std.specs.Prelude.{◌≡◌, ◌≤◌, ◌+◌, ◌++◌, ◌<◌, ℕ, cond, eqb, map, length, get_or, None};
+ghost use Rattle.std.specs.Prelude.{◌≡◌, ◌≤◌, ◌+◌, ◌++◌, ◌<◌, cond, eqb, map, length};
 ghost use Rattle.std.specs.List.{list_any};
 ghost use Rattle.rules.specs.Lists.{All, any};
 ghost use Rattle.rules.specs.Units.{passes};
 ghost use Rattle.hour_offers.specs.View.{execution_in, executions_in};
 ghost use Rattle.hour_offers.specs.Sound.{ExecutionInRange};
-ghost use Rattle.hour_borders.specs.Ways.{published_in};
+ghost use Rattle.hour_borders.specs.Directions.{published_in};
 ghost use Rattle.hour.specs.View.{energy_among, fresh_in, hour_in};
 ghost use Rattle.hour.specs.Units.{lodgement_of, lodgements_of, unit_energy, line_in, any_pair, last_ones, same_unit, clash, beyond, is_over, agree};
 ghost use Rattle.hour.specs.Ready.{InRange, are_units};
@@ -13,7 +13,7 @@ ghost use Rattle.hour.specs.Ready.{InRange, are_units};
 use crate::Hour;
 use arrayvec::ArrayVec;
 use hour_offers::{Execution, Offer};
-use rules::{LODGEMENTS, MAX_ENERGY, UNITS};
+use rules::{DIRECTIONS, LODGEMENTS, MAX_ENERGY, UNITS};
 
 // Offers as executions are: a holder and an energy. A slice's type does not tell that they are at most 128.
 fn as_lodgements(offers: &[Offer]) -> ArrayVec<Execution, LODGEMENTS>
@@ -118,20 +118,21 @@ fn energy_of(lodgements: &[Execution], unit: u32) -> u32
     sum
 }
 
-// A direction's capacity. None is published of border 0.
-fn capacity(capacities: &[Option<u32>; 10], border: u32, export: bool) -> Option<u32>
-    requires home { (w : ℕ) → w < 2 → get_or capacities.now w None ≡ None }
+// A direction's capacity. Border 0 has no direction.
+fn capacity(capacities: &[Option<u32>; DIRECTIONS], border: u32, export: bool) -> Option<u32>
     requires border { border < 5 }
     ensures { result ≡ energy_among (published_in capacities.now) border export }
 {
-    capacities[hour_borders::way(border, export)]
+    if border == 0 {
+        return None;
+    }
+    capacities[hour_borders::direction(border, export)]
 }
 
 // Whether an energy passes limit 12: "at a border with both directions published, the sum of the two capacities". What is left of it
 // above the one is compared with the other, since the type of an option in an array does not tell that two can be added.
 #[tactic(auto, unfolding(crate::specs::Units::line_in, crate::specs::Units::both_of, rules::specs::Units::passes), using(crate::proofs::LineLaws::sum_above))]
-fn passes_line(capacities: &[Option<u32>; 10], border: u32, energy: u32) -> bool
-    requires home { (w : ℕ) → w < 2 → get_or capacities.now w None ≡ None }
+fn passes_line(capacities: &[Option<u32>; DIRECTIONS], border: u32, energy: u32) -> bool
     requires border { border < 5 }
     ensures { result ≡ passes energy (line_in (published_in capacities.now) border) }
 {
@@ -146,8 +147,7 @@ fn passes_line(capacities: &[Option<u32>; 10], border: u32, energy: u32) -> bool
 
 // Whether a lodgement's unit has more than any unit at its border can have.
 #[tactic(auto, unfolding(crate::specs::Units::is_over, crate::specs::Units::beyond))]
-fn is_over(capacities: &[Option<u32>; 10], lodgements: &[Execution], x: &Execution) -> bool
-    requires home { (w : ℕ) → w < 2 → get_or capacities.now w None ≡ None }
+fn is_over(capacities: &[Option<u32>; DIRECTIONS], lodgements: &[Execution], x: &Execution) -> bool
     requires few { length lodgements.now ≤ 128 }
     requires in_range { All ExecutionInRange (executions_in lodgements.now) }
     requires border { x.now.holder.border < 5 }
@@ -158,8 +158,7 @@ fn is_over(capacities: &[Option<u32>; 10], lodgements: &[Execution], x: &Executi
 }
 
 // Whether the unit of one of them has.
-fn any_over(capacities: &[Option<u32>; 10], lodgements: &[Execution]) -> bool
-    requires home { (w : ℕ) → w < 2 → get_or capacities.now w None ≡ None }
+fn any_over(capacities: &[Option<u32>; DIRECTIONS], lodgements: &[Execution]) -> bool
     requires few { length lodgements.now ≤ 128 }
     requires in_range { All ExecutionInRange (executions_in lodgements.now) }
     ensures { result ≡ any (is_over (published_in capacities.now) (executions_in lodgements.now)) (executions_in lodgements.now) }
@@ -193,8 +192,7 @@ fn of_many(lodgements: &[Execution]) -> bool
 
 // Whether the units of some lodgements are such as a session has.
 #[tactic(auto, unfolding(crate::specs::Units::agree))]
-fn units_agree(capacities: &[Option<u32>; 10], lodgements: &[Execution]) -> bool
-    requires home { (w : ℕ) → w < 2 → get_or capacities.now w None ≡ None }
+fn units_agree(capacities: &[Option<u32>; DIRECTIONS], lodgements: &[Execution]) -> bool
     requires few { length lodgements.now ≤ 128 }
     requires in_range { All ExecutionInRange (executions_in lodgements.now) }
     ensures { result ≡ agree (published_in capacities.now) (executions_in lodgements.now) }

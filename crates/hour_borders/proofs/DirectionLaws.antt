@@ -55,7 +55,7 @@ direction-back d =
     odd d f = ⊎_elim (λ z. absurd (f (sym z))) (λ (z : 0 < d % 2). omega arith) (eq-or-lt_of_le (let m : 0 ≤ d % 2 = omega arith in m))
 
 -- different directions have different indices
-directions-same : (b c : ℕ) (e f : Bool) → 0 < b → 0 < c → (eqb b c && beq e f) ≡ eqb (direction b e) (direction c f)
+pub directions-same : (b c : ℕ) (e f : Bool) → 0 < b → 0 < c → (eqb b c && beq e f) ≡ eqb (direction b e) (direction c f)
 unfolding direction
 directions-same b c true true h k =
     by_bool (eqb b c) (λ t. let q = eqb-true b c t in rw t (sym (eq-eqb ((b - 1) * 2 + 0) ((c - 1) * 2 + 0) (omega arith))))

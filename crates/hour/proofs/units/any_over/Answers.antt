@@ -8,7 +8,7 @@ use Rattle.session.proofs.LaidLaws.{any-start, any_here, any_next, any-end}
 use Rattle.session.proofs.IndexLaws.{get_or-map}
 use Rattle.hour_offers.specs.declared.Execution.{Execution}
 use Rattle.hour_offers.specs.View.{execution_in, executions_in}
-use Rattle.hour_borders.specs.Ways.{published_in}
+use Rattle.hour_borders.specs.Directions.{published_in}
 use Rattle.hour.specs.Units.{is_over}
 use Rattle.hour.proofs.units.any_over.Goals as goal
 

@@ -2,7 +2,7 @@ use Rattle.std.proofs.Common.{◌≡◌, length}
 use Rattle.rules.specs.Lists.{any}
 use Rattle.session.proofs.LaidLaws.{any_from}
 use Rattle.hour_offers.specs.View.{executions_in}
-use Rattle.hour_borders.specs.Ways.{published_in}
+use Rattle.hour_borders.specs.Directions.{published_in}
 use Rattle.hour.specs.Units.{is_over}
 use Rattle.hour.proofs.units.any_over.Given as goal
 
