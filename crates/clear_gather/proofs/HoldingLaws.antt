@@ -1,5 +1,5 @@
 -- Every ready hour is an hour of a sound book.
-use Prim.Native.Nat.{ℕ, zero, suc, ◌-◌, ◌/◌, ◌%◌, ◌≤◌, ◌<◌}
+use Prim.Native.Nat.{ℕ, zero, suc, ◌+◌, ◌/◌, ◌%◌, ◌≤◌, ◌<◌}
 use mathlib.Core.Path.{◌≡◌, refl, sym, ap, ap₂, ◌∙◌}
 use mathlib.Core.Bool.{Bool, true, false, cond, not, ◌&&◌, beq, false≢true}
 use mathlib.Core.List.{List, [], ◌∷◌, map}
@@ -32,8 +32,8 @@ use Rattle.rules.proofs.MessageLaws.{good, write_read, of-writes}
 use Rattle.rules.proofs.CeilingLaws.{over-ceiling}
 use Rattle.rules.proofs.ClosingLaws.{energy_on, closing-exactly}
 use Rattle.rules.proofs.IndexLaws.{from_all, from-at, length_from}
-use Rattle.hour_borders.specs.Ways.{way_of, directed, energies_of, published_in}
-use Rattle.hour_borders.proofs.WayLaws.{way-small, way-inner}
+use Rattle.hour_borders.specs.Directions.{directed, energies_of, published_in}
+use Rattle.hour_borders.proofs.DirectionLaws.{direction-small}
 use Rattle.hour_offers.specs.View.{execution_in}
 use Rattle.hour.specs.declared.Hour.{Hour}
 use Rattle.hour.specs.View.{fresh_in, energy_among, hour_in}
@@ -48,7 +48,7 @@ use Rattle.clear_gather.specs.Holding.{Holding, unit_for, lodgement_for, offer_f
 use Rattle.clear_gather.proofs.ListLaws.{flat, kept-flat, eight}
 use Rattle.clear_gather.proofs.HourLaws.{hour-same}
 use Rattle.clear_gather.proofs.ReadyLaws.{first_one}
-use Rattle.clear_gather.proofs.HourReadyLaws.{optional, both-as, way-direction}
+use Rattle.clear_gather.proofs.HourReadyLaws.{optional, both-as}
 use Rattle.clear_gather.proofs.InsertLaws.{all_inserted, length_inserted, pair-inserted, rise-inserted, keep_all, keep-inserted, keep-others, each-among, pairwise-parts, every_two, one_more}
 
 -- One lodgement
@@ -357,12 +357,12 @@ module _ (h : Hour) (r : Ready h) where
 
   -- Capacities
 
-  notices-sound : All (S.OfDay 24) (map (notice_for h.capacities) (from 2 8))
+  notices-sound : All (S.OfDay 24) (map (notice_for h.capacities) (from 0 8))
   unfolding notice_for hour_in published_in directed
   notices-sound =
       all-mapped (notice_for h.capacities)
-      (all_map (λ w (f : is_some (get_or h.capacities w None) ≡ true → get_or (energies_of h.capacities) w 0 ≤ U.max_energy). published-sound (get_or h.capacities w None) (λ t. omega (arith, energy-of h.capacities w, f t)))
-      (all-unkept (λ w. is_some (get_or h.capacities w None)) (from 2 8) (all-unmapped (directed (energies_of h.capacities)) _ r.ranges.capacities)))
+      (all_map (λ d (f : is_some (get_or h.capacities d None) ≡ true → get_or (energies_of h.capacities) d 0 ≤ U.max_energy). published-sound (get_or h.capacities d None) (λ t. omega (arith, energy-of h.capacities d, f t)))
+      (all-unkept (λ d. is_some (get_or h.capacities d None)) (from 0 8) (all-unmapped (directed (energies_of h.capacities)) _ r.ranges.capacities)))
 
   hours-day : B.hours (book_of h) ≡ 24
   unfolding B.hours book_of unfold_hours
@@ -378,37 +378,36 @@ module _ (h : Hour) (r : Ready h) where
       standing = rw hours-day standing-sound;
       stage = λ e. absurd (false≢true e);
     };
-    directions = length-map (from 2 8) (notice_for h.capacities) ∙ length_from 2 8;
+    directions = length-map (from 0 8) (notice_for h.capacities) ∙ length_from 0 8;
   }
 
   -- The notice
 
   abbrev notice : U.Capacities
-  notice = map (notice_for h.capacities) (from 2 8)
+  notice = map (notice_for h.capacities) (from 0 8)
 
-  notice-at : (w : ℕ) → 2 ≤ w → w < 10 → get_or notice (w - 2) nothing ≡ notice_for h.capacities w
-  notice-at w l m = from-at (notice_for h.capacities) nothing 2 8 (w - 2) (omega arith) ∙ ap (notice_for h.capacities) (omega arith)
+  notice-at : (d : ℕ) → d < 8 → get_or notice d nothing ≡ notice_for h.capacities d
+  notice-at d l = from-at (notice_for h.capacities) nothing 0 8 d l ∙ ap (notice_for h.capacities) (omega arith)
 
-  direction-held : (w : ℕ) → 2 ≤ w → w < 10
-      → cond (is_some (get_or h.capacities w None)) (directed (energies_of h.capacities) w ∷ []) [] ≡ R.published 1 (w / 2) (eqb (w % 2) 0) (get_or notice (w - 2) nothing)
+  direction-held : (d : ℕ) → d < 8
+      → cond (is_some (get_or h.capacities d None)) (directed (energies_of h.capacities) d ∷ []) [] ≡ R.published 1 (d / 2 + 1) (eqb (d % 2) 0) (get_or notice d nothing)
   unfolding directed notice_for
-  direction-held w l m = rw (notice-at w l m, energy-of h.capacities w) (published-held (w / 2) (eqb (w % 2) 0) (get_or h.capacities w None))
+  direction-held d l = rw (notice-at d l, energy-of h.capacities d) (published-held (d / 2 + 1) (eqb (d % 2) 0) (get_or h.capacities d None))
 
   capacities-held : R.capacities_at notice 1 ≡ (hour_in h).capacities
   unfolding hour_in published_in flat from R.capacities_at R.border_capacities U.capacity_of U.direction
   capacities-held =
-      let g : ℕ → List Directed = λ w. R.published 1 (w / 2) (eqb (w % 2) 0) (get_or notice (w - 2) nothing) in
-      sym (kept-flat (directed (energies_of h.capacities)) (λ w. is_some (get_or h.capacities w None)) g (from_all _ 2 8 (λ w l m. direction-held w l (omega arith)))
-      ∙ eight (g 2) (g 3) (g 4) (g 5) (g 6) (g 7) (g 8) (g 9))
+      let g : ℕ → List Directed = λ d. R.published 1 (d / 2 + 1) (eqb (d % 2) 0) (get_or notice d nothing) in
+      sym (kept-flat (directed (energies_of h.capacities)) (λ d. is_some (get_or h.capacities d None)) g (from_all _ 0 8 (λ d l m. direction-held d (omega arith)))
+      ∙ eight (g 0) (g 1) (g 2) (g 3) (g 4) (g 5) (g 6) (g 7))
 
   -- Limit 12
 
   capacity-held : (c : ℕ) (x : Bool) → 0 < c → c < 5 → optional 1 (U.capacity_of notice c x) ≡ energy_among (hour_in h).capacities c x
   unfolding U.capacity_of hour_in notice_for
   capacity-held c x l m =
-      ap (λ w. optional 1 (get_or notice w nothing)) (sym (way-direction c x l))
-      ∙ (ap (optional 1) (notice-at (way_of c x) (way-inner c x l) (way-small c x m))
-      ∙ (optional-held (get_or h.capacities (way_of c x) None) ∙ sym (capacity-abroad h.capacities c x l m)))
+      ap (optional 1) (notice-at (U.direction c x) (direction-small c x m))
+      ∙ (optional-held (get_or h.capacities (U.direction c x) None) ∙ sym (capacity-abroad h.capacities c x l m))
 
   home : energy_among (hour_in h).capacities 0 true ≡ None
   unfolding hour_in

@@ -24,8 +24,8 @@ use Rattle.rules.proofs.CeilingLaws.{over-ceiling}
 use Rattle.rules.proofs.ClosingLaws.{energy_on, accepted-within}
 use Rattle.rules.proofs.DemandLaws.{unit-number}
 use Rattle.std.specs.Prelude.{Option, Some, None}
-use Rattle.hour_borders.specs.Ways.{way_of, published_in}
-use Rattle.hour_borders.proofs.WayLaws.{way-small, way-inner}
+use Rattle.hour_borders.specs.Directions.{published_in}
+use Rattle.hour_borders.proofs.DirectionLaws.{direction-small}
 use Rattle.hour_offers.specs.declared.Holder.{Holder}
 use Rattle.hour.specs.declared.Hour.{Hour}
 use Rattle.hour.specs.View.{energy_among, hour_in}
@@ -37,7 +37,7 @@ use Rattle.session.specs.declared.Session.{Session}
 use Rattle.session.specs.Laid.{pad}
 use Rattle.session.specs.Image as I
 use Rattle.clear_gather.specs.Built.{Holders, Built}
-use Rattle.clear_gather.proofs.HourLaws.{given_at, capacity-as, way-of, hour-as}
+use Rattle.clear_gather.proofs.HourLaws.{given_at, capacity-as, capacity-of, hour-as}
 use Rattle.clear_gather.proofs.OfferLaws.{as_many, offers-apart}
 use Rattle.clear_gather.proofs.ReadyLaws.{unit-good, hour-in-range}
 
@@ -219,21 +219,14 @@ unfolding optional I.notice_as pad
 notice-said k nothing = refl
 notice-said k (some es) = ap (λ n. Some n) (get_or-pad es (25 - length es) k ∙ sym (hourly-suc es k))
 
--- the ways of border 0 come before the eight directions of a notice
-pub way-direction : (c : ℕ) (x : Bool) → 0 < c → way_of c x - 2 ≡ U.direction c x
-unfolding way_of U.direction
-way-direction c true l = omega arith
-way-direction c false l = omega arith
-
 module _ (s : Session) (b : B.Book) (e : s ≡ I.image b) (sound : I.Sound b) (closed : b.closed ≡ true) (hs : List Holder) (holders : Holders s hs) (k : ℕ) (h : Hour) (t : Built s hs k h) where
   capacity-said : (c : ℕ) (x : Bool) → 0 < c → c < 5 → energy_among (published_in h.capacities) c x ≡ optional (suc k) (U.capacity_of b.capacities c x)
   unfolding U.capacity_of
   capacity-said c x l m =
       capacity-abroad h.capacities c x l m
-      ∙ (way-of s b e sound.directions k h.capacities t.capacities (way_of c x) (way-small c x m)
-      ∙ (capacity-as s b e sound.directions k (way_of c x) (way-inner c x l) (way-small c x m)
-      ∙ (notice-said k (get_or b.capacities (way_of c x - 2) nothing)
-      ∙ ap (λ w. optional (suc k) (get_or b.capacities w nothing)) (way-direction c x l))))
+      ∙ (capacity-of s b e sound.directions k h.capacities t.capacities (U.direction c x) (direction-small c x m)
+      ∙ (capacity-as s b e sound.directions k (U.direction c x) (direction-small c x m)
+      ∙ notice-said k (get_or b.capacities (U.direction c x) nothing)))
 
   line_as : (c : ℕ) → c < 5 → line_in (published_in h.capacities) c ≡ U.border_sum b.capacities c (suc k)
   unfolding line_in both_of U.border_sum

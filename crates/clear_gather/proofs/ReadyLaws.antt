@@ -7,7 +7,7 @@ use mathlib.Core.Option.{some, none as nothing}
 use native.Mathlib.Omega.{arith}
 use lib.Dec.{ltb, eqb}
 use lib.ListN.{get_or, length, length-map}
-use borrow.Author.Tests.{lt-ltb, ltb-true, ltb-false, eqb-false}
+use borrow.Author.Tests.{ltb-true, ltb-false, eqb-false}
 use Rattle.rules.specs.Lists.{All, none, more, Pairwise, any, first, keep, hourly}
 use Rattle.rules.specs.Units as U
 use Rattle.rules.specs.Message.{top_price}
@@ -25,7 +25,7 @@ use Rattle.std.specs.Prelude.{is_some, unwrap_or, None}
 use Rattle.hour_offers.specs.declared.Holder.{Holder as Own}
 use Rattle.hour_offers.specs.View.{execution_in}
 use Rattle.hour.specs.declared.Hour.{Hour}
-use Rattle.hour_borders.specs.Ways.{directed, energies_of, published_in}
+use Rattle.hour_borders.specs.Directions.{directed, energies_of, published_in}
 use Rattle.hour.specs.View.{fresh_in, hour_in}
 use Rattle.hour.proofs.ReadyLaws.{energy-of}
 use Rattle.hour.specs.Ready.{Between, OfferReady, ExecutionReady, InRange}
@@ -33,8 +33,8 @@ use Rattle.clear_gather.proofs.ListLaws.{all-within}
 use Rattle.session.specs.declared.Session.{Session}
 use Rattle.session.specs.Laid.{pad}
 use Rattle.session.specs.Image as I
-use Rattle.clear_gather.specs.Built.{Holders, capacity_on, Built}
-use Rattle.clear_gather.proofs.HourLaws.{given_at, capacity-as, way-of, hour-as}
+use Rattle.clear_gather.specs.Built.{Holders, Built}
+use Rattle.clear_gather.proofs.HourLaws.{given_at, capacity-as, capacity-of, hour-as}
 use Rattle.clear_gather.proofs.OfferLaws.{few-offers, all_room}
 
 -- What a sound book gives
@@ -159,18 +159,14 @@ module _ (s : Session) (b : B.Book) (e : s ≡ I.image b) (sound : I.Sound b) (c
       sym (length-map h.executions.items execution_in) ∙ ap (λ x. length x.executions) same
       ∙ length-map (keep (λ l. l.key.execution) (keep (λ l. ltb 0 (L.energy_at l (suc k))) (C.accepted_at b))) (R.execution_at b.units (suc k))
 
-  home : (w : ℕ) → w < 2 → get_or h.capacities w None ≡ None
-  unfolding capacity_on
-  home w l = way-of s b e sound.directions k h.capacities t.capacities w (omega arith) ∙ rw (lt-ltb w 2 l) refl
-
-  capacity-range : (w : ℕ) → 2 ≤ w → w < 10 → unwrap_or (get_or h.capacities w None) 0 ≤ U.max_energy
-  capacity-range w m l =
-      rw (way-of s b e sound.directions k h.capacities t.capacities w l, capacity-as s b e sound.directions k w m l)
-      (capacity-small (B.hours b) k (get_or b.capacities (w - 2) nothing) (RL.all-at (w - 2) nothing sound.ranges.capacities (omega (arith, sound.directions))))
+  capacity-range : (d : ℕ) → d < 8 → unwrap_or (get_or h.capacities d None) 0 ≤ U.max_energy
+  capacity-range d l =
+      rw (capacity-of s b e sound.directions k h.capacities t.capacities d l, capacity-as s b e sound.directions k d l)
+      (capacity-small (B.hours b) k (get_or b.capacities d nothing) (RL.all-at d nothing sound.ranges.capacities (omega (arith, sound.directions))))
 
   capacities-range : All (λ c. c.energy ≤ U.max_energy) (published_in h.capacities)
   unfolding published_in directed
-  capacities-range = all-mapped (directed (energies_of h.capacities)) (all_keep (λ w. is_some (get_or h.capacities w None)) (from_all _ 2 8 (λ w l m. rw (energy-of h.capacities w) (capacity-range w l (omega arith)))))
+  capacities-range = all-mapped (directed (energies_of h.capacities)) (all_keep (λ d. is_some (get_or h.capacities d None)) (from_all _ 0 8 (λ d l m. rw (energy-of h.capacities d) (capacity-range d (omega arith)))))
 
   pub hour-in-range : InRange h
   unfolding hour_in R.hour_of_day R.offer_at R.execution_at R.holder_of C.accepted_at
@@ -183,6 +179,5 @@ module _ (s : Session) (b : B.Book) (e : s ≡ I.image b) (sound : I.Sound b) (c
     executions = subst (λ x. All ExecutionReady x.executions) (sym same) (executions-ready b sound.ranges (suc k));
     executions-rise = subst (λ x. Pairwise (λ o p. o.holder.number < p.holder.number) x.executions) (sym same)
         (pairwise_map (R.execution_at b.units (suc k)) (λ x y g. g) (pairwise-keep (λ l. l.key.execution) (pairwise-keep (λ l. ltb 0 (L.energy_at l (suc k))) (pairwise-keep _ sound.ranges.standing.rising))));
-    home = home;
     capacities = capacities-range;
   }

@@ -58,16 +58,16 @@ unfoldable pub published_for : Option ℕ → U.Published
 published_for None = none
 published_for (Some energy) = some (replicate 24 energy)
 
--- that of the direction at a way
+-- that of the direction at an index
 unfoldable pub notice_for : List (Option ℕ) → ℕ → U.Published
-notice_for cs w = published_for (get_or cs w None)
+notice_for cs d = published_for (get_or cs d None)
 
--- a closed book of an ordinary day; its notice covers the four borders, whose ways come after the two of border 0
+-- a closed book of an ordinary day
 unfoldable pub book_of : Hour → B.Book
 book_of h = record {
   date = record { year = 2006; month = 6; day = 1 };
   units = map (λ x. unit_for x.holder) (last_ones same_unit (lodgements_of (hour_in h)));
-  capacities = map (notice_for h.capacities) (from 2 8);
+  capacities = map (notice_for h.capacities) (from 0 8);
   standing = insert_all (map offer_for (hour_in h).offers) (map execution_for (hour_in h).executions);
   last = 65535;
   closed = true;
