@@ -26,9 +26,9 @@ use Rattle.rules.proofs.RefusalLaws.{accepted-rows}
 use Rattle.rules.proofs.BookLaws.{frozen-judgements, frozen-figures}
 use Rattle.hour.specs.declared.Hour.{Hour}
 use Rattle.hour.specs.declared.Figures.{Figures}
-use Rattle.hour.specs.Ready.{is_ready, figures_of}
+use Rattle.hour.specs.Ready.{is_in_range, figures_in_range}
 use Rattle.hour.specs.View.{hour_in, figures_in, figures_as}
-use Rattle.hour.proofs.ReadyLaws.{ready-told, ready-holds}
+use Rattle.hour.proofs.ReadyLaws.{range-told, range-holds}
 use Rattle.session.specs.declared.Session.{Session}
 use Rattle.session.specs.declared.Unit.{Unit}
 use Rattle.session.specs.declared.HourFigures.{HourFigures}
@@ -50,7 +50,7 @@ use Rattle.clear.specs.Hours.{HourAs, HoursAs}
 use Rattle.std.specs.Prelude.{Some, None, is_some, unwrap_or}
 use Rattle.hour_clear.proofs.ClearLaws.{figures-read, matched-small, executed-small}
 use Rattle.clear_gather.proofs.HourLaws.{hour-as}
-use Rattle.clear_gather.proofs.ReadyLaws.{hour-ready}
+use Rattle.clear_gather.proofs.ReadyLaws.{hour-in-range}
 
 -- One hour
 
@@ -69,37 +69,37 @@ figures-as b h =
     (sym (map-map (λ (u : Unit). sum_of (λ (o : Offer). o.matched) (keep (λ o. eqb o.holder.unit u.number) (R.figures_at b h).offers)) I.unit_of b.units))
     (sym (map-map (λ (u : Unit). sum_of (λ (x : Execution). x.energy) (keep (λ x. eqb x.holder.unit u.number) (R.figures_at b h).executions)) I.unit_of b.units))
 
--- figures that clearing gives are those of a ready hour
-figures-given : (h : Hour) (f : Figures) → is_ready h ≡ true → Some f ≡ figures_of h → f ≡ figures_as (R.clear_hour (hour_in h))
-unfolding figures_of
+-- figures that clearing gives are those of an hour in its ranges
+figures-given : (h : Hour) (f : Figures) → is_in_range h ≡ true → Some f ≡ figures_in_range h → f ≡ figures_as (R.clear_hour (hour_in h))
+unfolding figures_in_range
 figures-given h f t e = ap (λ o. unwrap_or o f) e ∙ rw t refl
 
-figures-none : (h : Hour) (f : Figures) → is_ready h ≡ false → Some f ≡ figures_of h → ⊥
-unfolding figures_of
+figures-none : (h : Hour) (f : Figures) → is_in_range h ≡ false → Some f ≡ figures_in_range h → ⊥
+unfolding figures_in_range
 figures-none h f t e = false≢true (sym (ap (λ o. is_some o) e ∙ rw t refl))
 
-pub hour-told : (s : Session) (hs : List Holder) (k : ℕ) (h : Hour) (f : Figures) (r : HourFigures) → Holders s hs → Built s hs k h → Some f ≡ figures_of h
+pub hour-told : (s : Session) (hs : List Holder) (k : ℕ) (h : Hour) (f : Figures) (r : HourFigures) → Holders s hs → Built s hs k h → Some f ≡ figures_in_range h
     → (f ≡ figures_as (figures_in f) → r ≡ cleared_as (figures_in f) (take s.enrolled s.units))
     → HourAs s k (record { steps = f.steps; figures = r })
 unfolding figures_in R.figures_at
 hour-told s hs k h f r holders t q kept b sound closed e =
-    let ready = hour-ready s b e sound closed hs holders k h t in
-    let laid : f ≡ figures_as (R.clear_hour (hour_in h)) = figures-given h f (ready-told h ready) q in
+    let ready = hour-in-range s b e sound closed hs holders k h t in
+    let laid : f ≡ figures_as (R.clear_hour (hour_in h)) = figures-given h f (range-told h ready) q in
     let read : figures_in f ≡ R.clear_hour (hour_in h) = ap figures_in laid ∙ figures-read ready in
     let a : figures_in f ≡ R.figures_at b (suc k) = read ∙ ap R.clear_hour (hour-as s b e closed hs holders k h t sound.directions) in
     (kept (laid ∙ ap figures_as (sym read)) ∙ (ap₂ cleared_as a (units-as s b e) ∙ sym (figures-as b (suc k))), ap (λ (x : R.Figures). x.steps) a)
 
--- every hour of a sound book is ready
-pub hour-none : (s : Session) (hs : List Holder) (k : ℕ) (h : Hour) (r : HourEnd) → Holders s hs → Built s hs k h → None ≡ figures_of h → HourAs s k r
-unfolding figures_of
+-- every hour of a sound book is in its ranges
+pub hour-none : (s : Session) (hs : List Holder) (k : ℕ) (h : Hour) (r : HourEnd) → Holders s hs → Built s hs k h → None ≡ figures_in_range h → HourAs s k r
+unfolding figures_in_range
 hour-none s hs k h r holders t q b sound closed e =
-    absurd (false≢true (ap (λ o. is_some o) q ∙ rw (ready-told h (hour-ready s b e sound closed hs holders k h t)) refl))
+    absurd (false≢true (ap (λ o. is_some o) q ∙ rw (range-told h (hour-in-range s b e sound closed hs holders k h t)) refl))
 
 -- energies in range, whatever hour is cleared
-pub figures-small : (h : Hour) (f : Figures) → Some f ≡ figures_of h → All (λ (o : Own). o.matched ≤ U.max_energy) f.offers.items × All (λ (x : OwnExecution). x.energy ≤ U.max_energy) f.executions.items
+pub figures-small : (h : Hour) (f : Figures) → Some f ≡ figures_in_range h → All (λ (o : Own). o.matched ≤ U.max_energy) f.offers.items × All (λ (x : OwnExecution). x.energy ≤ U.max_energy) f.executions.items
 figures-small h f q =
-    by_bool (is_ready h)
-    (λ t. let r = ready-holds h t in rw (figures-given h f t q) (matched-small r, executed-small r))
+    by_bool (is_in_range h)
+    (λ t. let r = range-holds h t in rw (figures-given h f t q) (matched-small r, executed-small r))
     (λ t. absurd (figures-none h f t q))
 
 -- The loop over the hours

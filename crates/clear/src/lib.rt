@@ -36,7 +36,7 @@ fn clear_hour(s: &Session, holders: &[Holder], k: usize) -> HourEnd
     ensures { Holders s.now holders.now → HourAs s.now k result }
 {
     let hour = clear_gather::hour_at(s, holders, k);
-    match hour_clear::clear(&hour) {
+    match hour_clear::clear_in_range(&hour) {
         Some(figures) => HourEnd {
             steps: figures.steps,
             figures: clear_store::stored(&s.units[..s.enrolled], &figures),

@@ -1,5 +1,5 @@
 -- An hour built from a session is the rules' hour of the book.
-use Prim.Native.Nat.{ℕ, suc, ◌-◌, ◌/◌, ◌%◌, ◌≤◌, ◌<◌}
+use Prim.Native.Nat.{ℕ, suc, ◌+◌, ◌-◌, ◌/◌, ◌%◌, ◌<◌}
 use mathlib.Core.Path.{◌≡◌, refl, sym, ap, ◌∙◌}
 use mathlib.Core.Bool.{Bool, true, false, cond}
 use mathlib.Core.List.{List, [], ◌∷◌, map, map-map}
@@ -7,7 +7,6 @@ use mathlib.Core.Option.{some, none as nothing}
 use native.Mathlib.Omega.{arith}
 use lib.Dec.{eqb}
 use lib.ListN.{get_or, length}
-use borrow.Author.Tests.{le-ltb}
 use Rattle.std.specs.Prelude.{is_some, unwrap_or, Option, Some, None}
 use Rattle.rules.specs.Lists.{keep, from, hourly}
 use Rattle.rules.specs.Units as U
@@ -22,7 +21,7 @@ use Rattle.rules.proofs.IndexLaws.{from_all}
 use Rattle.hour_offers.specs.declared.Holder.{Holder as Own}
 use Rattle.hour_offers.specs.View.{execution_in}
 use Rattle.hour.specs.declared.Hour.{Hour}
-use Rattle.hour_borders.specs.Ways.{directed, energies_of, published_in}
+use Rattle.hour_borders.specs.Directions.{directed, energies_of, published_in}
 use Rattle.hour.specs.View.{fresh_in, hour_in}
 use Rattle.hour.proofs.ReadyLaws.{energy-of}
 use Rattle.session.specs.Bare.{bare_notice}
@@ -35,7 +34,7 @@ use Rattle.session.proofs.IndexLaws.{get_or-map}
 use Rattle.session.proofs.ImageLaws.{capacities-as}
 use Rattle.clear_gather.specs.Built.{Holders, energy_on, price_on, offer_on, execution_on, capacity_on, Built}
 use Rattle.clear_gather.proofs.ListLaws.{flat, kept-flat, eight}
-use Rattle.hour.proofs.LaidLaws.{ten-at}
+use Rattle.hour.proofs.LaidLaws.{eight-at}
 use Rattle.clear_gather.proofs.DayLaws.{standing, chosen_in, energies-at, holder-at, holders-long, gathered, named-offers, named-executions}
 
 -- equal parts make equal records
@@ -50,7 +49,7 @@ execution-same a b = rw (a, b)
 directed-same : (border : ℕ) (export : Bool) {e f : ℕ} → e ≡ f → ◌≡◌ {A = List Directed} (record { border = border; export = export; energy = e } ∷ []) (record { border = border; export = export; energy = f } ∷ [])
 directed-same border export a = rw a
 
-hour-same : {c d : List Directed} {o p : List Offer} {x y : List Execution} → c ≡ d → o ≡ p → x ≡ y
+pub hour-same : {c d : List Directed} {o p : List Offer} {x y : List Execution} → c ≡ d → o ≡ p → x ≡ y
     → ◌≡◌ {A = R.Hour} (record { capacities = c; offers = o; executions = x }) (record { capacities = d; offers = p; executions = y })
 hour-same a b c = rw (a, b, c)
 
@@ -68,28 +67,27 @@ direction-as border export k nothing = refl
 direction-as border export k (some es) = directed-same border export (get_or-pad es (25 - length es) k ∙ sym (hourly-suc es k))
 
 module _ (s : Session) (b : B.Book) (e : s ≡ I.image b) (eight-long : length b.capacities ≡ 8) (k : ℕ) where
-  pub capacity-as : (w : ℕ) → 2 ≤ w → w < 10 → capacity_on s.capacities k w ≡ given_at (I.notice_as (get_or b.capacities (w - 2) nothing)) k
+  pub capacity-as : (d : ℕ) → d < 8 → capacity_on s.capacities k d ≡ given_at (I.notice_as (get_or b.capacities d nothing)) k
   unfolding capacity_on
-  capacity-as w h l =
-      rw (le-ltb w 2 h, capacities-as s b e) (ap (λ (n : Notice). given_at n k) (get_or-map I.notice_as nothing bare_notice b.capacities (w - 2) (omega arith)))
+  capacity-as d l = rw (capacities-as s b e) (ap (λ (n : Notice). given_at n k) (get_or-map I.notice_as nothing bare_notice b.capacities d (omega arith)))
 
-  module _ (cs : List (Option ℕ)) (c : cs ≡ map (capacity_on s.capacities k) (from 0 10)) where
-    pub way-of : (w : ℕ) → w < 10 → get_or cs w None ≡ capacity_on s.capacities k w
-    way-of w l = rw c (ten-at (capacity_on s.capacities k) None w l)
+  module _ (cs : List (Option ℕ)) (c : cs ≡ map (capacity_on s.capacities k) (from 0 8)) where
+    pub capacity-of : (d : ℕ) → d < 8 → get_or cs d None ≡ capacity_on s.capacities k d
+    capacity-of d l = rw c (eight-at (capacity_on s.capacities k) None d l)
 
-    way_as : (w : ℕ) → 2 ≤ w → w < 10
-        → cond (is_some (get_or cs w None)) (directed (energies_of cs) w ∷ []) [] ≡ R.published (suc k) (w / 2) (eqb (w % 2) 0) (get_or b.capacities (w - 2) nothing)
+    published-as : (d : ℕ) → d < 8
+        → cond (is_some (get_or cs d None)) (directed (energies_of cs) d ∷ []) [] ≡ R.published (suc k) (d / 2 + 1) (eqb (d % 2) 0) (get_or b.capacities d nothing)
     unfolding directed
-    way_as w h l =
-        let g = way-of w l ∙ capacity-as w h l in
-        rw (energy-of cs w, g) (direction-as (w / 2) (eqb (w % 2) 0) k (get_or b.capacities (w - 2) nothing))
+    published-as d l =
+        let g = capacity-of d l ∙ capacity-as d l in
+        rw (energy-of cs d, g) (direction-as (d / 2 + 1) (eqb (d % 2) 0) k (get_or b.capacities d nothing))
 
     pub capacities-said : published_in cs ≡ R.capacities_at b.capacities (suc k)
     unfolding published_in flat from R.capacities_at R.border_capacities U.capacity_of U.direction
     capacities-said =
-        let g : ℕ → List Directed = λ w. R.published (suc k) (w / 2) (eqb (w % 2) 0) (get_or b.capacities (w - 2) nothing) in
-        kept-flat (directed (energies_of cs)) (λ w. is_some (get_or cs w None)) g (from_all _ 2 8 (λ w h l. way_as w h (omega arith)))
-        ∙ eight (g 2) (g 3) (g 4) (g 5) (g 6) (g 7) (g 8) (g 9)
+        let g : ℕ → List Directed = λ d. R.published (suc k) (d / 2 + 1) (eqb (d % 2) 0) (get_or b.capacities d nothing) in
+        kept-flat (directed (energies_of cs)) (λ d. is_some (get_or cs d None)) g (from_all _ 0 8 (λ d h l. published-as d (omega arith)))
+        ∙ eight (g 0) (g 1) (g 2) (g 3) (g 4) (g 5) (g 6) (g 7)
 
 -- Offers and executions
 

@@ -6,3 +6,6 @@ pub mod HourLaws
 pub mod OfferLaws
 pub mod ReadyLaws
 pub mod UnitLaws
+pub mod InsertLaws
+pub mod HourReadyLaws
+pub mod HoldingLaws

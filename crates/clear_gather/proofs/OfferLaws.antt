@@ -116,10 +116,10 @@ module _ (b : B.Book) (sound : S.Sound b) where
 
   -- the accepted lodgements that pass a test, and of them the offers
   module _ (named : L.Lodgement → Bool) where
-    abbrev chosen : List L.Lodgement
+    abbrev pub chosen : List L.Lodgement
     chosen = keep (λ l. not l.key.execution) (keep named (C.accepted_at b))
 
-    offers-apart : Pairwise (λ k l. k.key.unit ≡ l.key.unit → ⊥) chosen
+    pub offers-apart : Pairwise (λ k l. k.key.unit ≡ l.key.unit → ⊥) chosen
     unfolding C.accepted_at
     offers-apart =
         pairwise-with apart

@@ -1,4 +1,4 @@
--- An hour built from a session that stands for a sound book is one that can be cleared.
+-- An hour built from a session that stands for a sound book has every part in its range.
 use Prim.Native.Nat.{ℕ, zero, suc, ◌-◌, ◌≤◌, ◌<◌}
 use mathlib.Core.Path.{◌≡◌, refl, sym, ap, subst, ◌∙◌}
 use mathlib.Core.Bool.{Bool, true, false, not, ◌&&◌, ◌||◌, false≢true}
@@ -7,7 +7,7 @@ use mathlib.Core.Option.{some, none as nothing}
 use native.Mathlib.Omega.{arith}
 use lib.Dec.{ltb, eqb}
 use lib.ListN.{get_or, length, length-map}
-use borrow.Author.Tests.{lt-ltb, ltb-true, ltb-false, eqb-false}
+use borrow.Author.Tests.{ltb-true, ltb-false, eqb-false}
 use Rattle.rules.specs.Lists.{All, none, more, Pairwise, any, first, keep, hourly}
 use Rattle.rules.specs.Units as U
 use Rattle.rules.specs.Message.{top_price}
@@ -25,16 +25,16 @@ use Rattle.std.specs.Prelude.{is_some, unwrap_or, None}
 use Rattle.hour_offers.specs.declared.Holder.{Holder as Own}
 use Rattle.hour_offers.specs.View.{execution_in}
 use Rattle.hour.specs.declared.Hour.{Hour}
-use Rattle.hour_borders.specs.Ways.{directed, energies_of, published_in}
+use Rattle.hour_borders.specs.Directions.{directed, energies_of, published_in}
 use Rattle.hour.specs.View.{fresh_in, hour_in}
 use Rattle.hour.proofs.ReadyLaws.{energy-of}
-use Rattle.hour.specs.Ready.{Between, OfferReady, ExecutionReady, Ready}
+use Rattle.hour.specs.Ready.{Between, OfferReady, ExecutionReady, InRange}
 use Rattle.clear_gather.proofs.ListLaws.{all-within}
 use Rattle.session.specs.declared.Session.{Session}
 use Rattle.session.specs.Laid.{pad}
 use Rattle.session.specs.Image as I
-use Rattle.clear_gather.specs.Built.{Holders, capacity_on, Built}
-use Rattle.clear_gather.proofs.HourLaws.{given_at, capacity-as, way-of, hour-as}
+use Rattle.clear_gather.specs.Built.{Holders, Built}
+use Rattle.clear_gather.proofs.HourLaws.{given_at, capacity-as, capacity-of, hour-as}
 use Rattle.clear_gather.proofs.OfferLaws.{few-offers, all_room}
 
 -- What a sound book gives
@@ -45,7 +45,7 @@ top-price true = omega arith
 top-price false = omega arith
 
 -- of a unit with a number, one that is registered
-first_one : {A : Type 0} {P : A → Type 0} (p : A → Bool) (d : A) {xs : List A} → any p xs ≡ true → All P xs → P (first p d xs)
+pub first_one : {A : Type 0} {P : A → Type 0} (p : A → Bool) (d : A) {xs : List A} → any p xs ≡ true → All P xs → P (first p d xs)
 unfolding first any
 first_one p d h none = absurd (false≢true h)
 first_one p d h (more {x} k t) = by_bool (p x) (λ e. rw e k) (λ e. rw e (first_one p d (rw e at h) t))
@@ -58,11 +58,12 @@ good-number : (n : ℕ) → U.bad_number n ≡ false → Between 1 65535 n
 unfolding U.bad_number
 good-number n h = let p = neither (eqb n 0) (ltb 65535 n) h in (positive n p.0, ltb-false 65535 n p.1)
 
--- number, border and legacy mark of a unit in its ranges
-record GoodUnit (u : U.TradingUnit) : Type 0 where
-  number : Between 1 65535 u.number
-  border : u.border ≤ 4
-  legacy : u.legacy ≡ true → 1 ≤ u.border
+-- number, border, maximum and legacy mark of a unit in its ranges
+pub record GoodUnit (u : U.TradingUnit) : Type 0 where
+  pub number : Between 1 65535 u.number
+  pub border : u.border ≤ 4
+  pub maximum : u.maximum ≤ U.max_energy
+  pub legacy : u.legacy ≡ true → 1 ≤ u.border
 
 good-unit : (u : U.TradingUnit) → U.bad_unit u ≡ false → GoodUnit u
 unfolding U.bad_unit U.domestic
@@ -74,6 +75,7 @@ good-unit u h =
     record {
       number = good-number u.number (neither (U.bad_number u.number) (U.bad_number u.agent) r.0).0;
       border = ltb-false 4 u.border r.1;
+      maximum = ltb-false U.max_energy u.maximum q.1;
       legacy = λ t. positive u.border (rw t at p.1);
     }
 
@@ -86,7 +88,7 @@ record Fit (us : List U.Registered) (h : ℕ) (l : L.Lodgement) : Type 0 where
   energy : L.energy_at l h ≤ U.max_energy
 
 module _ (b : B.Book) (sound : S.Sound b) (h : ℕ) where
-  unit-good : (l : L.Lodgement) → S.HasUnit b.units l.key → GoodUnit (U.unit_of b.units l.key.unit).unit
+  pub unit-good : (l : L.Lodgement) → S.HasUnit b.units l.key → GoodUnit (U.unit_of b.units l.key.unit).unit
   unfolding U.unit_of U.is_registered
   unit-good l g = first_one (U.has_number l.key.unit) U.nobody g.registered (all_map (λ r e. good-unit r.unit e) sound.units.ranges)
 
@@ -157,22 +159,18 @@ module _ (s : Session) (b : B.Book) (e : s ≡ I.image b) (sound : I.Sound b) (c
       sym (length-map h.executions.items execution_in) ∙ ap (λ x. length x.executions) same
       ∙ length-map (keep (λ l. l.key.execution) (keep (λ l. ltb 0 (L.energy_at l (suc k))) (C.accepted_at b))) (R.execution_at b.units (suc k))
 
-  home : (w : ℕ) → w < 2 → get_or h.capacities w None ≡ None
-  unfolding capacity_on
-  home w l = way-of s b e sound.directions k h.capacities t.capacities w (omega arith) ∙ rw (lt-ltb w 2 l) refl
-
-  capacity-range : (w : ℕ) → 2 ≤ w → w < 10 → unwrap_or (get_or h.capacities w None) 0 ≤ U.max_energy
-  capacity-range w m l =
-      rw (way-of s b e sound.directions k h.capacities t.capacities w l, capacity-as s b e sound.directions k w m l)
-      (capacity-small (B.hours b) k (get_or b.capacities (w - 2) nothing) (RL.all-at (w - 2) nothing sound.ranges.capacities (omega (arith, sound.directions))))
+  capacity-range : (d : ℕ) → d < 8 → unwrap_or (get_or h.capacities d None) 0 ≤ U.max_energy
+  capacity-range d l =
+      rw (capacity-of s b e sound.directions k h.capacities t.capacities d l, capacity-as s b e sound.directions k d l)
+      (capacity-small (B.hours b) k (get_or b.capacities d nothing) (RL.all-at d nothing sound.ranges.capacities (omega (arith, sound.directions))))
 
   capacities-range : All (λ c. c.energy ≤ U.max_energy) (published_in h.capacities)
   unfolding published_in directed
-  capacities-range = all-mapped (directed (energies_of h.capacities)) (all_keep (λ w. is_some (get_or h.capacities w None)) (from_all _ 2 8 (λ w l m. rw (energy-of h.capacities w) (capacity-range w l (omega arith)))))
+  capacities-range = all-mapped (directed (energies_of h.capacities)) (all_keep (λ d. is_some (get_or h.capacities d None)) (from_all _ 0 8 (λ d l m. rw (energy-of h.capacities d) (capacity-range d (omega arith)))))
 
-  pub hour-ready : Ready h
+  pub hour-in-range : InRange h
   unfolding hour_in R.hour_of_day R.offer_at R.execution_at R.holder_of C.accepted_at
-  hour-ready = record {
+  hour-in-range = record {
     offering = omega (arith, offers-count, few-offers b sound.ranges (λ l. ltb 0 (L.energy_at l (suc k))));
     room = omega (arith, offers-count, executions-count, all_room b sound.ranges (λ l. ltb 0 (L.energy_at l (suc k))));
     offers = subst (λ x. All OfferReady x.offers) (sym same) (offers-ready b sound.ranges (suc k));
@@ -181,6 +179,5 @@ module _ (s : Session) (b : B.Book) (e : s ≡ I.image b) (sound : I.Sound b) (c
     executions = subst (λ x. All ExecutionReady x.executions) (sym same) (executions-ready b sound.ranges (suc k));
     executions-rise = subst (λ x. Pairwise (λ o p. o.holder.number < p.holder.number) x.executions) (sym same)
         (pairwise_map (R.execution_at b.units (suc k)) (λ x y g. g) (pairwise-keep (λ l. l.key.execution) (pairwise-keep (λ l. ltb 0 (L.energy_at l (suc k))) (pairwise-keep _ sound.ranges.standing.rising))));
-    home = home;
     capacities = capacities-range;
   }

@@ -1,5 +1,5 @@
 -- The lodgements that an hour is cleared from, by their indices in the session's arrays.
-use Rattle.std.specs.Prelude.{ℕ, ◌-◌, ◌≡◌, Bool, true, false, cond, ◌&&◌, List, map, take, length, ltb, get_or, Option, Some, None}
+use Rattle.std.specs.Prelude.{ℕ, ◌≡◌, Bool, true, false, cond, ◌&&◌, List, map, take, length, ltb, get_or, Option, Some, None}
 use Rattle.std.specs.Bool.{beq}
 use Rattle.rules.specs.Lists.{keep, first, from}
 use Rattle.session.specs.Bare.{bare_notice, bare_energies}
@@ -62,12 +62,12 @@ offer_on s hs k i = record { holder = get_or hs i no_holder; price = price_on s.
 abbrev pub execution_on : Session → List Holder → ℕ → ℕ → Execution
 execution_on s hs k i = record { holder = get_or hs i no_holder; energy = energy_on s.energies k i }
 
--- the capacity at a way: border 0 has none
+-- the capacity of a direction
 unfoldable pub capacity_on : List Notice → ℕ → ℕ → Option ℕ
-capacity_on cs k w = cond (ltb w 2) None (let c = get_or cs (w - 2) bare_notice in cond c.given (Some (get_or c.energies k 0)) None)
+capacity_on cs k d = let c = get_or cs d bare_notice in cond c.given (Some (get_or c.energies k 0)) None
 
 -- The hour at index k, of the lodgements that have these holders
 pub record Built (s : Session) (hs : List Holder) (k : ℕ) (h : Hour) : Type 0 where
   pub offers : h.offers.items ≡ map (offer_on s hs k) (chosen s (length hs) false k)
   pub executions : h.executions.items ≡ map (execution_on s hs k) (chosen s (length hs) true k)
-  pub capacities : h.capacities ≡ map (capacity_on s.capacities k) (from 0 10)
+  pub capacities : h.capacities ≡ map (capacity_on s.capacities k) (from 0 8)

@@ -55,26 +55,23 @@ fn counted(verdict: &Verdict, energy: u32) -> bool
     verdict.accepted && 0 < energy
 }
 
-// The capacity of the direction at a way in the hour at index k: "Absent means no maximum", and border 0 has none. The row and the hour are
-// indices of C's arrays, whose bounds no type of these indices has.
+// The capacity of a direction in the hour at index k: "Absent means no maximum". The direction and the hour are indices of C's arrays, whose
+// bounds no type of these indices has.
 #[tactic(auto, unfolding(crate::specs::Built::capacity_on))]
-fn capacity_on(notices: &[Notice; DIRECTIONS], k: usize, way: usize) -> Option<u32>
-    requires { (k < 25) × (way < 10) }
-    ensures { result ≡ capacity_on notices.now k way }
+fn capacity_on(notices: &[Notice; DIRECTIONS], k: usize, direction: usize) -> Option<u32>
+    requires { (k < 25) × (direction < 8) }
+    ensures { result ≡ capacity_on notices.now k direction }
 {
-    if way < 2 {
-        return None;
-    }
-    let notice = &notices[way - 2];
+    let notice = &notices[direction];
     notice.given.then_some(notice.energies[k])
 }
 
-// The capacities of the hour at index k, by way.
-fn capacities_at(notices: &[Notice; DIRECTIONS], k: usize) -> [Option<u32>; 10]
+// The capacities of the hour at index k, by direction.
+fn capacities_at(notices: &[Notice; DIRECTIONS], k: usize) -> [Option<u32>; DIRECTIONS]
     requires { k < 25 }
-    ensures { result ≡ map (capacity_on notices.now k) (from 0 10) }
+    ensures { result ≡ map (capacity_on notices.now k) (from 0 8) }
 {
-    std::array::from_fn(|way| capacity_on(notices, k, way))
+    std::array::from_fn(|direction| capacity_on(notices, k, direction))
 }
 
 // The hour at index k: its accepted offers and executions by rising lodging number, and its published capacities. `holders` are those

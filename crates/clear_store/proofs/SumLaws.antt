@@ -15,9 +15,9 @@ use Rattle.rules.proofs.BoolLaws.{by_bool}
 use Rattle.rules.proofs.ListLaws.{keep-map}
 use Rattle.session.specs.declared.HourFigures.{HourFigures}
 use Rattle.session.specs.Laid.{pad}
-use Rattle.session.specs.Image.{by_way, energy_of}
+use Rattle.session.specs.Image.{by_direction, energy_of}
 use Rattle.session.proofs.LaidLaws.{map_last, set-pad}
-use Rattle.hour.specs.View.{energy_among, laid_by_way}
+use Rattle.hour.specs.View.{energy_among, laid_by_direction}
 
 pub take-last : {A : Type 0} (xs : List A) (i : ℕ) (d : A) → i < length xs → take (i + 1) xs ≡ take i xs ++ (get_or xs i d ∷ [])
 take-last [] i d h = absurd (omega arith)
@@ -42,11 +42,11 @@ unfolding energy_among energy_of
 among-as [] b e = refl
 among-as (d ∷ ds) b e = by_bool (eqb d.border b && beq d.export e) (λ t. rw t refl) (λ t. rw t (among-as ds b e))
 
-pub maxima-as : (ds : List Directed) → map (λ o. unwrap_or o 0) (laid_by_way ds) ≡ by_way (energy_of ds)
-unfolding laid_by_way by_way
+pub maxima-as : (ds : List Directed) → map (λ o. unwrap_or o 0) (laid_by_direction ds) ≡ by_direction (energy_of ds)
+unfolding laid_by_direction by_direction
 maxima-as ds =
-    map-map (λ o. unwrap_or o 0) (λ w. energy_among ds (w / 2) (eqb (w % 2) 0)) (from 0 10)
-    ∙ map-all _ _ (all-every (λ w. among-as ds (w / 2) (eqb (w % 2) 0)) (from 0 10))
+    map-map (λ o. unwrap_or o 0) (λ d. energy_among ds (d / 2 + 1) (eqb (d % 2) 0)) (from 0 8)
+    ∙ map-all _ _ (all-every (λ d. among-as ds (d / 2 + 1) (eqb (d % 2) 0)) (from 0 8))
 
 -- equal parts make equal figures
 pub cleared-same : {p : ℕ} {m m' b b' x x' d d' e e' : List ℕ} → m ≡ m' → b ≡ b' → x ≡ x' → d ≡ d' → e ≡ e'

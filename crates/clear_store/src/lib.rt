@@ -16,7 +16,7 @@ ghost use Rattle.clear_store.specs.Shown.{cleared_as};
 use crate::portions::{Portion, SLOTS, Slots};
 use arrayvec::ArrayVec;
 use hour::Figures;
-use rules::UNITS;
+use rules::{DIRECTIONS, UNITS};
 use session::{HourFigures, Unit};
 
 impl Portion {
@@ -108,8 +108,8 @@ impl Slots {
     }
 }
 
-// Maxima by way, as C's figures have them: 0 where there is none.
-fn plain(maxima: &[Option<u32>; 10]) -> [u32; 10]
+// Maxima by direction, as C's figures have them: 0 where there is none.
+fn plain(maxima: &[Option<u32>; DIRECTIONS]) -> [u32; DIRECTIONS]
     ensures { result ≡ map (λ m. unwrap_or m 0) maxima.now }
 {
     maxima.map(|maximum| maximum.unwrap_or(0))

@@ -1,7 +1,7 @@
 -- The hour that is being given, part by part, and what is answered of it.
 use Rattle.std.specs.Prelude.{cond, ltb, [], ◌∷◌, ◌++◌, length, set, replicate, Option, Some, None}
 use Rattle.hour.specs.declared.Hour.{Hour}
-use Rattle.hour.specs.Ready.{figures_of}
+use Rattle.hour.specs.Ready.{figures_in_range}
 use Rattle.hour_borders.specs.Ways.{way_of}
 use Rattle.figures.specs.declared.hours.Cleared.{Cleared}
 use Rattle.figures.specs.declared.hours.Part.{Part}
@@ -23,7 +23,7 @@ put_in part (Some h) = with_part part h
 
 -- an hour's figures beside its capacities, if it is ready
 abbrev pub cleared_of : Hour → Option Cleared
-cleared_of h = elim (figures_of h) [ None ↦ None | Some figures ↦ Some (record { capacities = h.capacities; figures = figures }) ]
+cleared_of h = elim (figures_in_range h) [ None ↦ None | Some figures ↦ Some (record { capacities = h.capacities; figures = figures }) ]
 
 abbrev pub answer_of : Option Hour → Option Cleared
 answer_of = elim [ None ↦ None | Some h ↦ cleared_of h ]

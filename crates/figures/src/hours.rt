@@ -100,7 +100,7 @@ impl Cleared {
     fn of(hour: Hour) -> Option<Cleared>
         ensures { result ≡ cleared_of hour }
     {
-        let figures = hour_clear::clear(&hour)?;
+        let figures = hour_clear::clear_in_range(&hour)?;
         let capacities = hour.capacities;
         Some(Cleared {
             capacities,

@@ -1,19 +1,20 @@
 -- The rules' figures as the code has them, and read back.
 use Prim.Native.Nat.{ℕ, zero, suc, ◌+◌, ◌/◌, ◌%◌, ◌≤◌, ◌<◌}
-use mathlib.Core.Path.{◌≡◌, refl, sym, ap, ◌∙◌}
+use mathlib.Core.Path.{◌≡◌, refl, sym, ap, ap₂, ◌∙◌}
 use mathlib.Core.Bool.{Bool, true, false, cond, ◌&&◌, beq, false≢true, true≢false}
 use mathlib.Core.List.{List, [], ◌∷◌, map}
 use mathlib.Core.Logic.{⊎_elim}
 use native.Mathlib.Omega.{arith}
 use native.Mathlib.Nat.{eq-or-lt_of_le}
-use lib.Dec.{eqb, ltb}
+use lib.Dec.{eqb}
 use lib.ListN.{get_or, length}
 use lib.Seq.{ext_get_or}
-use borrow.Author.Tests.{eqb-true, eqb-false, ltb-true, ltb-false, ne_eqb}
+use borrow.Author.Tests.{eqb-true, eqb-false, ne_eqb}
 use Rattle.std.specs.Prelude.{is_some, unwrap_or, Option, Some, None}
 use Rattle.rules.specs.Lists.{keep, from}
+use Rattle.rules.specs.Units.{direction}
 use Rattle.rules.specs.Match as M
-use Rattle.rules.specs.Borders.{Directed, Execution as RuleExecution, runs}
+use Rattle.rules.specs.Borders.{Directed, Execution as RuleExecution}
 use Rattle.rules.specs.Clearing as C
 use Rattle.rules.proofs.BoolLaws.{by_bool}
 use Rattle.rules.proofs.ListLaws.{all_keep, keep_same}
@@ -21,28 +22,30 @@ use Rattle.rules.proofs.IndexLaws.{from_all, from-at, map-all}
 use Rattle.hour_offers.specs.declared.Offer.{Offer}
 use Rattle.hour_offers.specs.declared.Execution.{Execution}
 use Rattle.hour_offers.specs.View.{offers_in, executions_in}
-use Rattle.hour_borders.specs.Ways.{way_of, directed, energies_of, published_in}
+use Rattle.hour_borders.specs.Directions.{directed, energies_of, published_in}
 use Rattle.hour_borders.specs.Flows.{MarketFlows, ExecutionFlows}
-use Rattle.hour_borders.proofs.WayLaws.{way_back, runs-way}
-use Rattle.session.specs.Image.{by_way}
+use Rattle.hour_borders.proofs.DirectionLaws.{direction-back, directions-same}
+use Rattle.session.specs.Image.{by_direction}
 use Rattle.hour.specs.declared.Figures.{Figures}
-use Rattle.hour.specs.View.{offer_as, execution_as, energy_among, laid_by_way, figures_as, figures_in}
+use Rattle.hour.specs.View.{offer_as, execution_as, energy_among, laid_by_direction, figures_as, figures_in}
 use Rattle.hour.proofs.ReadyLaws.{energy-of}
 
--- What stands in an array of ten made by index
+-- What stands in an array of eight made by index
 
-pub ten-at : {A : Type 0} (f : ℕ → A) (d : A) (w : ℕ) → w < 10 → get_or (map f (from 0 10)) w d ≡ f w
-ten-at f d w l = let o : 0 + w ≡ w = omega arith in from-at f d 0 10 w l ∙ ap f o
+pub eight-at : {A : Type 0} (f : ℕ → A) (blank : A) (d : ℕ) → d < 8 → get_or (map f (from 0 8)) d blank ≡ f d
+eight-at f blank d l = let o : 0 + d ≡ d = omega arith in from-at f blank 0 8 d l ∙ ap f o
 
--- an array of ten that has f at each index
-ten-same : {A : Type 0} (f : ℕ → A) (d : A) (a : List A) → length a ≡ 10 → ((w : ℕ) → w < 10 → get_or a w d ≡ f w) → a ≡ map f (from 0 10)
+-- an array of eight that has f at each index
+eight-same : {A : Type 0} (f : ℕ → A) (blank : A) (a : List A) → length a ≡ 8 → ((d : ℕ) → d < 8 → get_or a d blank ≡ f d) → a ≡ map f (from 0 8)
 unfolding from
-ten-same f d a l g = ext_get_or d a (map f (from 0 10)) l (λ w h. g w (omega arith) ∙ sym (ten-at f d w (omega arith)))
+eight-same f blank a l g = ext_get_or blank a (map f (from 0 8)) l (λ d h. g d (omega arith) ∙ sym (eight-at f blank d (omega arith)))
 
 -- flows by border and direction
-flows-laid : (f : ℕ → Bool → ℕ) (a : List ℕ) → length a ≡ 10 → ((b : ℕ) (e : Bool) → b < 5 → get_or a (way_of b e) 0 ≡ f b e) → a ≡ by_way f
-unfolding by_way
-flows-laid f a l g = ten-same (λ w. f (w / 2) (eqb (w % 2) 0)) 0 a l (λ w h. ap (λ v. get_or a v 0) (sym (way_back w)) ∙ g (w / 2) (eqb (w % 2) 0) (omega arith))
+flows-laid : (f : ℕ → Bool → ℕ) (a : List ℕ) → length a ≡ 8 → ((b : ℕ) (e : Bool) → 0 < b → b < 5 → get_or a (direction b e) 0 ≡ f b e) → a ≡ by_direction f
+unfolding by_direction
+flows-laid f a l g =
+    eight-same (λ d. f (d / 2 + 1) (eqb (d % 2) 0)) 0 a l
+    (λ d h. ap (λ v. get_or a v 0) (sym (direction-back d)) ∙ g (d / 2 + 1) (eqb (d % 2) 0) (omega arith) (omega arith))
 
 -- The energy of a direction among the published ones
 
@@ -54,23 +57,22 @@ none-again : (o : Option ℕ) → is_some o ≡ false → None ≡ o
 none-again None e = refl
 none-again (Some x) e = absurd (true≢false e)
 
--- two ways are the same direction
-same_way : (a : List ℕ) (v w : ℕ) → (eqb (directed a v).border (w / 2) && beq (directed a v).export (eqb (w % 2) 0)) ≡ eqb v w
-unfolding directed runs
-same_way a v w =
-    let x : M.Holder = record { number = 0; unit = 0; border = v / 2; purchase = eqb (v % 2) 0; legacy = false } in
-    runs-way (w / 2) (eqb (w % 2) 0) x ∙ (ap (λ u. eqb u (way_of (w / 2) (eqb (w % 2) 0))) (way_back v) ∙ ap (eqb v) (way_back w))
+-- two indices have the same direction
+same-index : (a : List ℕ) (v w : ℕ) → (eqb (directed a v).border (w / 2 + 1) && beq (directed a v).export (eqb (w % 2) 0)) ≡ eqb v w
+unfolding directed
+same-index a v w =
+    directions-same (v / 2 + 1) (w / 2 + 1) (eqb (v % 2) 0) (eqb (w % 2) 0) (omega arith) (omega arith) ∙ ap₂ eqb (direction-back v) (direction-back w)
 
 module _ (a : List (Option ℕ)) (w : ℕ) where
   abbrev is_given : ℕ → Bool
   is_given v = is_some (get_or a v None)
 
   abbrev among : List ℕ → Option ℕ
-  among vs = energy_among (map (directed (energies_of a)) (keep is_given vs)) (w / 2) (eqb (w % 2) 0)
+  among vs = energy_among (map (directed (energies_of a)) (keep is_given vs)) (w / 2 + 1) (eqb (w % 2) 0)
 
   among_next : (v : ℕ) (vs : List ℕ) → among (v ∷ vs) ≡ cond (is_given v) (cond (eqb v w) (Some (get_or (energies_of a) v 0)) (among vs)) (among vs)
   unfolding keep energy_among directed
-  among_next v vs = by_bool (is_given v) (λ t. rw t (ap (λ q. cond q (Some (get_or (energies_of a) v 0)) (among vs)) (same_way (energies_of a) v w))) (λ t. rw t)
+  among_next v vs = by_bool (is_given v) (λ t. rw t (ap (λ q. cond q (Some (get_or (energies_of a) v 0)) (among vs)) (same-index (energies_of a) v w))) (λ t. rw t)
 
   among_none : among [] ≡ None
   unfolding keep energy_among
@@ -97,38 +99,30 @@ module _ (a : List (Option ℕ)) (w : ℕ) where
       apart : (i ≡ w → ⊥) → suc i ≤ w
       apart d = ⊎_elim (λ z. absurd (d z)) (λ z. z) (eq-or-lt_of_le h)
 
-  -- none of border 0, and of another border what is published
-  pub energy-home : w < 2 → energy_among (published_in a) (w / 2) (eqb (w % 2) 0) ≡ None
+  -- what is published
+  pub energy-published : w < 8 → energy_among (published_in a) (w / 2 + 1) (eqb (w % 2) 0) ≡ get_or a w None
   unfolding published_in
-  energy-home h = among-behind 2 8 h
+  energy-published l = among-own 0 8 (omega arith) (omega arith)
 
-  pub energy-abroad : 2 ≤ w → w < 10 → energy_among (published_in a) (w / 2) (eqb (w % 2) 0) ≡ get_or a w None
-  unfolding published_in
-  energy-abroad h l = among-own 2 8 h (omega arith)
-
--- maxima or capacities that have none of border 0 are those that are published
-pub published-laid : (a : List (Option ℕ)) → length a ≡ 10 → ((w : ℕ) → w < 2 → get_or a w None ≡ None) → a ≡ laid_by_way (published_in a)
-unfolding laid_by_way
-published-laid a l home =
-    ten-same (λ w. energy_among (published_in a) (w / 2) (eqb (w % 2) 0)) None a l
-    (λ w h. by_bool (ltb w 2)
-    (λ t. let k = ltb-true w 2 t in home w k ∙ sym (energy-home a w k))
-    (λ t. let k = ltb-false w 2 t in sym (energy-abroad a w k h)))
+-- an array of eight maxima or capacities is that of those that are published
+pub published-laid : (a : List (Option ℕ)) → length a ≡ 8 → a ≡ laid_by_direction (published_in a)
+unfolding laid_by_direction
+published-laid a l = eight-same (λ d. energy_among (published_in a) (d / 2 + 1) (eqb (d % 2) 0)) None a l (λ d h. sym (energy-published a d h))
 
 -- what is published is read back
-laid-way : (a : List (Option ℕ)) (w : ℕ) → 2 ≤ w → w < 10 → get_or (laid_by_way (published_in a)) w None ≡ get_or a w None
-unfolding laid_by_way
-laid-way a w h l = ten-at (λ w. energy_among (published_in a) (w / 2) (eqb (w % 2) 0)) None w l ∙ energy-abroad a w h l
+laid-at : (a : List (Option ℕ)) (d : ℕ) → d < 8 → get_or (laid_by_direction (published_in a)) d None ≡ get_or a d None
+unfolding laid_by_direction
+laid-at a d l = eight-at (λ d. energy_among (published_in a) (d / 2 + 1) (eqb (d % 2) 0)) None d l ∙ energy-published a d l
 
-published-same : (a b : List (Option ℕ)) → ((w : ℕ) → 2 ≤ w → w < 10 → get_or b w None ≡ get_or a w None) → published_in b ≡ published_in a
+published-same : (a b : List (Option ℕ)) → ((d : ℕ) → d < 8 → get_or b d None ≡ get_or a d None) → published_in b ≡ published_in a
 unfolding published_in directed
 published-same a b f =
-    ap (map (directed (energies_of b))) (keep_same (λ w. is_some (get_or b w None)) (λ w. is_some (get_or a w None)) (from_all _ 2 8 (λ w h l. ap (λ o. is_some o) (f w h (omega arith)))))
-    ∙ map-all (directed (energies_of b)) (directed (energies_of a)) (all_keep (λ w. is_some (get_or a w None)) (from_all _ 2 8 (λ w h l.
-    ap (λ n. record { border = w / 2; export = eqb (w % 2) 0; energy = n }) (energy-of b w ∙ (ap (λ o. unwrap_or o 0) (f w h (omega arith)) ∙ sym (energy-of a w))))))
+    ap (map (directed (energies_of b))) (keep_same (λ d. is_some (get_or b d None)) (λ d. is_some (get_or a d None)) (from_all _ 0 8 (λ d h l. ap (λ o. is_some o) (f d (omega arith)))))
+    ∙ map-all (directed (energies_of b)) (directed (energies_of a)) (all_keep (λ d. is_some (get_or a d None)) (from_all _ 0 8 (λ d h l.
+    ap (λ n. record { border = d / 2 + 1; export = eqb (d % 2) 0; energy = n }) (energy-of b d ∙ (ap (λ o. unwrap_or o 0) (f d (omega arith)) ∙ sym (energy-of a d))))))
 
-pub published-again : (a : List (Option ℕ)) → published_in (laid_by_way (published_in a)) ≡ published_in a
-published-again a = published-same a (laid_by_way (published_in a)) (laid-way a)
+pub published-again : (a : List (Option ℕ)) → published_in (laid_by_direction (published_in a)) ≡ published_in a
+published-again a = published-same a (laid_by_direction (published_in a)) (laid-at a)
 
 -- Figures
 
@@ -149,13 +143,13 @@ pub executions-back : (xs : List RuleExecution) → executions_in (map execution
 executions-back [] = refl
 executions-back (x ∷ xs) = ap (λ l. x ∷ l) (executions-back xs)
 
--- figures that have only published maxima, and the flows by direction, are as the rules' are laid out
-pub figures-laid : (f : Figures) → length f.maxima ≡ 10 → ((w : ℕ) → w < 2 → get_or f.maxima w None ≡ None)
-    → length f.market ≡ 10 → MarketFlows f.market (offers_in f.offers.items) → length f.bilateral ≡ 10 → ExecutionFlows f.bilateral (executions_in f.executions.items)
+-- figures that have the flows by direction are as the rules' are laid out
+pub figures-laid : (f : Figures) → length f.maxima ≡ 8
+    → length f.market ≡ 8 → MarketFlows f.market (offers_in f.offers.items) → length f.bilateral ≡ 8 → ExecutionFlows f.bilateral (executions_in f.executions.items)
     → f ≡ figures_as (figures_in f)
 unfolding figures_as figures_in
-figures-laid f long home lm fm lx fx =
-    figures-same (sym (offers-again f.offers.items)) (sym (executions-again f.executions.items)) (published-laid f.maxima long home) (flows-laid _ f.market lm fm) (flows-laid _ f.bilateral lx fx)
+figures-laid f long lm fm lx fx =
+    figures-same (sym (offers-again f.offers.items)) (sym (executions-again f.executions.items)) (published-laid f.maxima long) (flows-laid _ f.market lm fm) (flows-laid _ f.bilateral lx fx)
   where
     figures-same : {o o' : List Offer} {x x' : List Execution} {l l' : List (Option ℕ)} {m m' b b' : List ℕ} {s p : ℕ} → o ≡ o' → x ≡ x' → l ≡ l' → m ≡ m' → b ≡ b'
         → ◌≡◌ {A = Figures} (record { offers = record { items = o }; executions = record { items = x }; maxima = l; market = m; bilateral = b; steps = s; price = p })
@@ -166,7 +160,7 @@ figures-laid f long home lm fm lx fx =
 pub figures-back : (x : C.Figures) (a : List (Option ℕ)) → x.maxima ≡ published_in a → figures_in (figures_as x) ≡ x
 unfolding figures_in figures_as
 figures-back x a m =
-    rules-same (offers-back x.offers) (executions-back x.executions) (ap (λ ds. published_in (laid_by_way ds)) m ∙ (published-again a ∙ sym m))
+    rules-same (offers-back x.offers) (executions-back x.executions) (ap (λ ds. published_in (laid_by_direction ds)) m ∙ (published-again a ∙ sym m))
   where
     rules-same : {o p : List M.Offer} {y z : List RuleExecution} {l m : List Directed} {s q : ℕ} → o ≡ p → y ≡ z → l ≡ m
         → ◌≡◌ {A = C.Figures} (record { offers = o; executions = y; maxima = l; steps = s; price = q }) (record { offers = p; executions = z; maxima = m; steps = s; price = q })

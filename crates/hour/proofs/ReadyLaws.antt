@@ -1,7 +1,7 @@
 -- The test of an hour and what it stands for.
 use Prim.Native.Nat.{ℕ, zero, suc, ◌+◌, ◌≤◌, ◌<◌}
 use mathlib.Core.Path.{◌≡◌, refl}
-use mathlib.Core.Bool.{Bool, true, not, false≢true}
+use mathlib.Core.Bool.{Bool, true, not}
 use mathlib.Core.List.{List, [], ◌∷◌, map}
 use mathlib.Core.Logic.{⊎_elim}
 use native.Mathlib.Nat.{lt_trans, eq-or-lt_of_le}
@@ -10,14 +10,14 @@ use lib.Dec.{ltb, eqb}
 use lib.ListN.{get_or, length, take, length-take, length-map}
 use lib.Seq.{get_or-take}
 use borrow.Author.Tests.{leb-true, le-leb, lt-ltb, ltb-true, ltb-false, le-ltb, eqb-false, ne_eqb, not-true}
-use Rattle.std.specs.Prelude.{is_some, is_none, unwrap_or, Option, Some, None}
+use Rattle.std.specs.Prelude.{is_some, unwrap_or, Option, Some, None}
 use Rattle.std.specs.List.{list_all}
 use Rattle.rules.specs.Lists.{All, none, more, Pairwise, empty, ahead, from}
 use Rattle.rules.specs.Units.{max_energy, max_price, bad_number}
 use Rattle.rules.specs.Match as M
 use Rattle.rules.specs.Borders as B
 use Rattle.rules.proofs.BoolLaws.{by_bool, both, neither}
-use Rattle.rules.proofs.ListLaws.{all_map, all-mapped, all_keep, all-unkept, keep-passes}
+use Rattle.rules.proofs.ListLaws.{all_map, all_append, all-mapped, all_keep, all-unkept, keep-passes}
 use Rattle.rules.proofs.ElementLaws.{all_both, all-unmapped, pairwise_map}
 use Rattle.rules.proofs.IndexLaws.{from_all}
 use Rattle.hour_offers.specs.View.{offer_in, execution_in, executions_in}
@@ -25,8 +25,9 @@ use Rattle.hour_offers.specs.Sound.{Sound, ExecutionInRange}
 use Rattle.hour.specs.Ranges.{within, holder_ready, offer_ready, execution_ready, rises, capacity_ready, lodged_ready, offer_number, execution_number, capacities_ready}
 use Rattle.hour.specs.declared.Hour.{Hour}
 use Rattle.hour.specs.View.{fresh_in, hour_in}
-use Rattle.hour_borders.specs.Ways.{directed, energies_of, published_in}
-use Rattle.hour.specs.Ready.{Between, HolderReady, OfferReady, ExecutionReady, Ready, is_ready}
+use Rattle.hour.specs.Units.{lodgement_of, lodgements_of}
+use Rattle.hour_borders.specs.Directions.{directed, energies_of, published_in}
+use Rattle.hour.specs.Ready.{Between, HolderReady, OfferReady, ExecutionReady, InRange, is_in_range}
 
 -- Lists
 
@@ -64,7 +65,7 @@ module _ {A : Type 0} (number : A → ℕ) where
   rise-told (ahead none empty) = refl
   rise-told (ahead (more {x = y} h t) d) = rw (lt-ltb _ (number y) h) (rise-told d)
 
-pairwise-unmapped : {A B : Type 0} {S : B → B → Type 0} (f : A → B) (xs : List A) → Pairwise S (map f xs) → Pairwise (λ x y. S (f x) (f y)) xs
+pub pairwise-unmapped : {A B : Type 0} {S : B → B → Type 0} (f : A → B) (xs : List A) → Pairwise S (map f xs) → Pairwise (λ x y. S (f x) (f y)) xs
 pairwise-unmapped f [] empty = empty
 pairwise-unmapped f (x ∷ xs) (ahead h t) = ahead (all-unmapped f xs h) (pairwise-unmapped f xs t)
 
@@ -136,10 +137,6 @@ execution-told x r = rw (holder-told 1 x.holder r.holder, within-told 1 max_ener
 
 -- Capacities
 
-none-is : (c : Option ℕ) → is_none c ≡ true → c ≡ None
-none-is None e = refl
-none-is (Some x) e = absurd (false≢true e)
-
 capacity-holds : (c : Option ℕ) → capacity_ready c ≡ true → is_some c ≡ true → unwrap_or c 0 ≤ max_energy
 unfolding capacity_ready
 capacity-holds None e s = omega arith
@@ -150,7 +147,7 @@ unfolding capacity_ready
 capacity-told None f = refl
 capacity-told (Some x) f = le-leb x max_energy (f refl)
 
--- what stands at a way, 0 where nothing does
+-- what stands at an index, 0 where nothing does
 pub energy-of : (cs : List (Option ℕ)) (w : ℕ) → get_or (energies_of cs) w 0 ≡ unwrap_or (get_or cs w None) 0
 unfolding energies_of
 energy-of [] w = refl
@@ -158,36 +155,27 @@ energy-of (c ∷ cs) zero = refl
 energy-of (c ∷ cs) (suc w) = energy-of cs w
 
 module _ (cs : List (Option ℕ)) where
-  home-holds : list_all (λ c. is_none c) (take 2 cs) ≡ true → (w : ℕ) → w < 2 → get_or cs w None ≡ None
-  home-holds e w l = none-is (get_or cs w None) (rw (get_or-take 2 cs w None l) at (all-at-index (λ c. is_none c) None refl (take 2 cs) e w))
-
-  home-told : ((w : ℕ) → w < 2 → get_or cs w None ≡ None) → list_all (λ c. is_none c) (take 2 cs) ≡ true
-  home-told f = all-from-indices (λ c. is_none c) None (take 2 cs) (λ w l. rw (get_or-take 2 cs w None (omega (arith, length-take 2 cs)), f w (omega (arith, length-take 2 cs))))
-
-  capacities-hold : list_all capacity_ready (take 10 cs) ≡ true → All (λ c. c.energy ≤ max_energy) (published_in cs)
+  capacities-hold : list_all capacity_ready (take 8 cs) ≡ true → All (λ c. c.energy ≤ max_energy) (published_in cs)
   unfolding published_in directed capacity_ready
   capacities-hold e =
       all-mapped _
-      (all_both (λ w s k. rw (energy-of cs w) (capacity-holds (get_or cs w None) (rw (get_or-take 10 cs w None k) at (all-at-index capacity_ready None refl (take 10 cs) e w)) s))
-      (keep-passes (λ w. is_some (get_or cs w None)) (from 2 8)) (all_keep (λ w. is_some (get_or cs w None)) (from_all (λ w. w < 10) 2 8 (λ w a b. omega arith))))
+      (all_both (λ d s k. rw (energy-of cs d) (capacity-holds (get_or cs d None) (rw (get_or-take 8 cs d None k) at (all-at-index capacity_ready None refl (take 8 cs) e d)) s))
+      (keep-passes (λ d. is_some (get_or cs d None)) (from 0 8)) (all_keep (λ d. is_some (get_or cs d None)) (from_all (λ d. d < 8) 0 8 (λ d a b. omega arith))))
 
-  capacities-told : ((w : ℕ) → w < 2 → get_or cs w None ≡ None) → All (λ (c : B.Directed). c.energy ≤ max_energy) (published_in cs) → list_all capacity_ready (take 10 cs) ≡ true
+  capacities-told : All (λ (c : B.Directed). c.energy ≤ max_energy) (published_in cs) → list_all capacity_ready (take 8 cs) ≡ true
   unfolding published_in directed
-  capacities-told h r =
-      let a = all-unkept (λ w. is_some (get_or cs w None)) (from 2 8) (all-unmapped _ _ r) in
-      let f : (w : ℕ) → 2 ≤ w → w < 10 → is_some (get_or cs w None) ≡ true → unwrap_or (get_or cs w None) 0 ≤ max_energy = λ w l k t. rw (energy-of cs w) at (all-from 2 8 a w l (omega arith) t) in
-      all-from-indices capacity_ready None (take 10 cs) (λ w l.
-      let k : w < 10 = omega (arith, length-take 10 cs) in
-      rw (get_or-take 10 cs w None k)
-      (by_bool (ltb w 2) (λ t. rw (h w (ltb-true w 2 t)) (capacity-told None (λ q. omega arith)))
-      (λ t. capacity-told (get_or cs w None) (f w (ltb-false w 2 t) k))))
+  capacities-told r =
+      let a = all-unkept (λ d. is_some (get_or cs d None)) (from 0 8) (all-unmapped _ _ r) in
+      all-from-indices capacity_ready None (take 8 cs) (λ d l.
+      let k : d < 8 = omega (arith, length-take 8 cs) in
+      rw (get_or-take 8 cs d None k) (capacity-told (get_or cs d None) (λ t. rw (energy-of cs d) at (all-from 0 8 a d (omega arith) k t))))
 
 -- The test of an hour
 
--- an hour that passes the test is ready
-pub ready-holds : (h : Hour) → is_ready h ≡ true → Ready h
-unfolding is_ready hour_in lodged_ready capacities_ready offer_ready
-ready-holds h e =
+-- an hour that passes the test is in its ranges
+pub range-holds : (h : Hour) → is_in_range h ≡ true → InRange h
+unfolding is_in_range hour_in lodged_ready capacities_ready offer_ready
+range-holds h e =
     let os = h.offers.items in
     let xs = h.executions.items in
     let a = both _ _ e in
@@ -196,7 +184,6 @@ ready-holds h e =
     let d = both _ _ c.1 in
     let o = both _ _ c.0 in
     let x = both _ _ d.0 in
-    let k = both _ _ d.1 in
     record {
       offering = leb-true _ _ a.0;
       room = leb-true _ _ b.0;
@@ -204,14 +191,13 @@ ready-holds h e =
       offers-rise = pairwise_map fresh_in (λ o p l. l) (rise-holds offer_number os o.1);
       executions = all-mapped execution_in (all_map (λ x e. execution-holds (execution_in x) e) (all-hold (λ x. execution_ready (execution_in x)) xs x.0));
       executions-rise = pairwise_map execution_in (λ x y l. l) (rise-holds execution_number xs x.1);
-      home = home-holds h.capacities k.0;
-      capacities = capacities-hold h.capacities k.1;
+      capacities = capacities-hold h.capacities d.1;
     }
 
--- an hour that is ready passes it
-pub ready-told : (h : Hour) → Ready h → is_ready h ≡ true
-unfolding is_ready hour_in lodged_ready capacities_ready offer_ready
-ready-told h r =
+-- an hour that is in them passes it
+pub range-told : (h : Hour) → InRange h → is_in_range h ≡ true
+unfolding is_in_range hour_in lodged_ready capacities_ready offer_ready
+range-told h r =
     let os = h.offers.items in
     let xs = h.executions.items in
     rw (
@@ -221,8 +207,7 @@ ready-told h r =
       rise-told offer_number (pairwise-unmapped fresh_in os r.offers-rise),
       all-told (λ x. execution_ready (execution_in x)) (all_map (λ x e. execution-told (execution_in x) e) (all-unmapped execution_in xs r.executions)),
       rise-told execution_number (pairwise-unmapped execution_in xs r.executions-rise),
-      home-told h.capacities r.home,
-      capacities-told h.capacities r.home r.capacities,
+      capacities-told h.capacities r.capacities,
     )
 
 -- What it says of its parts
@@ -232,7 +217,7 @@ unfolding capacity_ready
 capacity-small None e = omega arith
 capacity-small (Some x) e = leb-true _ _ e
 
-module _ {h : Hour} (r : Ready h) where
+module _ {h : Hour} (r : InRange h) where
   -- its offers and executions are such as are cleared
   pub offers-sound : Sound (hour_in h).offers
   unfolding hour_in
@@ -249,9 +234,16 @@ module _ {h : Hour} (r : Ready h) where
   unfolding hour_in
   executions-in-range = all_map (λ x g. record { border = omega (arith, g.holder.border.1); energy = g.energy.1 }) r.executions
 
+  -- and both kinds together
+  pub lodgements-in-range : All ExecutionInRange (lodgements_of (hour_in h))
+  unfolding lodgements_of
+  lodgements-in-range =
+      all_append (all-mapped lodgement_of (all_map (λ o g. record { border = omega (arith, g.holder.border.1); energy = g.energy.1 }) r.offers))
+      (all_map (λ x g. record { border = omega (arith, g.holder.border.1); energy = g.energy.1 }) r.executions)
+
   -- its capacities are in their range, and 0 stands where there is none
-  pub capacities-small : (w : ℕ) → w < 10 → get_or (energies_of h.capacities) w 0 ≤ max_energy
+  pub capacities-small : (d : ℕ) → d < 8 → get_or (energies_of h.capacities) d 0 ≤ max_energy
   unfolding hour_in capacity_ready
-  capacities-small w l =
-      rw (energy-of h.capacities w)
-      (capacity-small (get_or h.capacities w None) (rw (get_or-take 10 h.capacities w None l) at (all-at-index capacity_ready None refl (take 10 h.capacities) (capacities-told h.capacities r.home r.capacities) w)))
+  capacities-small d l =
+      rw (energy-of h.capacities d)
+      (capacity-small (get_or h.capacities d None) (rw (get_or-take 8 h.capacities d None l) at (all-at-index capacity_ready None refl (take 8 h.capacities) (capacities-told h.capacities r.capacities) d)))

@@ -1,5 +1,5 @@
 -- The tests of an hour's parts.
-use Rattle.std.specs.Prelude.{ℕ, Bool, true, not, ◌&&◌, List, [], ◌∷◌, ltb, leb, eqb, map, take, is_none, Option, Some, None}
+use Rattle.std.specs.Prelude.{ℕ, Bool, true, not, ◌&&◌, List, [], ◌∷◌, ltb, leb, eqb, map, take, Option, Some, None}
 use Rattle.std.specs.List.{list_all}
 use Rattle.rules.specs.Units.{max_energy, max_price, bad_number}
 use Rattle.rules.specs.Match as R
@@ -50,6 +50,6 @@ offers_ready os = lodged_ready (λ o. offer_ready (offer_in o)) offer_number os
 abbrev pub executions_ready : List Execution → Bool
 executions_ready xs = lodged_ready (λ x. execution_ready (execution_in x)) execution_number xs
 
--- no capacity is published of border 0, and those of the four borders are in their range
+-- the published capacities are in their range
 unfoldable pub capacities_ready : List (Option ℕ) → Bool
-capacities_ready cs = list_all (λ c. is_none c) (take 2 cs) && list_all capacity_ready (take 10 cs)
+capacities_ready cs = list_all capacity_ready (take 8 cs)

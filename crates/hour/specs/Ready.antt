@@ -1,14 +1,15 @@
 -- An hour that a session can hold, the test for it, and what clearing it gives.
-use Rattle.std.specs.Prelude.{ℕ, ◌+◌, ◌≤◌, ◌<◌, ◌≡◌, Bool, true, cond, ◌&&◌, length, leb, get_or, Option, Some, None}
+use Rattle.std.specs.Prelude.{ℕ, ◌+◌, ◌≤◌, ◌<◌, ◌≡◌, Bool, true, false, cond, ◌&&◌, map, length, leb, eqb, Option, Some, None}
 use Rattle.rules.specs.Lists.{All, Pairwise}
-use Rattle.rules.specs.Units.{max_energy, max_price}
+use Rattle.rules.specs.Units.{max_energy, max_price, passes}
 use Rattle.rules.specs.Match.{Holder, Offer}
 use Rattle.rules.specs.Borders.{Execution}
-use Rattle.rules.specs.Clearing.{clear_hour}
+use Rattle.rules.specs.Clearing as C
 use Rattle.hour.specs.Ranges.{offers_ready, executions_ready, capacities_ready}
 use Rattle.hour.specs.declared.Hour.{Hour}
 use Rattle.hour.specs.declared.Figures.{Figures}
 use Rattle.hour.specs.View.{hour_in, figures_as}
+use Rattle.hour.specs.Units.{lodgement_of, lodgements_of, unit_energy, line_in, last_ones, same_unit, agree}
 
 abbrev pub Between : ℕ → ℕ → ℕ → Type 0
 Between least most x = (least ≤ x) × (x ≤ most)
@@ -34,15 +35,10 @@ pub record ExecutionReady (x : Execution) : Type 0 where
   pub holder : HolderReady 1 x.holder
   pub energy : Between 1 max_energy x.energy
 
--- An hour that a session can hold: what holds of every hour gathered from one (`hour-ready` of crates/clear_gather/proofs/ReadyLaws.antt), as far
--- as one pass over the hour can tell. What an offer has as matched is not looked at, and
--- no figure depends on it.
--- Not asked, though every session's hour has it, since no figure of the hour depends on it either:
--- that no number is both an offer's and an execution's (Match looks at numbers of offers only, Share at the order of one kind);
--- that lodgements of one unit agree in border, side and mark, that one of them at most is an offer, and that there are 64 units at most
--- (clearing looks at no unit's number); that energies keep their units' ceilings (closing sees to it).
--- Agents, contracts and default marks are not in an hour.
-pub record Ready (h : Hour) : Type 0 where
+-- An hour of which every part is in its range, as one pass over it tells. What an offer has as matched is not looked at, and no figure depends
+-- on it. Clearing needs no more than this to be safe, and so the day's hours, which are all ready, are tested for no more
+-- (`hour_clear::clear_in_range`).
+pub record InRange (h : Hour) : Type 0 where
   -- "At most 64 units", each with one accepted offer at most
   pub offering : length h.offers.items ≤ 64
   -- "There are up to 128 standing lodgements"
@@ -52,17 +48,57 @@ pub record Ready (h : Hour) : Type 0 where
   pub offers-rise : Pairwise (λ o p. o.holder.number < p.holder.number) (hour_in h).offers
   pub executions : All ExecutionReady (hour_in h).executions
   pub executions-rise : Pairwise (λ x y. x.holder.number < y.holder.number) (hour_in h).executions
-  -- "A capacity notice covers the 4 borders": none is published of border 0
-  pub home : (w : ℕ) → w < 2 → get_or h.capacities w None ≡ None
   pub capacities : All (λ c. c.energy ≤ max_energy) (hour_in h).capacities
 
--- `Ready` as a test (`ready-holds` and `ready-told` of proofs/ReadyLaws.antt)
-unfoldable pub is_ready : Hour → Bool
-is_ready h =
+-- `InRange` as a test (`range-holds` and `range-told` of proofs/ReadyLaws.antt)
+unfoldable pub is_in_range : Hour → Bool
+is_in_range h =
     let o = h.offers.items in
     let x = h.executions.items in
     leb (length o) 64 && (leb (length o + length x) 128 && (offers_ready o && (executions_ready x && capacities_ready h.capacities)))
 
+-- two holders with one border, side and legacy mark
+pub record SameUnit (x y : Holder) : Type 0 where
+  pub border : x.border ≡ y.border
+  pub purchase : x.purchase ≡ y.purchase
+  pub legacy : x.legacy ≡ y.legacy
+
+-- What the units of an hour's lodgements are, the rules' hour being given.
+pub record UnitsReady (x : C.Hour) : Type 0 where
+  -- a lodgement "takes and answers the next lodging number": no two of either kind have one
+  pub numbers : Pairwise (λ k l. k.holder.number ≡ l.holder.number → ⊥) (lodgements_of x)
+  -- "A unit has a number and an agent [..], a border [..], a side [..], a maximum energy, and a legacy mark": a number has one of each
+  pub agree : Pairwise (λ k l. k.holder.unit ≡ l.holder.unit → SameUnit k.holder l.holder) (lodgements_of x)
+  -- "the unit's unhidden offer": of two with one unit the normal one hides the default one
+  pub single : Pairwise (λ o p. o.holder.unit ≡ p.holder.unit → ⊥) x.offers
+  -- "At most 64 units."
+  pub few : length (last_ones same_unit (lodgements_of x)) ≤ 64
+  -- "its energy, plus that of those accepted before it on its unit" does not pass the ceiling, which is at most the largest energy
+  pub maxima : All (λ l. unit_energy (lodgements_of x) l.holder.unit ≤ max_energy) (lodgements_of x)
+  -- and at most "at a border with both directions published, the sum of the two capacities (limit 12)"
+  pub lines : All (λ l. passes (unit_energy (lodgements_of x) l.holder.unit) (line_in x.capacities l.holder.border) ≡ false) (lodgements_of x)
+
+-- An hour that a session can hold. This is exact: every hour gathered from a session is ready (`hour-ready` of
+-- crates/clear_gather/proofs/HourReadyLaws.antt), and every ready hour is hour 1 of a closed book of which all holds that calls leave
+-- (`ready_held` of crates/clear_gather/proofs/HoldingLaws.antt). Agents, contracts and default marks are not in an hour.
+pub record Ready (h : Hour) : Type 0 where
+  pub ranges : InRange h
+  pub units : UnitsReady (hour_in h)
+
+-- what `Ready` asks of units, as a test: the offers are of as many units as they are
+unfoldable pub are_units : Hour → Bool
+are_units h =
+    let os = map lodgement_of (hour_in h).offers in
+    eqb (length (last_ones same_unit os)) (length os) && agree (hour_in h).capacities (lodgements_of (hour_in h))
+
+-- `Ready` as a test (`ready-holds` and `ready-told` of proofs/UnitLaws.antt)
+unfoldable pub is_ready : Hour → Bool
+is_ready h = is_in_range h && are_units h
+
 -- an hour's figures: the rules' where it is ready, and none where it is not
 unfoldable pub figures_of : Hour → Option Figures
-figures_of h = cond (is_ready h) (Some (figures_as (clear_hour (hour_in h)))) None
+figures_of h = cond (is_ready h) (Some (figures_as (C.clear_hour (hour_in h)))) None
+
+-- the same where only its ranges are tested
+unfoldable pub figures_in_range : Hour → Option Figures
+figures_in_range h = cond (is_in_range h) (Some (figures_as (C.clear_hour (hour_in h)))) None

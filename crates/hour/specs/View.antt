@@ -1,5 +1,5 @@
 -- An hour as the code has it, read as the rules' hour; the rules' figures as the code has them, and read back.
-use Rattle.std.specs.Prelude.{ℕ, ◌/◌, ◌%◌, Bool, cond, ◌&&◌, List, [], ◌∷◌, map, eqb, Option, Some, None}
+use Rattle.std.specs.Prelude.{ℕ, ◌+◌, ◌/◌, ◌%◌, Bool, cond, ◌&&◌, List, [], ◌∷◌, map, eqb, Option, Some, None}
 use Rattle.std.specs.Bool.{beq}
 use Rattle.rules.specs.Lists.{from}
 use Rattle.rules.specs.Match as M
@@ -9,8 +9,8 @@ use Rattle.hour_offers.specs.declared.Holder.{Holder}
 use Rattle.hour_offers.specs.declared.Offer.{Offer}
 use Rattle.hour_offers.specs.declared.Execution.{Execution}
 use Rattle.hour_offers.specs.View.{holder_in, offers_in, executions_in}
-use Rattle.hour_borders.specs.Ways.{published_in}
-use Rattle.session.specs.Image.{by_way}
+use Rattle.hour_borders.specs.Directions.{published_in}
+use Rattle.session.specs.Image.{by_direction}
 use Rattle.hour.specs.declared.Hour.{Hour}
 use Rattle.hour.specs.declared.Figures.{Figures}
 
@@ -42,17 +42,17 @@ energy_among [] border export = None
 energy_among (d ∷ ds) border export = cond (eqb d.border border && beq d.export export) (Some d.energy) (energy_among ds border export)
 
 -- the energies of some directions, each at its index
-unfoldable pub laid_by_way : List B.Directed → List (Option ℕ)
-laid_by_way ds = map (λ w. energy_among ds (w / 2) (eqb (w % 2) 0)) (from 0 10)
+unfoldable pub laid_by_direction : List B.Directed → List (Option ℕ)
+laid_by_direction ds = map (λ d. energy_among ds (d / 2 + 1) (eqb (d % 2) 0)) (from 0 8)
 
--- the rules' figures as clearing gives them; by direction, those of border 0 too, where a flow is domestic energy and no maximum is
+-- the rules' figures as clearing gives them, maxima and flows by direction
 unfoldable pub figures_as : C.Figures → Figures
 figures_as x = record {
   offers = record { items = map offer_as x.offers };
   executions = record { items = map execution_as x.executions };
-  maxima = laid_by_way x.maxima;
-  market = by_way (λ border export. B.flow (λ o. o.holder) (λ o. o.matched) border export x.offers);
-  bilateral = by_way (λ border export. B.flow (λ x. x.holder) (λ x. x.energy) border export x.executions);
+  maxima = laid_by_direction x.maxima;
+  market = by_direction (λ border export. B.flow (λ o. o.holder) (λ o. o.matched) border export x.offers);
+  bilateral = by_direction (λ border export. B.flow (λ x. x.holder) (λ x. x.energy) border export x.executions);
   steps = x.steps;
   price = x.price;
 }

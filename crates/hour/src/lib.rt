@@ -2,42 +2,43 @@
 #![tactic(auto)]
 
 pub mod readiness;
+pub mod units;
 
 ghost use Rattle.std.specs.Prelude.{◌≡◌};
-ghost use Rattle.hour.specs.Ready.{is_ready};
+ghost use Rattle.hour.specs.Ready.{is_in_range, is_ready};
 
 use crate::readiness::{all_ready, capacities_ready};
 use arrayvec::ArrayVec;
 use hour_offers::{Execution, Offer};
-use rules::{LODGEMENTS, UNITS};
+use rules::{DIRECTIONS, LODGEMENTS, UNITS};
 
 // An hour as it is cleared: its accepted offers and executions, each kind by rising lodging number, and its published capacities by
-// direction (`hour_borders::way`; none of border 0). What an offer has as matched is not looked at.
+// direction (`hour_borders::direction`). What an offer has as matched is not looked at.
 #[derive(Drop)]
 pub struct Hour {
     pub offers: ArrayVec<Offer, LODGEMENTS>,
     pub executions: ArrayVec<Execution, LODGEMENTS>,
-    pub capacities: [Option<u32>; 10],
+    pub capacities: [Option<u32>; DIRECTIONS],
 }
 
 // What clearing gives: the offers with what is still offered and what is matched of each, the executions with what is executed of each;
-// by direction the market maximum where a capacity is published, and the energy of matched offers and of executions at the end, border 0
-// being domestic; the count of withdrawal steps and the price. Arrays by direction, as C's `HourFigures` has them.
+// by direction the market maximum where a capacity is published, and the energy of matched offers and of executions at the end; the count of
+// withdrawal steps and the price. Arrays by direction, as C's `HourFigures` has them.
 #[derive(Drop)]
 pub struct Figures {
     pub offers: ArrayVec<Offer, LODGEMENTS>,
     pub executions: ArrayVec<Execution, LODGEMENTS>,
-    pub maxima: [Option<u32>; 10],
-    pub market: [u32; 10],
-    pub bilateral: [u32; 10],
+    pub maxima: [Option<u32>; DIRECTIONS],
+    pub market: [u32; DIRECTIONS],
+    pub bilateral: [u32; DIRECTIONS],
     pub steps: u32,
     pub price: u32,
 }
 
-// Whether an hour is one that a session can hold, as far as it tells by itself (`Ready` of specs/Ready.antt).
-#[tactic(auto, unfolding(crate::specs::Ready::is_ready))]
-pub fn ready(h: &Hour) -> bool
-    ensures { result ≡ is_ready h.now }
+// Whether every part of an hour is in its range, as those of a session are (`InRange` of specs/Ready.antt).
+#[tactic(auto, unfolding(crate::specs::Ready::is_in_range, crate::specs::Ranges::capacities_ready))]
+pub fn in_range(h: &Hour) -> bool
+    ensures { result ≡ is_in_range h.now }
 {
     let offers = h.offers.as_slice();
     let executions = h.executions.as_slice();
@@ -46,4 +47,12 @@ pub fn ready(h: &Hour) -> bool
         && all_ready(offers)
         && all_ready(executions)
         && capacities_ready(&h.capacities)
+}
+
+// Whether an hour is one that a session can hold (`Ready` of specs/Ready.antt).
+#[tactic(auto, unfolding(crate::specs::Ready::is_ready))]
+pub fn ready(h: &Hour) -> bool
+    ensures { result ≡ is_ready h.now }
+{
+    in_range(h) && crate::units::units_ready(h)
 }

@@ -1,11 +1,11 @@
 // Whether the parts of an hour are such as a session's hours have: what `hour_clear::clear` tests first.
-ghost use Rattle.std.specs.Prelude.{◌≡◌, ℕ, Bool, map, take, is_none};
+ghost use Rattle.std.specs.Prelude.{◌≡◌, ℕ, Bool, map};
 ghost use Rattle.std.specs.List.{list_all};
 ghost use Rattle.hour_offers.specs.View.{holder_in, offer_in, execution_in};
-ghost use Rattle.hour.specs.Ranges.{holder_ready, offer_ready, execution_ready, offer_number, execution_number, lodged_ready, rises, capacity_ready, capacities_ready};
+ghost use Rattle.hour.specs.Ranges.{holder_ready, offer_ready, execution_ready, offer_number, execution_number, lodged_ready, rises, capacity_ready};
 
 use hour_offers::{Execution, Holder, Offer};
-use rules::{MAX_ENERGY, MAX_PRICE};
+use rules::{DIRECTIONS, MAX_ENERGY, MAX_PRICE};
 
 // Whether a session can have such a holder, borders going from `first` on, of the unit's border and legacy mark: "(borders 1 to 4 only)".
 #[tactic(auto, unfolding(crate::specs::Ranges::holder_ready, crate::specs::Ranges::within))]
@@ -97,24 +97,9 @@ fn capacity_ready(capacity: &Option<u32>) -> bool
     capacity.is_none_or(|energy| energy <= MAX_ENERGY)
 }
 
-// Whether no capacity is published of border 0: "A capacity notice covers the 4 borders".
-fn none_at_home(capacities: &[Option<u32>; 10]) -> bool
-    ensures { result ≡ list_all (λ c. is_none c) (take 2 capacities.now) }
-{
-    capacities[..2].iter().all(|c| c.is_none())
-}
-
 // Whether the published capacities are in their range.
-fn capacities_in_range(capacities: &[Option<u32>; 10]) -> bool
+pub fn capacities_ready(capacities: &[Option<u32>; DIRECTIONS]) -> bool
     ensures { result ≡ list_all capacity_ready capacities.now }
 {
     capacities.iter().all(|c| capacity_ready(c))
-}
-
-// Whether the published capacities are in their range, and none is of border 0.
-#[tactic(auto, unfolding(crate::specs::Ranges::capacities_ready))]
-pub fn capacities_ready(capacities: &[Option<u32>; 10]) -> bool
-    ensures { result ≡ capacities_ready capacities.now }
-{
-    none_at_home(capacities) && capacities_in_range(capacities)
 }

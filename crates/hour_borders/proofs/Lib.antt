@@ -1,3 +1,3 @@
-pub mod WayLaws
+pub mod DirectionLaws
 pub mod FlowLaws
 pub mod LimitLaws

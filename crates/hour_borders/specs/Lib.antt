@@ -1,3 +1,3 @@
-pub mod Ways
+pub mod Directions
 pub mod Flows
 pub mod Limits

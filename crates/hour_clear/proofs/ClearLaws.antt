@@ -31,17 +31,17 @@ use Rattle.hour_cut.specs.Cuts.{Enough, Lowered}
 use Rattle.hour_market.specs.declared.Market.{Market}
 use Rattle.hour_market.specs.Parts.{MarketCleared}
 use Rattle.hour.specs.declared.Hour.{Hour}
-use Rattle.hour.specs.Ready.{Ready}
+use Rattle.hour.specs.Ready.{InRange}
 use Rattle.hour.specs.View.{hour_in, figures_in, figures_as, offer_as, execution_as}
 use Rattle.hour.proofs.ReadyLaws.{energy-of}
 use Rattle.hour.proofs.LaidLaws.{ten-at, figures-laid, figures-back}
 
 -- a ready hour is one of the rules'
-pub hour-sound : {h : Hour} → Ready h → H.Sound (hour_in h)
+pub hour-sound : {h : Hour} → InRange h → H.Sound (hour_in h)
 unfolding hour_in
 hour-sound {h} r = record { rising = r.offers-rise; once = published-once h.capacities }
 
-module _ {h : Hour} (ready : Ready h) (os : List Offer) {r : Market}
+module _ {h : Hour} (ready : InRange h) (os : List Offer) {r : Market}
     (m : MarketCleared (hour_in h).offers h.capacities (executions_in h.executions.items) (offers_in os) r) where
   -- R ≤ G at every cut
   pub enough-said : All (Enough (offers_in os) (executions_in h.executions.items)) (published_in h.capacities)
@@ -105,7 +105,7 @@ module _ (first : List M.Offer) (xs : List RuleExecution) (a : List (Option ℕ)
       ∙ ap (map (directed (energies_of maxima))) (keep_same _ _ (from_all _ 2 8 (λ w h k. sym (ap (λ o. is_some o) (maximum-at w (omega arith)) ∙ made-some (maximum-on w) (get_or a w None))))))
 
 -- the figures of a ready hour are read back
-pub figures-read : {h : Hour} → Ready h → figures_in (figures_as (C.clear_hour (hour_in h))) ≡ C.clear_hour (hour_in h)
+pub figures-read : {h : Hour} → InRange h → figures_in (figures_as (C.clear_hour (hour_in h))) ≡ C.clear_hour (hour_in h)
 unfolding C.clear_hour hour_in
 figures-read {h} r = figures-back (C.clear_hour (hour_in h)) _ (maxima-published _ _ h.capacities)
 
@@ -116,7 +116,7 @@ each_all f each0 none = none
 each_all f (each {x} {y} h t) (more k u) = more (f x y h k) (each_all f t u)
 
 -- matched and executed energies of a ready hour are in range
-module _ {h : Hour} (r : Ready h) where
+module _ {h : Hour} (r : InRange h) where
   pub matched-small : All (λ (o : Offer). o.matched ≤ max_energy) (figures_as (C.clear_hour (hour_in h))).offers.items
   unfolding figures_as
   matched-small = all-mapped offer_as (each_all (λ o p f k. le_trans f.matched (le_trans f.offered k.energy.1)) (H.hour-cleared (hour_in h) (hour-sound r)).offers r.offers)

@@ -3,7 +3,7 @@
 
 ghost use Rattle.std.specs.Prelude.{◌≡◌, ◌≤◌, [], map, length};
 ghost use Rattle.hour_offers.specs.View.{offers_in};
-ghost use Rattle.hour.specs.Ready.{figures_of};
+ghost use Rattle.hour.specs.Ready.{figures_of, figures_in_range};
 ghost use Rattle.hour.specs.View.{fresh_in};
 
 use arrayvec::ArrayVec;
@@ -34,12 +34,13 @@ fn uncut(executions: &[Execution], uncut: &mut ArrayVec<Execution, LODGEMENTS>)
     }
 }
 
-// An hour cleared: its market, then the cut of its executions. The rules' figures where it is one that a session can hold, and none where it
-// is not. In one function, and the lists where they stay: figures are long to hand on.
-pub fn clear(h: &Hour) -> Option<Figures>
-    ensures { result ≡ figures_of h.now }
+// An hour of which every part is in its range cleared: its market, then the cut of its executions. The rules' figures where it is one, and none
+// where it is not: enough for the hours of a session, which are all ready, and quicker to test. In one function, and the lists where they stay:
+// figures are long to hand on.
+pub fn clear_in_range(h: &Hour) -> Option<Figures>
+    ensures { result ≡ figures_in_range h.now }
 {
-    if hour::ready(h) {
+    if hour::in_range(h) {
         let mut figures = Figures {
             offers: ArrayVec::new(),
             executions: ArrayVec::new(),
@@ -66,6 +67,17 @@ pub fn clear(h: &Hour) -> Option<Figures>
         figures.steps = market.steps;
         figures.price = market.price;
         Some(figures)
+    } else {
+        None
+    }
+}
+
+// An hour cleared: the rules' figures where it is one that a session can hold, and none where it is not.
+pub fn clear(h: &Hour) -> Option<Figures>
+    ensures { result ≡ figures_of h.now }
+{
+    if hour::ready(h) {
+        clear_in_range(h)
     } else {
         None
     }

@@ -29,10 +29,10 @@ use Rattle.hour_offers.specs.View.{execution_in, executions_in}
 use Rattle.hour_share.specs.declared.Amount.{Amount}
 use Rattle.hour_share.specs.Deductions.{energy_in, deductions_in, deductions_over, deductions_from}
 use Rattle.hour_share.proofs.Laws.{share_none, add_none}
-use Rattle.hour_borders.specs.Ways.{directed, energies_of, published_in}
+use Rattle.hour_borders.specs.Directions.{directed, energies_of, published_in}
 use Rattle.hour_borders.specs.Flows.{amount_of, MarketFlows, ExecutionFlows}
 use Rattle.hour_borders.specs.Limits.{across_of, excess_in}
-use Rattle.hour_borders.proofs.WayLaws.{runs-directed, way-small}
+use Rattle.hour_borders.proofs.DirectionLaws.{runs-directed, direction-small}
 use Rattle.hour_borders.proofs.LimitLaws.{by_option, energy-at, market-at, market-across, execution-at, execution-across}
 use Rattle.hour_cut.specs.Cuts.{Enough, Lowered}
 
@@ -70,76 +70,76 @@ module _ (os : List Offer) (xs : List Execution) where
 
 -- The rules' cuts
 
-across-small : (w : ℕ) → w < 10 → across_of w < 10
+across-small : (d : ℕ) → d < 8 → across_of d < 8
 unfolding across_of
-across-small w h = way-small (w / 2) _ (omega arith)
+across-small d h = direction-small (d / 2 + 1) _ (omega arith)
 
 -- an execution's energy, in its direction
 abbrev pub given : CodeExecution → Amount
 given x = amount_of x.holder x.energy
 
 -- the executions' energies in the direction at an index
-amounts-said : (a : List ℕ) (w : ℕ) (xs : List CodeExecution) → map (energy_in w) (map given xs) ≡ amounts_on (directed a w) (executions_in xs)
+amounts-said : (a : List ℕ) (d : ℕ) → d < 8 → (xs : List CodeExecution) → map (energy_in d) (map given xs) ≡ amounts_on (directed a d) (executions_in xs)
 unfolding energy_in at_border
-amounts-said a w [] = refl
-amounts-said a w (x ∷ xs) =
-    ap₂ (λ (n : ℕ) (l : List ℕ). n ∷ l) (ap (λ (b : Bool). cond b x.energy 0) (sym (runs-directed a w (execution_in x).holder))) (amounts-said a w xs)
+amounts-said a d h [] = refl
+amounts-said a d h (x ∷ xs) =
+    ap₂ (λ (n : ℕ) (l : List ℕ). n ∷ l) (ap (λ (b : Bool). cond b x.energy 0) (sym (runs-directed a d h (execution_in x).holder))) (amounts-said a d h xs)
 
 module _ (xs : List CodeExecution) (os : List Offer) (capacities : List (Option ℕ)) (market executions both over : List ℕ)
     (km : MarketFlows market os) (kx : ExecutionFlows executions (executions_in xs))
-    (sums : (w : ℕ) → w < 10 → get_or both w 0 ≡ get_or market w 0 + get_or executions w 0)
-    (excess : (w : ℕ) → 2 ≤ w → w < 10 → get_or over w 0 ≡ excess_in capacities both w) where
+    (sums : (d : ℕ) → d < 8 → get_or both d 0 ≡ get_or market d 0 + get_or executions d 0)
+    (excess : (d : ℕ) → d < 8 → get_or over d 0 ≡ excess_in capacities both d) where
   abbrev capacity : ℕ → Directed
-  capacity w = directed (energies_of capacities) w
+  capacity d = directed (energies_of capacities) d
 
-  passing-said : (w : ℕ) → w < 10 → get_or both w 0 - get_or both (across_of w) 0 - get_or (energies_of capacities) w 0 ≡ bilateral_excess os (executions_in xs) (capacity w)
+  passing-said : (d : ℕ) → d < 8 → get_or both d 0 - get_or both (across_of d) 0 - get_or (energies_of capacities) d 0 ≡ bilateral_excess os (executions_in xs) (capacity d)
   unfolding directed
-  passing-said w h =
+  passing-said d h =
       rw (
-        sums w h,
-        sums (across_of w) (across-small w h),
-        market-at market w h os km,
-        market-across market w h os km,
-        execution-at executions w h (executions_in xs) kx,
-        execution-across executions w h (executions_in xs) kx,
-      ) (omega (arith, bilateral-flows os (executions_in xs) (capacity w)))
+        sums d h,
+        sums (across_of d) (across-small d h),
+        market-at market d h os km,
+        market-across market d h os km,
+        execution-at executions d h (executions_in xs) kx,
+        execution-across executions d h (executions_in xs) kx,
+      ) (omega (arith, bilateral-flows os (executions_in xs) (capacity d)))
 
-  over-said : (w m : ℕ) → 2 ≤ w → w < 10 → get_or capacities w None ≡ Some m → get_or over w 0 ≡ bilateral_excess os (executions_in xs) (capacity w)
+  over-said : (d m : ℕ) → d < 8 → get_or capacities d None ≡ Some m → get_or over d 0 ≡ bilateral_excess os (executions_in xs) (capacity d)
   unfolding excess_in
-  over-said w m h k f =
-      let e : get_or (energies_of capacities) w 0 ≡ m = energy-at capacities w ∙ ap (λ o. unwrap_or o 0) f in
-      excess w h k ∙ rw (f, ← e) (passing-said w k)
+  over-said d m h f =
+      let e : get_or (energies_of capacities) d 0 ≡ m = energy-at capacities d ∙ ap (λ o. unwrap_or o 0) f in
+      excess d h ∙ rw (f, ← e) (passing-said d h)
 
-  over_none : (w : ℕ) → 2 ≤ w → w < 10 → get_or capacities w None ≡ None → get_or over w 0 ≡ 0
+  over_none : (d : ℕ) → d < 8 → get_or capacities d None ≡ None → get_or over d 0 ≡ 0
   unfolding excess_in
-  over_none w h k f = excess w h k ∙ rw f
+  over_none d h f = excess d h ∙ rw f
 
-  deductions-said : (w r : ℕ) → r ≡ bilateral_excess os (executions_in xs) (capacity w) → Enough os (executions_in xs) (capacity w)
-      → deductions_in (map given xs) r w ≡ cuts os (executions_in xs) (capacity w)
+  deductions-said : (d r : ℕ) → d < 8 → r ≡ bilateral_excess os (executions_in xs) (capacity d) → Enough os (executions_in xs) (capacity d)
+      → deductions_in (map given xs) r d ≡ cuts os (executions_in xs) (capacity d)
   unfolding deductions_in cuts
-  deductions-said w r q k = rw (q, amounts-said (energies_of capacities) w xs) (ap (λ r. share r (amounts_on (capacity w) (executions_in xs))) (lesser k))
+  deductions-said d r h q k = rw (q, amounts-said (energies_of capacities) d h xs) (ap (λ r. share r (amounts_on (capacity d) (executions_in xs))) (lesser k))
     where
       lesser : {a b : ℕ} → a ≤ b → min a b ≡ a
       lesser k = omega arith
 
   abbrev Deductions : List ℕ → Type 0
-  Deductions ws = deductions_over over (map given xs) ws ≡ all_cuts os (executions_in xs) (map capacity (keep (λ w. is_some (get_or capacities w None)) ws))
+  Deductions ds = deductions_over over (map given xs) ds ≡ all_cuts os (executions_in xs) (map capacity (keep (λ d. is_some (get_or capacities d None)) ds))
 
-  all_said : {ws : List ℕ} → All (λ w. (2 ≤ w) × (w < 10)) ws → All (Enough os (executions_in xs)) (map capacity (keep (λ w. is_some (get_or capacities w None)) ws)) → Deductions ws
+  all_said : {ds : List ℕ} → All (λ d. d < 8) ds → All (Enough os (executions_in xs)) (map capacity (keep (λ d. is_some (get_or capacities d None)) ds)) → Deductions ds
   unfolding deductions_over all_cuts keep
   all_said none k = map-map (λ (a : Amount). 0) given xs ∙ sym (map-map (λ (y : Execution). 0) execution_in xs)
-  all_said (more {x = w} h t) k =
-      by_option (get_or capacities w None)
-      (λ f. rw (f, over_none w h.0 h.1 f) (all_said t (rw f at k)))
+  all_said (more {x = d} h t) k =
+      by_option (get_or capacities d None)
+      (λ f. rw (f, over_none d h f) (all_said t (rw f at k)))
       (λ m f. let e = rw f at k in let r = all_said t (all_tail e) in
-      by_bool (ltb 0 (get_or over w 0))
-      (λ o. rw (f, o) (ap₂ add_each (deductions-said w (get_or over w 0) (over-said w m h.0 h.1 f) (all_head e)) r))
-      (λ o. rw (f, o) (r ∙ sym (cut-none os (executions_in xs) (capacity w) (sym (over-said w m h.0 h.1 f) ∙ omega (arith, ltb-false 0 (get_or over w 0) o)) (all_tail e)))))
+      by_bool (ltb 0 (get_or over d 0))
+      (λ o. rw (f, o) (ap₂ add_each (deductions-said d (get_or over d 0) h (over-said d m h f) (all_head e)) r))
+      (λ o. rw (f, o) (r ∙ sym (cut-none os (executions_in xs) (capacity d) (sym (over-said d m h f) ∙ omega (arith, ltb-false 0 (get_or over d 0) o)) (all_tail e)))))
 
   -- the deductions in all published directions
-  pub published-said : All (Enough os (executions_in xs)) (published_in capacities) → deductions_from over (map given xs) 2 ≡ all_cuts os (executions_in xs) (published_in capacities)
+  pub published-said : All (Enough os (executions_in xs)) (published_in capacities) → deductions_from over (map given xs) 0 ≡ all_cuts os (executions_in xs) (published_in capacities)
   unfolding deductions_from published_in
-  published-said k = all_said (from_all _ 2 8 (λ w h l. (h, omega arith))) k
+  published-said k = all_said (from_all _ 0 8 (λ d h l. omega arith)) k
 
 -- Each execution without what it loses
 

@@ -7,20 +7,21 @@ ghost use Rattle.rules.specs.Match.{Offer};
 ghost use Rattle.rules.specs.Executions.{less_each, cut_all};
 ghost use Rattle.hour_offers.specs.View.{executions_in};
 ghost use Rattle.hour_offers.specs.Sound.{ExecutionInRange};
-ghost use Rattle.hour_borders.specs.Ways.{published_in};
+ghost use Rattle.hour_borders.specs.Directions.{published_in};
 ghost use Rattle.hour_borders.specs.Flows.{MarketFlows, ExecutionFlows, Small};
 ghost use Rattle.hour_cut.specs.Cuts.{Enough, Lowered};
 
 use hour_offers::Execution;
+use rules::DIRECTIONS;
 
 // Market and executions together, by direction. "The bilateral maximum is E less the final market balance": the executions' balance passes it
-// by as much as the two together pass E. Flows are arrays of ten as the session has them: their type does not tell that two can be added.
-fn together(market: &[u32; 10], executions: &[u32; 10]) -> [u32; 10]
+// by as much as the two together pass E. Flows are arrays of eight as the session has them: their type does not tell that two can be added.
+fn together(market: &[u32; DIRECTIONS], executions: &[u32; DIRECTIONS]) -> [u32; DIRECTIONS]
     requires market_small { Small market.now }
     requires executions_small { Small executions.now }
-    ensures { (w : ℕ) → w < 10 → get_or result w 0 ≡ get_or market.now w 0 + get_or executions.now w 0 }
+    ensures { (d : ℕ) → d < 8 → get_or result d 0 ≡ get_or market.now d 0 + get_or executions.now d 0 }
 {
-    std::array::from_fn(|w| market[w] + executions[w])
+    std::array::from_fn(|d| market[d] + executions[d])
 }
 
 // Each of the executions without what it loses. By index: the proof of a `zip` does not close, since nothing is known of what an adapter of
@@ -38,9 +39,9 @@ fn reduce(executions: &mut [Execution], lost: &[u32])
 // in range.
 pub fn cut(
     executions: &mut [Execution],
-    capacities: &[Option<u32>; 10],
-    market: &[u32; 10],
-    before: &[u32; 10],
+    capacities: &[Option<u32>; DIRECTIONS],
+    market: &[u32; DIRECTIONS],
+    before: &[u32; DIRECTIONS],
 )
     requires few { length executions.old ≤ 128 }
     requires in_range { All ExecutionInRange (executions_in executions.old) }

@@ -24,8 +24,8 @@ use Rattle.hour_offers.specs.Sound.{Sound, SoundUnmatched}
 use Rattle.hour_match.specs.Orders.{in_order, Along}
 use Rattle.hour_match.specs.Walks.{Matched}
 use Rattle.hour_match.proofs.KeptLaws.{along-unmatched, along-kept, match-unmatched}
-use Rattle.hour_borders.specs.Ways.{energies_of, published_in}
-use Rattle.hour_borders.specs.Flows.{MatchedInRange, Small}
+use Rattle.hour_borders.specs.Directions.{energies_of, published_in}
+use Rattle.hour_borders.specs.Flows.{Small}
 use Rattle.withdraw.specs.declared.Ended.{Ended}
 use Rattle.withdraw.specs.Steps.{Laid, Lowered}
 use Rattle.withdraw.specs.Rounds.{Withdrew}
@@ -35,16 +35,16 @@ use Rattle.hour_market.specs.Parts.{MarketCleared}
 pub offered-small : {os : List Offer} → SoundUnmatched os → All (λ o. o.offered ≤ max_energy) os
 offered-small s = all_map (λ o h. h.offered) s.in_range
 
-pub matched-in-range : {os : List Offer} → Sound os → All MatchedInRange os
-matched-in-range s = all_map (λ o h. record { border = h.border; matched = h.matched }) s.in_range
+pub matched-in-range : {os : List Offer} → Sound os → All (λ o. o.matched ≤ max_energy) os
+matched-in-range s = all_map (λ o h. h.matched) s.in_range
 
 -- numbers that can be added, at every index
-pub small : (cs : List (Option ℕ)) → length cs ≡ 10 → ((w : ℕ) → w < 10 → get_or (energies_of cs) w 0 < 2147483648) → Small (energies_of cs)
+pub small : (cs : List (Option ℕ)) → length cs ≡ 8 → ((d : ℕ) → d < 8 → get_or (energies_of cs) d 0 < 2147483648) → Small (energies_of cs)
 unfolding energies_of
-small cs l f w =
-    by_bool (ltb w 10)
-    (λ t. f w (ltb-true w 10 t))
-    (λ t. omega (arith, get_or-eq_default (map (λ o. unwrap_or o 0) cs) 0 {n = w} (omega (arith, ltb-false w 10 t, l, length-map cs (λ o. unwrap_or o 0)))))
+small cs l f d =
+    by_bool (ltb d 8)
+    (λ t. f d (ltb-true d 8 t))
+    (λ t. omega (arith, get_or-eq_default (map (λ o. unwrap_or o 0) cs) 0 {n = d} (omega (arith, ltb-false d 8 t, l, length-map cs (λ o. unwrap_or o 0)))))
 
 -- the first match, by orders that are read where they stand
 pub first-matched : {os ps : List Offer} {v : ℕ} {sales purchases xs ys : List ℕ} → SoundUnmatched os → xs ≡ sales → sales ≡ in_order false os → ys ≡ purchases → purchases ≡ in_order true os

@@ -3,7 +3,7 @@ use Rattle.std.specs.Prelude.{ℕ, ◌≡◌, List, Option}
 use Rattle.rules.specs.Match.{Offer}
 use Rattle.rules.specs.Borders.{Execution}
 use Rattle.rules.specs.Clearing as C
-use Rattle.hour_borders.specs.Ways.{published_in}
+use Rattle.hour_borders.specs.Directions.{published_in}
 use Rattle.hour_market.specs.declared.Market.{Market}
 
 abbrev pub hour_of : List Offer → List (Option ℕ) → List Execution → C.Hour

@@ -1,35 +1,40 @@
 // The market of one hour: first match, Split, withdrawal (document 01, "Clearing, hour by hour").
 #![tactic(auto)]
 
-ghost use Rattle.std.specs.Prelude.{◌≡◌, ◌≤◌, ◌<◌, List, ℕ, None, get_or};
+ghost use Rattle.std.specs.Prelude.{◌≡◌, ◌≤◌, ◌<◌, List, ℕ, get_or};
 ghost use Rattle.rules.specs.Lists.{All, Each};
 ghost use Rattle.rules.specs.Borders.{Execution};
 ghost use Rattle.hour_offers.specs.View.{offers_in};
 ghost use Rattle.hour_offers.specs.Sound.{Sound, SoundUnmatched};
-ghost use Rattle.hour_borders.specs.Ways.{energies_of};
+ghost use Rattle.hour_borders.specs.Directions.{energies_of};
 ghost use Rattle.hour_borders.specs.Flows.{MarketFlows, ExecutionFlows, Small};
 ghost use Rattle.withdraw.specs.Steps.{Lowered};
 ghost use Rattle.hour_market.specs.Parts.{MarketCleared};
 
 use hour_offers::Offer;
+use rules::DIRECTIONS;
 use withdraw::Orders;
 
-// What the market of an hour gives beside its offers: maxima, the flows of the last match, steps and price. Two arrays of ten by direction,
+// What the market of an hour gives beside its offers: maxima, the flows of the last match, steps and price. Two arrays of eight by direction,
 // one of what runs there and one of what may, where the session has them so: no direction has a record of its own.
 #[derive(Clone, Copy, Debug, PartialEq, Eq)]
 pub struct Market {
-    pub maxima: [Option<u32>; 10],
-    pub flows: [u32; 10],
+    pub maxima: [Option<u32>; DIRECTIONS],
+    pub flows: [u32; DIRECTIONS],
     pub steps: u32,
     pub price: u32,
 }
 
 // The market of an hour: first match, Split, withdrawal. `executions` are the flows of the hour's executions. "Split figures stay those of
-// the first match". What an offer has as matched at entry is not looked at. A slice of offers and arrays of ten as
+// the first match". What an offer has as matched at entry is not looked at. A slice of offers and arrays of eight as
 // the session has them: no type of theirs tells that energies are in range.
-pub fn clear(offers: &mut [Offer], capacities: &[Option<u32>; 10], executions: &[u32; 10]) -> Market
+pub fn clear(
+    offers: &mut [Offer],
+    capacities: &[Option<u32>; DIRECTIONS],
+    executions: &[u32; DIRECTIONS],
+) -> Market
     requires sound { SoundUnmatched (offers_in offers.old) }
-    requires capacities_small { (w : ℕ) → w < 10 → get_or (energies_of capacities.now) w 0 < 2147483648 }
+    requires capacities_small { (d : ℕ) → d < 8 → get_or (energies_of capacities.now) d 0 < 2147483648 }
     requires executions_small { Small executions.now }
     ensures market_cleared { (xs : List Execution) → ExecutionFlows executions.now xs
         → MarketCleared (offers_in offers.old) capacities.now xs (offers_in offers.new) result }
@@ -38,7 +43,6 @@ pub fn clear(offers: &mut [Offer], capacities: &[Option<u32>; 10], executions: &
     ensures within { All (λ o. o.matched ≤ o.offered) (offers_in offers.new) }
     ensures flows { MarketFlows result.flows (offers_in offers.new) }
     ensures flows_small { Small result.flows }
-    ensures none_at_home { (w : ℕ) → w < 2 → get_or result.maxima w None ≡ None }
 {
     let sales = hour_match::order(false, offers);
     let purchases = hour_match::order(true, offers);

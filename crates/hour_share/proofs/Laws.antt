@@ -15,6 +15,7 @@ use Rattle.rules.proofs.IndexLaws.{from_next}
 use borrow.Author.Tests.{lt-ltb, le-ltb}
 use mathlib.Core.Bool.{false≢true}
 use Rattle.std.specs.Prelude.{Some, None, position}
+use Rattle.std.specs.Option.{option_eq}
 use Rattle.std.specs.List.{position_or_len}
 use Rattle.std.proofs.lemmas.Option.{none-some}
 use Rattle.std.proofs.lemmas.List.{take_rest, length-drop, length-replicate}
@@ -241,21 +242,21 @@ module _ (f : ℕ → ℕ) (ds ms : List ℕ) (i : ℕ) where
 -- In one direction, and in one more
 
 module _ (over : List ℕ) (ams : List Amount) where
-  pub deductions-start : (w : ℕ) → 10 ≤ w → map (λ (a : Amount). 0) ams ≡ deductions_from over ams w
+  pub deductions-start : (d : ℕ) → 8 ≤ d → map (λ (a : Amount). 0) ams ≡ deductions_from over ams d
   unfolding deductions_from deductions_over from
-  deductions-start w h = let o : 10 - w ≡ 0 = omega arith in rw o
+  deductions-start d h = let o : 8 - d ≡ 0 = omega arith in rw o
 
-  deductions-here : (w : ℕ) → w < 10 → deductions_from over ams w
-      ≡ cond (ltb 0 (get_or over w 0)) (add_each (deductions_in ams (get_or over w 0) w) (deductions_from over ams (w + 1))) (deductions_from over ams (w + 1))
+  deductions-here : (d : ℕ) → d < 8 → deductions_from over ams d
+      ≡ cond (ltb 0 (get_or over d 0)) (add_each (deductions_in ams (get_or over d 0) d) (deductions_from over ams (d + 1))) (deductions_from over ams (d + 1))
   unfolding deductions_from deductions_over
-  deductions-here w h = rw (from_next 10 w h)
+  deductions-here d h = rw (from_next 8 d h)
 
-  pub deductions-more : (w : ℕ) (s : List ℕ) {lost next : List ℕ} → w < 10 → 0 < get_or over w 0
-      → lost ≡ deductions_in ams (get_or over w 0) w → s ≡ deductions_from over ams (w + 1) → next ≡ add_each lost s → next ≡ deductions_from over ams w
-  deductions-more w s h k el es en = rw (deductions-here w h, lt-ltb 0 (get_or over w 0) k, en, el, es)
+  pub deductions-more : (d : ℕ) (s : List ℕ) {lost next : List ℕ} → d < 8 → 0 < get_or over d 0
+      → lost ≡ deductions_in ams (get_or over d 0) d → s ≡ deductions_from over ams (d + 1) → next ≡ add_each lost s → next ≡ deductions_from over ams d
+  deductions-more d s h k el es en = rw (deductions-here d h, lt-ltb 0 (get_or over d 0) k, en, el, es)
 
-  pub deductions-same : (w : ℕ) → w < 10 → get_or over w 0 ≤ 0 → deductions_from over ams (w + 1) ≡ deductions_from over ams w
-  deductions-same w h k = rw (deductions-here w h, le-ltb 0 (get_or over w 0) k)
+  pub deductions-same : (d : ℕ) → d < 8 → get_or over d 0 ≤ 0 → deductions_from over ams (d + 1) ≡ deductions_from over ams d
+  deductions-same d h k = rw (deductions-here d h, le-ltb 0 (get_or over d 0) k)
 
 pub zeros-of : (n i : ℕ) → get_or (replicate n 0) i 0 ≤ 0
 zeros-of zero i = omega arith
@@ -273,9 +274,9 @@ ranged-last [] x r h (suc i) = omega arith
 ranged-last (y ∷ ys) x r h zero = r 0
 ranged-last (y ∷ ys) x r h (suc i) = ranged-last ys x (λ j. r (suc j)) h i
 
-pub energy-ranged : (w : ℕ) (a : Amount) → AmountInRange a → energy_in w a ≤ max_energy
+pub energy-ranged : (d : ℕ) (a : Amount) → AmountInRange a → energy_in d a ≤ max_energy
 unfolding energy_in
-energy-ranged w a h = omega (arith, cond-le (eqb a.way w) a.energy, h)
+energy-ranged d a h = omega (arith, cond-le (option_eq eqb a.direction (Some d)) a.energy, h)
 
 -- with one row more, sums grow by the largest energy at most
 pub sums-small : (b : ℕ) (xs ss : List ℕ) → Ranged xs → ((i : ℕ) → get_or ss i 0 ≤ b) → (i : ℕ) → get_or (add_each xs ss) i 0 ≤ b + max_energy
@@ -296,7 +297,7 @@ pub lost-ranged : (r : ℕ) (ms : List ℕ) → r ≤ sum ms → Ranged ms → R
 lost-ranged r ms h k i = omega (arith, share-le r ms h i, k i)
 
 -- what each loses in one direction
-module _ (excess w : ℕ) (ams : List Amount) where
-  pub lost-said : {x ms : List ℕ} → ms ≡ map (energy_in w) ams → x ≡ share (min excess (sum ms)) ms → x ≡ deductions_in ams excess w
+module _ (excess d : ℕ) (ams : List Amount) where
+  pub lost-said : {x ms : List ℕ} → ms ≡ map (energy_in d) ams → x ≡ share (min excess (sum ms)) ms → x ≡ deductions_in ams excess d
   unfolding deductions_in
   lost-said em ex = rw (ex, em)

@@ -10,22 +10,26 @@ ghost use Rattle.hour_share.specs.Deductions.{Ranged, AmountInRange, energy_in, 
 ghost use Rattle.hour_share.specs.declared.Amount.{Amount};
 
 use arrayvec::ArrayVec;
-use rules::LODGEMENTS;
+use rules::{DIRECTIONS, LODGEMENTS};
 
-// An energy, and the direction in which it runs: an index of an array of ten.
+// An energy, and the direction in which it runs: an index of an array of eight, none for a domestic holder's.
 #[derive(Clone, Copy, Debug, Default, PartialEq, Eq)]
 pub struct Amount {
-    pub way: usize,
+    pub direction: Option<usize>,
     pub energy: u32,
 }
 
 impl Amount {
-    // What it counts for in direction w, 0 where it runs in another.
+    // What it counts for in direction d, 0 where it runs in another or in none.
     #[tactic(auto, unfolding(crate::specs::Deductions::energy_in))]
-    pub fn energy_in(self, w: usize) -> u32
-        ensures { result ≡ energy_in w self }
+    pub fn energy_in(self, d: usize) -> u32
+        ensures { result ≡ energy_in d self }
     {
-        if self.way == w { self.energy } else { 0 }
+        if self.direction == Some(d) {
+            self.energy
+        } else {
+            0
+        }
     }
 }
 
@@ -137,28 +141,28 @@ pub fn share(excess: u32, amounts: &[u32]) -> ArrayVec<u32, LODGEMENTS>
     deductions
 }
 
-// What each of some holders counts for in direction w: `of` says what it has, and in which direction it gives way.
+// What each of some holders counts for in direction d: `of` says what it has, and in which direction it gives way.
 // How long a slice is and what its numbers are, and that a closure can be called, no type tells, so each function asks it.
-fn energies_in<T, F: Fn(&T) -> Amount>(w: usize, holders: &[T], of: &F) -> ArrayVec<u32, LODGEMENTS>
+fn energies_in<T, F: Fn(&T) -> Amount>(d: usize, holders: &[T], of: &F) -> ArrayVec<u32, LODGEMENTS>
     requires callable { F.IsAlwaysCallable of.now }
     requires few { length holders.now ≤ 128 }
     requires ranged { All (λ x. (a : Amount) → FnReturnsAt F.Fn of.now x a → AmountInRange a) holders.now }
     ensures value { (amount : T → Amount)
         → All (λ x. (a : Amount) → FnReturnsAt F.Fn of.now x a → a ≡ amount x) holders.now
-        → result.items ≡ map (energy_in w) (map amount holders.now) }
+        → result.items ≡ map (energy_in d) (map amount holders.now) }
     ensures same_length { length result.items ≡ length holders.now }
     ensures ranged_after { Ranged result.items }
 {
     let mut energies = ArrayVec::new();
     for x in holders {
-        energies.push(of(x).energy_in(w));
+        energies.push(of(x).energy_in(d));
     }
     energies
 }
 
 // What each holder loses in all directions, of their excesses; the directions are added from the last to the first, as the rules do.
 pub fn deductions<T, F: Fn(&T) -> Amount>(
-    over: &[u32; 10],
+    over: &[u32; DIRECTIONS],
     holders: &[T],
     of: F,
 ) -> ArrayVec<u32, LODGEMENTS>
@@ -167,15 +171,15 @@ pub fn deductions<T, F: Fn(&T) -> Amount>(
     requires ranged { All (λ x. (a : Amount) → FnReturnsAt F.Fn of x a → AmountInRange a) holders.now }
     ensures value { (amount : T → Amount)
         → All (λ x. (a : Amount) → FnReturnsAt F.Fn of x a → a ≡ amount x) holders.now
-        → result.items ≡ deductions_from over.now (map amount holders.now) 2 }
+        → result.items ≡ deductions_from over.now (map amount holders.now) 0 }
     ensures same_length { length result.items ≡ length holders.now }
 {
     let mut sums = nothing(holders.len());
-    // By index: w is the direction, of which `over` tells one thing and each holder's amount another.
-    for w in (2..10).rev() {
-        if 0 < over[w] {
-            let energies = energies_in(w, holders, &of);
-            add_share(over[w], &energies, &mut sums);
+    // By index: d is the direction, of which `over` tells one thing and each holder's amount another.
+    for d in (0..DIRECTIONS).rev() {
+        if 0 < over[d] {
+            let energies = energies_in(d, holders, &of);
+            add_share(over[d], &energies, &mut sums);
         }
     }
     sums

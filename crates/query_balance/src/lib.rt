@@ -1,18 +1,19 @@
 // The queries of a border's balances, after clearing.
 #![tactic(auto)]
 
-ghost use Rattle.std.specs.Prelude.{◌≡◌, true, false, ◌≤◌, get_or, IfOk};
+ghost use Rattle.std.specs.Prelude.{◌≡◌, true, false, ◌≤◌, ◌<◌, get_or, IfOk};
 ghost use Rattle.std.proofs.Math.IntN.{sub_ℕ};
+ghost use Rattle.rules.specs.Units.{direction};
 ghost use Rattle.rules.specs.Queries as Q;
-ghost use Rattle.hour_borders.specs.Ways.{way_of};
 ghost use Rattle.answer.specs.Told as T;
 ghost use Rattle.query.specs.Replies.{Answered};
 ghost use Rattle.query.specs.Parts.{Judges};
 ghost use Rattle.query_balance.specs.Parts.{BorderFits, bad_border, balance_query, balance_of};
 
 use answer::Response;
-use hour_borders::way;
+use hour_borders::direction;
 use query::{Query, judge_hour, reply};
+use rules::DIRECTIONS;
 use rules::row::Row;
 use session::{HourFigures, Session};
 
@@ -25,7 +26,7 @@ enum Balance {
 
 impl Balance {
     // The energies that it is made of, among an hour's figures.
-    fn among(self, figures: &HourFigures) -> &[u32; 10]
+    fn among(self, figures: &HourFigures) -> &[u32; DIRECTIONS]
         ensures { result.now ≡ balance_of self figures.now }
     {
         match self {
@@ -55,12 +56,12 @@ pub fn judge_border(s: &Session, border: u32, hour: u32) -> Result<usize, Row>
 }
 
 // "exports less imports", which may be below zero.
-fn net(energies: &[u32; 10], border: u32) -> Response
-    requires { border ≤ 4 }
-    ensures { result ≡ T.figure (sub_ℕ (get_or energies.now (way_of border true) 0) (get_or energies.now (way_of border false) 0)) }
+fn net(energies: &[u32; DIRECTIONS], border: u32) -> Response
+    requires { (0 < border) × (border ≤ 4) }
+    ensures { result ≡ T.figure (sub_ℕ (get_or energies.now (direction border true) 0) (get_or energies.now (direction border false) 0)) }
 {
-    let exports = energies[way(border, true)];
-    let imports = energies[way(border, false)];
+    let exports = energies[direction(border, true)];
+    let imports = energies[direction(border, false)];
     Response::figure(i64::from(exports) - i64::from(imports))
 }
 

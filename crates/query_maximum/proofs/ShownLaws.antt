@@ -1,5 +1,5 @@
 -- What the maxima's queries read at the directions' indices is what they are to show.
-use Prim.Native.Nat.{ℕ, ◌+◌, ◌-◌, ◌≤◌, ◌<◌}
+use Prim.Native.Nat.{ℕ, ◌+◌, ◌-◌}
 use mathlib.Core.Path.{◌≡◌, refl, ap, ap₂, sym, ◌∙◌}
 use mathlib.Core.Bool.{Bool, true, false, not, false≢true}
 use mathlib.Core.List.{List}
@@ -16,7 +16,7 @@ use Rattle.rules.specs.Queries as Q
 use Rattle.rules.specs.Queries.{shown}
 use Rattle.rules.proofs.BoolLaws.{by_bool}
 use Rattle.rules.proofs.BalanceLaws.{market_flow}
-use Rattle.hour_borders.specs.Ways.{way_of}
+use Rattle.hour_borders.proofs.DirectionLaws.{direction-small}
 use Rattle.session.specs.Bare.{bare_figures, bare_notice}
 use Rattle.session.specs.Image.{image, Sound, notice_as, energy_of, figures_as}
 use Rattle.session.specs.declared.Session.{Session}
@@ -29,7 +29,7 @@ use Rattle.answer.specs.Told.{value_told, figure}
 use Rattle.query.proofs.FigureLaws.{figures-as}
 use Rattle.query.proofs.ReplyLaws.{SameRows}
 use Rattle.query_balance.specs.Parts.{BorderFits}
-use Rattle.query_balance.proofs.FlowLaws.{by_way_lem, market-at}
+use Rattle.query_balance.proofs.FlowLaws.{by-direction, market-at}
 use Rattle.query_maximum.specs.declared.Asked.{Asked}
 use Rattle.query_maximum.specs.declared.Maximum.{Maximum}
 use Rattle.query_maximum.specs.declared.Maximum.TheVariants.{Market, Bilateral}
@@ -45,19 +45,6 @@ pub maximum-rows : (maximum : Maximum) (border : ℕ) (export : Bool) (h : ℕ) 
 unfolding Q.query_rows
 maximum-rows Market border export h b = refl
 maximum-rows Bilateral border export h b = refl
-
--- The index of a direction among the capacities
-
-pub direction-small : (border : ℕ) (export : Bool) → border ≤ 4 → U.direction border export < 8
-unfolding U.direction
-direction-small border true h = omega arith
-direction-small border false h = omega arith
-
--- the ways of border 0 are left out
-pub way-direction : (border : ℕ) (export : Bool) → 0 < border → way_of border export - 2 ≡ U.direction border export
-unfolding U.direction way_of
-way-direction border true h = omega arith
-way-direction border false h = omega arith
 
 -- a notice is given exactly if the direction is published
 not-given : (p : Published) → (notice_as p).given ≡ false → p ≡ none
@@ -94,16 +81,16 @@ module _ (s : Session) (border : ℕ) (export : Bool) (hour : ℕ) (p : Asked) (
   unfolding U.capacity_of
   the-notice =
       ap (λ (l : List Notice). get_or l (U.direction border export) bare_notice) (capacities-as s b e)
-      ∙ get_or-map notice_as none bare_notice b.capacities (U.direction border export) (omega (arith, sound.directions, direction-small border export fits.high))
+      ∙ get_or-map notice_as none bare_notice b.capacities (U.direction border export) (omega (arith, sound.directions, direction-small border export (omega (arith, fits.high))))
 
-  flow-at : (x : Bool) → get_or figures.market (way_of border x) 0 ≡ market_flow border x (figures_at b hour).offers
+  flow-at : (x : Bool) → get_or figures.market (U.direction border x) 0 ≡ market_flow border x (figures_at b hour).offers
   flow-at = market-at s b e border hour p.at fits
 
-  maximum-at : get_or figures.maxima (way_of border export) 0 ≡ energy_of (figures_at b hour).maxima border export
+  maximum-at : get_or figures.maxima (U.direction border export) 0 ≡ energy_of (figures_at b hour).maxima border export
   unfolding figures_as
   maximum-at =
-      ap (λ (y : HourFigures). get_or y.maxima (way_of border export) 0) (figures-as s b e fits.hours)
-      ∙ by_way_lem (energy_of (figures_at b hour).maxima) border export fits.high
+      ap (λ (y : HourFigures). get_or y.maxima (U.direction border export) 0) (figures-as s b e fits.hours)
+      ∙ by-direction (energy_of (figures_at b hour).maxima) border export fits.low fits.high
 
   module _ (energy : ℕ) (is : p.capacity ≡ Some energy) where
     given : (notice.given ≡ true) × (get_or notice.energies p.at 0 ≡ energy)
@@ -124,12 +111,12 @@ module _ (s : Session) (border : ℕ) (export : Bool) (hour : ℕ) (p : Asked) (
     unfolding value_told shown
     maximum-shown Market =
         by-published capacity is-given
-        (λ es k. ap (λ i. figure (pos (get_or figures.maxima i 0))) f.way ∙ ap (λ m. figure (pos m)) maximum-at ∙ ap value_told (sym (the-maximum b border export fits.low fits.high hour es k)))
+        (λ es k. ap (λ i. figure (pos (get_or figures.maxima i 0))) f.direction ∙ ap (λ m. figure (pos m)) maximum-at ∙ ap value_told (sym (the-maximum b border export fits.low fits.high hour es k)))
     maximum-shown Bilateral =
         by-published capacity is-given
         (λ es k.
         let d = bilateral_maximum (figures_at b hour).offers in
-        let along = ap (λ i. get_or figures.market i 0) f.way ∙ flow-at export in
+        let along = ap (λ i. get_or figures.market i 0) f.direction ∙ flow-at export in
         let against = ap (λ i. get_or figures.market i 0) f.other ∙ flow-at (not export) in
         ap figure (ap₂ sub_ℕ (ap₂ (λ m n. m + n) (the-energy es k) against) along ∙ sym (bilateral-by-flows (figures_at b hour).offers _))
         ∙ ap value_told (sym (the-capacity b border export fits.low fits.high hour d es k)))

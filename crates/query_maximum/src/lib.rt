@@ -8,7 +8,7 @@ ghost use Rattle.query.specs.Replies.{Answered};
 ghost use Rattle.query_maximum.specs.Parts.{DirectionFits, maximum_query, maximum_of};
 
 use answer::Response;
-use hour_borders::way;
+use hour_borders::direction;
 use query::{Query, reply};
 use query_balance::judge_border;
 use rules::row::Row;
@@ -26,7 +26,7 @@ enum Maximum {
 #[derive(Clone, Copy, Debug, PartialEq, Eq)]
 struct Asked {
     at: usize,
-    way: usize,
+    direction: usize,
     other: usize,
     capacity: Option<u32>,
 }
@@ -35,14 +35,14 @@ impl Maximum {
     // The maximum, from the hour's figures and the capacity's energy E. "The bilateral maximum is E less the final market balance, which
     // may be below zero": seen in the direction, that balance is the energy along it less the energy against it.
     fn figure(self, figures: &HourFigures, p: Asked, energy: u32) -> Response
-        requires way { p.way < 10 }
-        requires other { p.other < 10 }
+        requires direction { p.direction < 8 }
+        requires other { p.other < 8 }
         ensures { result ≡ T.figure (maximum_of self figures.now p energy) }
     {
         match self {
-            Maximum::Market => Response::from(figures.maxima[p.way]),
+            Maximum::Market => Response::from(figures.maxima[p.direction]),
             Maximum::Bilateral => {
-                let along = i64::from(figures.market[p.way]);
+                let along = i64::from(figures.market[p.direction]);
                 let against = i64::from(figures.market[p.other]);
                 Response::figure(i64::from(energy) + against - along)
             }
@@ -66,16 +66,15 @@ impl Query for MaximumQuery {
 
     ghost is_found = { λ s q p. DirectionFits s q.border q.export q.hour p };
 
-    // Notices have no index for border 0.
     fn judge(self, s: &Session) -> Result<Asked, Row> {
         let at = judge_border(s, self.border, self.hour)?;
-        let way_of = way(self.border, self.export);
-        let other = way(self.border, !self.export);
-        let notice = &s.capacities[way_of - 2];
+        let along = direction(self.border, self.export);
+        let other = direction(self.border, !self.export);
+        let notice = &s.capacities[along];
         let capacity = notice.given.then_some(notice.energies[at]);
         Ok(Asked {
             at,
-            way: way_of,
+            direction: along,
             other,
             capacity,
         })

@@ -1,5 +1,5 @@
 -- The session that stands for a book: its lists laid into arrays, blanks after them.
-use Rattle.std.specs.Prelude.{ℕ, ◌/◌, ◌%◌, ◌≡◌, Bool, true, false, cond, ◌&&◌, List, [], ◌∷◌, map, eqb, length, replicate}
+use Rattle.std.specs.Prelude.{ℕ, ◌+◌, ◌/◌, ◌%◌, ◌≡◌, Bool, true, false, cond, ◌&&◌, List, [], ◌∷◌, map, eqb, length, replicate}
 use Rattle.std.specs.Bool.{beq}
 use Rattle.std.proofs.Math.Option.{Option, some, none}
 use Rattle.rules.specs.Lists.{from}
@@ -74,9 +74,9 @@ verdict_as C.accepted = record { accepted = true; reserved = 0; reserved2 = 0; l
 verdict_as C.hidden = record { accepted = false; reserved = 0; reserved2 = 0; limit = 0; hour = 0 }
 verdict_as (C.limit n h) = record { accepted = false; reserved = 0; reserved2 = 0; limit = n; hour = h }
 
--- energies of the ten directions, export and import of border 0, of 1, .. of 4
-unfoldable pub by_way : (ℕ → Bool → ℕ) → List ℕ
-by_way f = map (λ w. f (w / 2) (eqb (w % 2) 0)) (from 0 10)
+-- energies of the eight directions, at their indices (`direction` of the rules)
+unfoldable pub by_direction : (ℕ → Bool → ℕ) → List ℕ
+by_direction f = map (λ d. f (d / 2 + 1) (eqb (d % 2) 0)) (from 0 8)
 
 -- the energy of a direction among those of the published ones, 0 where it is not
 unfoldable pub energy_of : List Directed → ℕ → Bool → ℕ
@@ -93,9 +93,9 @@ figures_as b h =
     let x = figures_at b h in
     record {
       price = x.price;
-      market = by_way (λ border export. flow (λ o. o.holder) (λ o. o.matched) border export x.offers);
-      bilateral = by_way (λ border export. flow (λ x. x.holder) (λ x. x.energy) border export x.executions);
-      maxima = by_way (energy_of x.maxima);
+      market = by_direction (λ border export. flow (λ o. o.holder) (λ o. o.matched) border export x.offers);
+      bilateral = by_direction (λ border export. flow (λ x. x.holder) (λ x. x.energy) border export x.executions);
+      maxima = by_direction (energy_of x.maxima);
       matched = by_unit (λ u. matched_at b u h) b.units;
       executed = by_unit (λ u. executed_at b u h) b.units;
     }
@@ -120,9 +120,9 @@ no_verdict = record { accepted = false; reserved = 0; reserved2 = 0; limit = 0; 
 abbrev pub no_figures : HourFigures
 no_figures = record {
   price = 0;
-  market = replicate 10 0;
-  bilateral = replicate 10 0;
-  maxima = replicate 10 0;
+  market = replicate 8 0;
+  bilateral = replicate 8 0;
+  maxima = replicate 8 0;
   matched = replicate 64 0;
   executed = replicate 64 0;
 }

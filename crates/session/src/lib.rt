@@ -88,20 +88,21 @@ pub struct Verdict {
     pub hour: u32,
 }
 
-// An hour's figures, arrays as C has them. Energies at the borders are by direction (`hour_borders::way`), those of units by the index of the unit.
+// An hour's figures, arrays as C has them. Energies at the borders are by direction, export and import of border 1, of 2, of 3, of 4; those of
+// units by the index of the unit.
 #[repr(C)]
 #[derive(Clone, Copy)]
 pub struct HourFigures {
     pub price: u32,
-    pub market: [u32; 10],
-    pub bilateral: [u32; 10],
-    pub maxima: [u32; 10],
+    pub market: [u32; DIRECTIONS],
+    pub bilateral: [u32; DIRECTIONS],
+    pub maxima: [u32; DIRECTIONS],
     pub matched: [u32; UNITS],
     pub executed: [u32; UNITS],
 }
 
 // As C has it, with arrays and their counts. The first `enrolled` units and the first `standing` lodgements count, these in the order of their numbers.
-// `capacities` are export and import of border 1, of 2, of 3, of 4. Verdicts stand at the lodgements' indices once closed,
+// `capacities` are by direction, as an hour's figures. Verdicts stand at the lodgements' indices once closed,
 // figures at the hours' indices once cleared.
 #[repr(C)]
 #[derive(Clone, Copy)]
@@ -192,9 +193,9 @@ pub fn no_figures() -> HourFigures
 {
     HourFigures {
         price: 0,
-        market: [0; 10],
-        bilateral: [0; 10],
-        maxima: [0; 10],
+        market: [0; DIRECTIONS],
+        bilateral: [0; DIRECTIONS],
+        maxima: [0; DIRECTIONS],
         matched: [0; UNITS],
         executed: [0; UNITS],
     }

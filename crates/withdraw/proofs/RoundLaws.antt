@@ -2,10 +2,7 @@
 use Rattle.std.proofs.Common.{ap₂, ℕ, ◌+◌, ◌-◌, ◌≡◌, refl, sym, ◌∙◌, ap, ◌<◌, true, false, List, [], ◌∷◌, map}
 use Rattle.std.specs.Prelude.{sum}
 use mathlib.Core.Bool.{true≢false, false≢true}
-use Rattle.rules.proofs.ListLaws.{all_map}
-use Rattle.hour_offers.specs.Sound.{Sound}
-use Rattle.hour_borders.specs.Flows.{MatchedInRange}
-use Rattle.rules.specs.Lists.{All, Each, sum_of, sum as sum-of}
+use Rattle.rules.specs.Lists.{Each, sum_of, sum as sum-of}
 use Rattle.rules.specs.Match.{Offer, volume}
 use Rattle.rules.specs.Borders.{Directed}
 use Rattle.rules.specs.Withdrawal.{overruns, step, step_bound, repeat, withdraw}
@@ -24,10 +21,6 @@ use Rattle.withdraw.proofs.StepLaws.{lowered-of, lowered-less}
 pub bound-said : (os : List Held) → sum (map (λ (o : Held). o.offered) os) ≡ step_bound (offers_in os)
 unfolding step_bound sum_of
 bound-said os = sum-read _ ∙ ap sum-of (sym (map-read offer_in (λ (o : Offer). o.offered) os))
-
--- what can be counted at the borders
-pub counted : {os : List Offer} → Sound os → All MatchedInRange os
-counted s = all_map (λ o h. record { border = h.border; matched = h.matched }) s.in_range
 
 empty : (ds : List Directed) → non_empty ds ≡ false → ds ≡ []
 unfolding non_empty

@@ -25,8 +25,8 @@ use Rattle.hour_match.specs.Orders.{Names, no_offer, nth, key_at, insert_on, sor
 use Rattle.hour_match.specs.Walks.{named, Matched}
 use Rattle.hour_match.proofs.OrderLaws.{order-within}
 use Rattle.hour_match.proofs.KeptLaws.{along-of, along-kept, match-sound}
-use Rattle.hour_borders.specs.Ways.{over_in}
-use Rattle.hour_borders.specs.Flows.{MatchedInRange, MarketFlows, BorderFlows}
+use Rattle.hour_borders.specs.Directions.{over_in}
+use Rattle.hour_borders.specs.Flows.{MarketFlows}
 use Rattle.withdraw_keep.specs.Abroad.{crosses, abroad_of, places_from, put_at}
 use Rattle.withdraw_keep.specs.Change.{Changed}
 use Rattle.withdraw_keep.proofs.AbroadLaws.{homed-trans, put-back, read-abroad, places-same, places-length, places-inside, kept-abroad, kept-homed, kept-group, flow-abroad}
@@ -145,13 +145,13 @@ module _ {places : List ℕ} (os : List Offer) (at : places ≡ places_from 0 os
   read-places = rw at (read-abroad no_offer os)
 
 -- what they have can be counted at the borders
-pub counted-abroad : {os bs : List Offer} → Sound os → bs ≡ abroad_of os → All MatchedInRange bs
+pub counted-abroad : {os bs : List Offer} → Sound os → bs ≡ abroad_of os → All (λ o. o.matched ≤ max_energy) bs
 unfolding abroad_of
-counted-abroad s e = rw e (all_keep crosses (all_map (λ o h. record { border = h.border; matched = h.matched }) s.in_range))
+counted-abroad s e = rw e (all_keep crosses (matched-ranged s))
 
 -- and is what all have there
-pub flows-abroad : (f : List ℕ) (os : List Offer) {bs : List Offer} → bs ≡ abroad_of os → MarketFlows f bs → BorderFlows f os
-flows-abroad f os e m = λ b x o h. m b x h ∙ ap (λ l. flow (λ (p : Offer). p.holder) (λ p. p.matched) b x l) e ∙ flow-abroad b x o os
+pub flows-abroad : (f : List ℕ) (os : List Offer) {bs : List Offer} → bs ≡ abroad_of os → MarketFlows f bs → MarketFlows f os
+flows-abroad f os e m = λ b x o h. m b x o h ∙ ap (λ l. flow (λ (p : Offer). p.holder) (λ p. p.matched) b x l) e ∙ flow-abroad b x o os
 
 module _ (over : List ℕ) {sales purchases places : List ℕ} {os bs : List Offer} (l : Laid os sales purchases) (at : places ≡ places_from 0 os) (eb : bs ≡ abroad_of os) where
   -- what all keep

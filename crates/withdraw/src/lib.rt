@@ -5,7 +5,7 @@ ghost use Rattle.std.specs.Prelude.{◌≡◌, ◌^◌, ◌<◌, map, sum};
 ghost use Rattle.std.specs.List.{sum_by};
 ghost use Rattle.rules.specs.Match.{volume as volume_of};
 ghost use Rattle.hour_offers.specs.View.{offers_in};
-ghost use Rattle.hour_borders.specs.Ways.{published_in, over_in};
+ghost use Rattle.hour_borders.specs.Directions.{published_in, over_in};
 ghost use Rattle.hour_borders.specs.Flows.{MarketFlows};
 ghost use Rattle.withdraw.specs.Beside.{Beside};
 ghost use Rattle.withdraw.specs.Steps.{Laid, Stepped};
@@ -15,6 +15,7 @@ mod abroad;
 
 use crate::abroad::Abroad;
 use hour_offers::Offer;
+use rules::DIRECTIONS;
 
 // Both sides of an hour in their orders, as indices of its offers. That they are its orders (`Laid`) is asked where they are used: the offers
 // change under them from step to step, so no invariant of this type can say it.
@@ -33,7 +34,12 @@ pub struct Ended {
 
 // One step, of the directions with an excess above 0, and the volume after it. The choice of 2 comes before 1: it looks at nothing that is
 // offered, and 1 changes nothing else. 5. "Match again."
-fn step(offers: &mut [Offer], orders: Orders<'_>, abroad: &mut Abroad, over: &[u32; 10]) -> u32
+fn step(
+    offers: &mut [Offer],
+    orders: Orders<'_>,
+    abroad: &mut Abroad,
+    over: &[u32; DIRECTIONS],
+) -> u32
     requires laid { Laid (offers_in offers.old) orders.sales.now orders.purchases.now }
     requires abroad { Beside (offers_in offers.old) abroad.old }
     ensures stepped { Stepped (over_in over.now) orders.entry.sales.now orders.entry.purchases.now (offers_in offers.old) (offers_in offers.new) result }
@@ -64,8 +70,8 @@ pub fn withdraw(
     offers: &mut [Offer],
     volume: u32,
     orders: Orders<'_>,
-    maxima: &[Option<u32>; 10],
-    market: &[u32; 10],
+    maxima: &[Option<u32>; DIRECTIONS],
+    market: &[u32; DIRECTIONS],
 ) -> Ended
     requires laid { Laid (offers_in offers.old) orders.sales.now orders.purchases.now }
     requires traded { volume ≡ volume_of (offers_in offers.old) }

@@ -14,7 +14,7 @@ use Rattle.rules.specs.Lists.{keep, sum_of, sum as sum-of}
 use Rattle.rules.specs.Withdrawal.{prices_over, further, extreme, purchases_below, sales_above, choose, group_of, at_price}
 use Rattle.rules.proofs.BoolLaws.{by_bool}
 use Rattle.rules.proofs.SumLaws.{cond-le}
-use Rattle.hour_borders.specs.Ways.{over_in}
+use Rattle.hour_borders.specs.Directions.{over_in}
 use Rattle.withdraw_keep.specs.Abroad.{abroad_of}
 use Rattle.withdraw_keep.proofs.AbroadLaws.{prices-abroad}
 use Rattle.withdraw_choose.specs.Prices.{priced_of, price_in}

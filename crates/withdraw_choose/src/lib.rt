@@ -5,16 +5,17 @@ ghost use Rattle.std.specs.Prelude.{◌≡◌, ◌^◌, ◌<◌, ◌&&◌, not, 
 ghost use Rattle.std.specs.List.{sum_by, reduce};
 ghost use Rattle.rules.specs.Withdrawal.{group_of};
 ghost use Rattle.hour_offers.specs.View.{offer_in, offers_in};
-ghost use Rattle.hour_borders.specs.Ways.{over_in};
+ghost use Rattle.hour_borders.specs.Directions.{over_in};
 ghost use Rattle.withdraw_keep.specs.Abroad.{abroad_of};
 ghost use Rattle.withdraw_keep.specs.Group.{group_in};
 ghost use Rattle.withdraw_choose.specs.Prices.{priced_of};
 
 use hour_offers::Offer;
+use rules::DIRECTIONS;
 use withdraw_keep::Group;
 
 // Whether an offer is "among matched, non-legacy offers there in the direction passed", of one side.
-fn is_priced(purchase: bool, over: &[u32; 10], offer: &Offer) -> bool
+fn is_priced(purchase: bool, over: &[u32; DIRECTIONS], offer: &Offer) -> bool
     ensures { result ≡ priced_of purchase (over_in over.now) (offer_in offer.now) }
 {
     let holder = &offer.holder;
@@ -26,7 +27,7 @@ fn is_priced(purchase: bool, over: &[u32; 10], offer: &Offer) -> bool
 
 // 2. "the lowest purchase price" among these. Each price has a chain of its own, as C and V' have: one function with closures for the test
 // and the choice would promise more of the closures than the chains are long.
-fn lowest_purchase_price(offers: &[Offer], over: &[u32; 10]) -> Option<u32>
+fn lowest_purchase_price(offers: &[Offer], over: &[u32; DIRECTIONS]) -> Option<u32>
     ensures { result ≡ reduce min (map (λ o. o.price) (filter (λ o. priced_of true (over_in over.now) (offer_in o)) offers.now)) }
 {
     offers
@@ -37,7 +38,7 @@ fn lowest_purchase_price(offers: &[Offer], over: &[u32; 10]) -> Option<u32>
 }
 
 // "and the highest sale price".
-fn highest_sale_price(offers: &[Offer], over: &[u32; 10]) -> Option<u32>
+fn highest_sale_price(offers: &[Offer], over: &[u32; DIRECTIONS]) -> Option<u32>
     ensures { result ≡ reduce max (map (λ o. o.price) (filter (λ o. priced_of false (over_in over.now) (offer_in o)) offers.now)) }
 {
     offers
@@ -80,7 +81,7 @@ fn sales_above(price: u32, offers: &[Offer]) -> u32
 // "With both prices, purchases go if C ≤ V', else sales; with one, its side goes"; "with neither price", legacy offers. `abroad` is a cache:
 // those of the offers that are at a border, which the caller keeps from step to step. Only these run in a direction passed, so the prices are
 // looked for among them alone.
-pub fn choose(offers: &[Offer], abroad: &[Offer], over: &[u32; 10]) -> Group
+pub fn choose(offers: &[Offer], abroad: &[Offer], over: &[u32; DIRECTIONS]) -> Group
     requires fits { sum_by (λ o. o.matched) offers.now < 2 ^ 32 }
     requires abroad { offers_in abroad.now ≡ abroad_of (offers_in offers.now) }
     ensures { group_in result ≡ group_of (over_in over.now) (offers_in offers.now) }

@@ -13,7 +13,8 @@ use Rattle.rules.specs.Withdrawal.{runs_in, runs_among, keep_matched, prices_ove
 use Rattle.rules.proofs.BoolLaws.{by_bool, both}
 use Rattle.rules.proofs.ListLaws.{keep-map, keep-keep, keep_same}
 use Rattle.rules.proofs.ElementLaws.{all-every, each_map}
-use Rattle.hour_borders.specs.Ways.{over_in}
+use Rattle.hour_borders.specs.Directions.{over_in}
+use Rattle.hour_borders.proofs.DirectionLaws.{own-home}
 use Rattle.withdraw_keep.specs.Abroad.{crosses, abroad_of, places_from, put_at}
 use Rattle.withdraw_keep.proofs.KeptLaws.{among-outside}
 
@@ -34,7 +35,7 @@ home-border o e = eqb-true o.holder.border 0 (not-false (eqb o.holder.border 0) 
 
 -- a domestic offer runs in no direction passed
 pub home-runs : (over : List ℕ) (o : Offer) → crosses o ≡ false → runs_among (over_in over) o ≡ false
-home-runs over o e = among-outside over o (λ h k. absurd (omega (arith, home-border o e)))
+home-runs over o e = among-outside over o (own-home o.holder.border o.holder.purchase (home-border o e))
 
 pub runs-crosses : (over : List ℕ) (o : Offer) → runs_among (over_in over) o ≡ true → crosses o ≡ true
 runs-crosses over o t = by_bool (crosses o) (λ c. c) (λ c. absurd (false≢true (sym (home-runs over o c) ∙ t)))

@@ -9,7 +9,7 @@ use Rattle.rules.specs.Withdrawal.{Group, runs_in, runs_among, in_group, gives_w
 use Rattle.rules.proofs.BoolLaws.{by_bool, neither}
 use Rattle.rules.proofs.ElementLaws.{each-refl}
 use Rattle.hour_share.proofs.Laws.{none_held}
-use Rattle.hour_borders.specs.Ways.{over_in}
+use Rattle.hour_borders.specs.Directions.{over_in}
 use Rattle.withdraw_keep.specs.Abroad.{crosses, abroad_of}
 use Rattle.withdraw_keep.proofs.AbroadLaws.{Homed, home-runs}
 use Rattle.withdraw_take.specs.Given.{gives_in}

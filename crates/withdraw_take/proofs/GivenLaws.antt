@@ -1,6 +1,9 @@
 -- Who gives way, and what is taken, direction by direction.
 use Rattle.std.proofs.Common.{ap₂, add-one, ℕ, zero, suc, ◌+◌, ◌-◌, ◌≡◌, refl, sym, ◌∙◌, ap, ◌<◌, ◌≤◌, max, Bool, true, false, cond, ◌&&◌, ◌||◌, List, [], ◌∷◌, map, take, length, get_or, set, ltb, eqb, arith}
-use Rattle.rules.specs.Lists.{any, keep, from}
+use Rattle.rules.specs.Lists.{All, none, more, any, keep}
+use Rattle.std.specs.Prelude.{Some}
+use Rattle.std.specs.Option.{option_eq}
+use Rattle.rules.proofs.IndexLaws.{from_all}
 use Rattle.rules.specs.Match.{Offer, with_energies}
 use Rattle.rules.specs.Borders.{Directed, at_border, keeps}
 use Rattle.rules.specs.Withdrawal.{Group, runs_in, runs_among, in_group, gives_way, amounts, deductions, all_deductions, remain, take_from}
@@ -18,8 +21,8 @@ use Rattle.rules.proofs.SumLaws.{cond-le}
 use native.Mathlib.Nat.{le_trans}
 use Rattle.hour_share.specs.Deductions.{AmountInRange}
 use Rattle.hour_share.specs.Deductions.{energy_in, deductions_in, deductions_over, deductions_from}
-use Rattle.hour_borders.specs.Ways.{way_of, directed, over_in}
-use Rattle.hour_borders.proofs.WayLaws.{runs-directed}
+use Rattle.hour_borders.specs.Directions.{own_direction, directed, over_in}
+use Rattle.hour_borders.proofs.DirectionLaws.{runs-directed}
 use Rattle.withdraw_take.specs.Given.{gives_in, given_of}
 
 -- an offer gives way in one of the directions passed if it runs in one and is of the group
@@ -37,38 +40,38 @@ gives-among g (d ∷ ds) o = rw (gives-among g ds o) (either-both (runs_in d o) 
 
 module _ (g : Group) (over : List ℕ) where
   -- what an offer that gives way in a direction counts for
-  energy : (w : ℕ) (o : Offer) → energy_in w (given_of g o) ≡ cond (gives_way g (directed over w) o) (at_border o.holder o.matched) 0
+  energy : (d : ℕ) → d < 8 → (o : Offer) → energy_in d (given_of g o) ≡ cond (gives_way g (directed over d) o) (at_border o.holder o.matched) 0
   unfolding energy_in gives_way runs_in at_border
-  energy w o =
-      rw (runs-directed over w o.holder)
-      (by_bool (eqb (way_of o.holder.border o.holder.purchase) w) (λ t. rw t refl) (λ t. rw t refl))
+  energy d h o =
+      rw (runs-directed over d h o.holder)
+      (by_bool (option_eq eqb (own_direction o.holder.border o.holder.purchase) (Some d)) (λ t. rw t refl) (λ t. rw t refl))
 
-  energies : (w : ℕ) (os : List Offer) → map (energy_in w) (map (given_of g) os) ≡ amounts g (directed over w) os
+  energies : (d : ℕ) → d < 8 → (os : List Offer) → map (energy_in d) (map (given_of g) os) ≡ amounts g (directed over d) os
   unfolding amounts
-  energies w [] = refl
-  energies w (o ∷ os) = rw (energy w o) (ap (λ l. cond (gives_way g (directed over w) o) (at_border o.holder o.matched) 0 ∷ l) (energies w os))
+  energies d h [] = refl
+  energies d h (o ∷ os) = rw (energy d h o) (ap (λ l. cond (gives_way g (directed over d) o) (at_border o.holder o.matched) 0 ∷ l) (energies d h os))
 
   -- "is taken by Share"
-  lost : (w : ℕ) (os : List Offer) → deductions_in (map (given_of g) os) (get_or over w 0) w ≡ deductions g os (directed over w)
+  lost : (d : ℕ) → d < 8 → (os : List Offer) → deductions_in (map (given_of g) os) (get_or over d 0) d ≡ deductions g os (directed over d)
   unfolding deductions_in deductions directed
-  lost w os = rw (energies w os)
+  lost d h os = rw (energies d h os)
 
   nothing : (os : List Offer) → map {B = ℕ} (λ a. 0) (map (given_of g) os) ≡ map (λ o. 0) os
   nothing [] = refl
   nothing (o ∷ os) = ap (λ l. 0 ∷ l) (nothing os)
 
-  lost-over : (ws : List ℕ) (os : List Offer) → deductions_over over (map (given_of g) os) ws ≡ all_deductions g os (map (directed over) (keep (λ w. ltb 0 (get_or over w 0)) ws))
+  lost-over : {ds : List ℕ} → All (λ d. d < 8) ds → (os : List Offer) → deductions_over over (map (given_of g) os) ds ≡ all_deductions g os (map (directed over) (keep (λ d. ltb 0 (get_or over d 0)) ds))
   unfolding deductions_over all_deductions keep
-  lost-over [] os = nothing os
-  lost-over (w ∷ ws) os =
-      by_bool (ltb 0 (get_or over w 0))
-      (λ t. rw (t, lost w os, lost-over ws os))
-      (λ t. rw (t, lost-over ws os))
+  lost-over none os = nothing os
+  lost-over (more {x = d} h t) os =
+      by_bool (ltb 0 (get_or over d 0))
+      (λ u. rw (u, lost d h os, lost-over t os))
+      (λ u. rw (u, lost-over t os))
 
   -- in all directions passed
-  pub all-lost : (os : List Offer) → deductions_from over (map (given_of g) os) 2 ≡ all_deductions g os (over_in over)
+  pub all-lost : (os : List Offer) → deductions_from over (map (given_of g) os) 0 ≡ all_deductions g os (over_in over)
   unfolding deductions_from over_in
-  all-lost os = lost-over (from 2 8) os
+  all-lost os = lost-over (from_all _ 0 8 (λ d h k. omega arith)) os
 
 -- One offer more that is written
 
@@ -125,8 +128,8 @@ map-read r f [] = refl
 map-read r f (x ∷ xs) = ap (λ l. f (r x) ∷ l) (map-read r f xs)
 
 -- what each loses is the rules'
-pub lost-said : (g : Group) (over : List ℕ) (os : List Held) → deductions_from over (map (λ o. given_of g (offer_in o)) os) 2 ≡ all_deductions g (offers_in os) (over_in over)
-lost-said g over os = ap (λ l. deductions_from over l 2) (sym (map-read offer_in (given_of g) os)) ∙ all-lost g over (offers_in os)
+pub lost-said : (g : Group) (over : List ℕ) (os : List Held) → deductions_from over (map (λ o. given_of g (offer_in o)) os) 0 ≡ all_deductions g (offers_in os) (over_in over)
+lost-said g over os = ap (λ l. deductions_from over l 0) (sym (map-read offer_in (given_of g) os)) ∙ all-lost g over (offers_in os)
 
 unchanged : (o : Offer) → Changed o o
 unchanged o = record { holder = refl; price = refl; matched = refl; offered = omega arith }

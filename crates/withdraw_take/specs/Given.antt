@@ -5,7 +5,7 @@ use Rattle.rules.specs.Match.{Offer}
 use Rattle.rules.specs.Borders.{Directed}
 use Rattle.rules.specs.Withdrawal.{Group, in_group, gives_way}
 use Rattle.hour_share.specs.declared.Amount.{Amount}
-use Rattle.hour_borders.specs.Ways.{way_of}
+use Rattle.hour_borders.specs.Directions.{own_direction}
 
 -- an offer gives way in one of the directions passed
 abbrev pub gives_in : Group → List Directed → Offer → Bool
@@ -13,4 +13,4 @@ gives_in g ds o = any (λ d. gives_way g d o) ds
 
 -- what an offer of the group has matched, in the direction in which it runs; the others have nothing
 abbrev pub given_of : Group → Offer → Amount
-given_of g o = record { way = way_of o.holder.border o.holder.purchase; energy = cond (in_group g o) o.matched 0 }
+given_of g o = record { direction = own_direction o.holder.border o.holder.purchase; energy = cond (in_group g o) o.matched 0 }

@@ -7,5 +7,5 @@ use Rattle.clear_gather.proofs.capacities_at.Goals as goal
 pub returns : goal.returns
 unfolding from
 returns c =
-    fill_by_all (capacity_on c.args.notices.now c.args.k) c.from_fn.result 10 None c.from_fn.ensures.items.long
+    fill_by_all (capacity_on c.args.notices.now c.args.k) c.from_fn.result 8 None c.from_fn.ensures.items.long
     (λ i h. let r = c.from_fn.ensures.items.at i None h in search rules)

@@ -8,7 +8,7 @@ use Rattle.hour_offers.specs.declared.Offer.{Offer}
 use Rattle.hour_offers.specs.declared.Execution.{Execution}
 use Rattle.hour_offers.specs.View.{offer_in, execution_in}
 use Rattle.hour.specs.declared.Figures.{Figures}
-use Rattle.hour_borders.specs.Ways.{published_in}
+use Rattle.hour_borders.specs.Directions.{published_in}
 use Rattle.hour.specs.View.{figures_in, figures_as}
 use Rattle.session.specs.declared.Unit.{Unit}
 use Rattle.session.specs.Laid.{pad}

@@ -5,9 +5,9 @@ use Rattle.rules.proofs.ElementLaws.{all-every, all-unmapped}
 use Rattle.hour_offers.specs.declared.Execution.{Execution}
 use Rattle.hour_offers.specs.View.{execution_in, executions_in}
 use Rattle.hour_share.specs.declared.Amount.{Amount}
-use Rattle.hour_borders.specs.Ways.{way_of}
+use Rattle.rules.specs.Units.{direction}
 use Rattle.hour_borders.specs.Flows.{amount_of}
-use Rattle.hour_borders.proofs.WayLaws.{way-small}
+use Rattle.hour_borders.proofs.DirectionLaws.{own-small}
 use Rattle.hour_borders.proofs.FlowLaws.{all-counted, flow-said, keep-all}
 use Rattle.hour_borders.proofs.execution_flows.Goals as goal
 
@@ -17,11 +17,11 @@ given x = amount_of x.holder x.energy
 
 pub flows-requires-clause-countable : goal.flows-requires-clause-countable
 flows-requires-clause-countable c =
-    all-counted given (λ x a h. search rules) (all_map (λ x r. record { way = way-small x.holder.border x.holder.purchase r.border; energy = r.energy }) (all-unmapped execution_in c.args.executions.now c.requires.in_range))
+    all-counted given (λ x a h. search rules) (all_map (λ x r. record { direction = own-small x.holder.border x.holder.purchase; energy = r.energy }) (all-unmapped execution_in c.args.executions.now c.requires.in_range))
 
 pub returns-clause-flows : goal.returns-clause-flows
-returns-clause-flows c b e h =
+returns-clause-flows c b e above below =
     let xs = c.args.executions.now in
-    c.flows.ensures.sums given (all-every (λ x a h. search rules) xs) (way_of b e)
-    ∙ flow-said given execution_in (λ x. x.holder) (λ x. x.energy) (λ x. true) (λ x. refl) (λ x. refl) b e xs
+    c.flows.ensures.sums given (all-every (λ x a h. search rules) xs) (direction b e)
+    ∙ flow-said given execution_in (λ x. x.holder) (λ x. x.energy) (λ x. true) (λ x. refl) (λ x. refl) b e above below xs
     ∙ ap (λ ys. flow (λ (x : RuleExecution). x.holder) (λ x. x.energy) b e ys) (keep-all (executions_in xs))

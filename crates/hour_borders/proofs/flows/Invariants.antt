@@ -8,9 +8,9 @@ use Rattle.hour_borders.proofs.flows.Given as goal
 
 abbrev pub invariant-loop-x : goal.invariant-loop-x
 invariant-loop-x g l = record {
-  ten : length l.flows ≡ 10;
-  small : (w : ℕ) → get_or l.flows w 0 ≤ max_energy * l.x-index;
+  eight : length l.flows ≡ 8;
+  small : (d : ℕ) → get_or l.flows d 0 ≤ max_energy * l.x-index;
   -- what is counted, with what is left
   whole : (amount : g.row.T.Denot → Amount) → All (λ x. (a : Amount) → FnReturnsAt g.F.Fn l.of x a → a ≡ amount x) l.holders
-      → (w : ℕ) → get_or l.flows w 0 + sum_of (energy_in w) (map amount (drop l.x-index l.holders)) ≡ sum_of (energy_in w) (map amount l.holders);
+      → (d : ℕ) → get_or l.flows d 0 + sum_of (energy_in d) (map amount (drop l.x-index l.holders)) ≡ sum_of (energy_in d) (map amount l.holders);
 }

@@ -6,9 +6,9 @@ use Rattle.rules.proofs.ElementLaws.{all-every, all-unmapped}
 use Rattle.hour_offers.specs.declared.Offer.{Offer}
 use Rattle.hour_offers.specs.View.{offer_in, offers_in}
 use Rattle.hour_share.specs.declared.Amount.{Amount}
-use Rattle.hour_borders.specs.Ways.{way_of}
+use Rattle.rules.specs.Units.{direction}
 use Rattle.hour_borders.specs.Flows.{amount_of}
-use Rattle.hour_borders.proofs.WayLaws.{way-small}
+use Rattle.hour_borders.proofs.DirectionLaws.{own-small}
 use Rattle.hour_borders.proofs.FlowLaws.{all-counted, flow-said, keep-all}
 use Rattle.hour_borders.proofs.market_flows.Goals as goal
 
@@ -18,11 +18,11 @@ given x = amount_of x.holder x.matched
 
 pub flows-requires-clause-countable : goal.flows-requires-clause-countable
 flows-requires-clause-countable c =
-    all-counted given (λ x a h. search rules) (all_map (λ x r. record { way = way-small x.holder.border x.holder.purchase r.border; energy = r.matched }) (all-unmapped offer_in c.args.offers.now c.requires.in_range))
+    all-counted given (λ x a h. search rules) (all_map (λ x r. record { direction = own-small x.holder.border x.holder.purchase; energy = r }) (all-unmapped offer_in c.args.offers.now c.requires.in_range))
 
 pub returns-clause-flows : goal.returns-clause-flows
-returns-clause-flows c b e h =
+returns-clause-flows c b e above below =
     let os = c.args.offers.now in
-    c.flows.ensures.sums given (all-every (λ x a h. search rules) os) (way_of b e)
-    ∙ flow-said given offer_in (λ o. o.holder) (λ o. o.matched) (λ o. true) (λ x. refl) (λ x. refl) b e os
+    c.flows.ensures.sums given (all-every (λ x a h. search rules) os) (direction b e)
+    ∙ flow-said given offer_in (λ o. o.holder) (λ o. o.matched) (λ o. true) (λ x. refl) (λ x. refl) b e above below os
     ∙ ap (λ ys. flow (λ (o : RuleOffer). o.holder) (λ o. o.matched) b e ys) (keep-all (offers_in os))

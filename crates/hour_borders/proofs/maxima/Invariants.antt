@@ -3,5 +3,5 @@ use Rattle.hour_borders.specs.Limits.{maximum_in}
 use Rattle.hour_borders.proofs.LimitLaws.{Filled}
 use Rattle.hour_borders.proofs.maxima.Given as goal
 
-abbrev pub invariant-loop-w : goal.invariant-loop-w
-invariant-loop-w l = Filled None (λ v. maximum_in (get_or l.capacities v None) l.executions l.market (get_or l.legacy v 0) v) l.w l.maxima
+abbrev pub invariant-loop-d : goal.invariant-loop-d
+invariant-loop-d l = Filled None (λ v. maximum_in (get_or l.capacities v None) l.executions l.market (get_or l.legacy v 0) v) l.d l.maxima

@@ -15,7 +15,7 @@ loop-x-preserved g c =
     (rw (← c.x-item.is) at (all-at i x c.requires.ranged (omega arith))) c.of.result (record { shown = _; shows = refl; says = record { met = c.of.ensures } }) in
     record {
       count = omega (arith, c.push.ensures.len);
-      ranged = rw (c.push.ensures.items, c.energy_in.ensures) (ranged-last c.loop-x.energies.items _ c.loop-x.invariant.ranged (energy-ranged c.args.w c.of.result within));
+      ranged = rw (c.push.ensures.items, c.energy_in.ensures) (ranged-last c.loop-x.energies.items _ c.loop-x.invariant.ranged (energy-ranged c.args.d c.of.result within));
       said = λ amount k.
           let said : c.of.result ≡ amount x =
           (rw (← c.x-item.is) at (all-at i x k (omega arith))) c.of.result (record { shown = _; shows = refl; says = record { met = c.of.ensures } }) in

@@ -10,5 +10,5 @@ invariant-loop-x g l = record {
   count : length l.energies.items ≡ l.x-index;
   ranged : Ranged l.energies.items;
   said : (amount : g.row.T.Denot → Amount) → All (λ x. (a : Amount) → FnReturnsAt g.F.Fn l.of x a → a ≡ amount x) l.holders
-      → l.energies.items ≡ map (energy_in l.w) (map amount (take l.x-index l.holders));
+      → l.energies.items ≡ map (energy_in l.d) (map amount (take l.x-index l.holders));
 }

@@ -1,6 +1,6 @@
 use Rattle.std.proofs.Common.{◌≡◌, ◌-◌, refl, ap, sym, ◌∙◌, arith}
 use Rattle.hour_offers.specs.View.{offers_in}
-use Rattle.hour_borders.specs.Ways.{over_in}
+use Rattle.hour_borders.specs.Directions.{over_in}
 use Rattle.withdraw.proofs.StepLaws.{offered-fits, counted-abroad, flows-abroad}
 use Rattle.withdraw.proofs.RoundLaws.{bound-said, start-said, out-said, end-said, next-said}
 use Rattle.withdraw.proofs.withdraw.Goals as goal
@@ -14,13 +14,13 @@ loop-steps-init c =
     record {
       repeating = start-said (b ∙ c.step_bound-bound.ensures ∙ bound-said c.args.offers.now) c.requires.traded c.requires.laid;
       beside = record { places = c.of-abroad.ensures.places; offers = c.of-abroad.ensures.offers };
-      flows = λ b e o h. c.requires.flows b e h;
+      flows = c.requires.flows;
     }
 
 pub returns-then-not-passed : goal.returns-then-not-passed
 returns-then-not-passed c =
     end-said (start-said refl c.requires.traded c.requires.laid) (over_in c.excesses.result)
-    (c.excesses.ensures.result_value (offers_in c.args.offers.now) (λ b e o h. c.requires.flows b e h)) (sym c.passed.ensures ∙ c.if-not-passed.true)
+    (c.excesses.ensures.result_value (offers_in c.args.offers.now) c.requires.flows) (sym c.passed.ensures ∙ c.if-not-passed.true)
 
 pub returns-then-not-passed-2 : goal.returns-then-not-passed-2
 returns-then-not-passed-2 c =

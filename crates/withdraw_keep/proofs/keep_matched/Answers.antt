@@ -2,7 +2,7 @@ use Rattle.std.proofs.Common.{◌∙◌, ap, arith}
 use Rattle.std.proofs.lemmas.List.{get_or_default}
 use Rattle.std.proofs.lemmas.List.Edits.{map_over_more}
 use Rattle.hour_offers.specs.View.{offers_in}
-use Rattle.hour_borders.specs.Ways.{over_in}
+use Rattle.hour_borders.specs.Directions.{over_in}
 use Rattle.withdraw_keep.proofs.ChangeLaws.{all-written}
 use Rattle.withdraw_keep.proofs.KeptLaws.{kept, kept-offers, kept-changed}
 use Rattle.withdraw_keep.proofs.keep_matched.Goals as goal

@@ -1,14 +1,12 @@
-use Rattle.std.proofs.Common.{sym, ◌∙◌, rules, ◌<◌}
+use Rattle.std.proofs.Common.{sym, ◌∙◌}
 use Rattle.hour_offers.specs.View.{offer_in}
 use Rattle.withdraw_keep.proofs.KeptLaws.{among-over, among-outside}
 use Rattle.withdraw_keep.proofs.runs_over.Goals as goal
 
-pub returns-then-contains : goal.returns-then-contains
-returns-then-contains c =
-    let h : 0 < c.args.offer.now.holder.border = search rules in
-    let k : c.args.offer.now.holder.border < 5 = search rules in
-    rw (c.way.ensures.index) (sym (among-over c.args.over.now (offer_in c.args.offer.now) h k))
+pub returns-in-Some : goal.returns-in-Some
+returns-in-Some c =
+    let own = c.own_direction.ensures in
+    sym (among-over c.args.over.now (offer_in c.args.offer.now) c.in-Some.d (sym own.own ∙ c.in-Some.is) (own.within c.in-Some.d c.in-Some.is))
 
-pub returns-else-contains : goal.returns-else-contains
-returns-else-contains c =
-    c.if-contains.false ∙ sym (among-outside c.args.over.now (offer_in c.args.offer.now) (λ h k. search rules))
+pub returns-in-None : goal.returns-in-None
+returns-in-None c = sym (among-outside c.args.over.now (offer_in c.args.offer.now) (sym c.own_direction.ensures.own ∙ c.in-None.is))

@@ -1,5 +1,5 @@
 use Rattle.hour_offers.specs.View.{offer_in}
-use Rattle.hour_borders.specs.Ways.{over_in}
+use Rattle.hour_borders.specs.Directions.{over_in}
 use Rattle.withdraw_keep.specs.Group.{group_in}
 use Rattle.withdraw_take.proofs.GivenLaws.{gives-among}
 use Rattle.withdraw_take.proofs.gives_way.Goals as goal

@@ -2,7 +2,7 @@ use Rattle.std.proofs.Common.{sym, ◌∙◌, ap, arith, length, get_or}
 use Rattle.std.proofs.lemmas.List.{get_or_default}
 use Rattle.rules.specs.Withdrawal.{remain}
 use Rattle.hour_offers.specs.View.{offers_in}
-use Rattle.hour_borders.specs.Ways.{over_in}
+use Rattle.hour_borders.specs.Directions.{over_in}
 use Rattle.withdraw_keep.specs.Group.{group_in}
 use Rattle.withdraw_take.specs.Given.{gives_in}
 use Rattle.withdraw_take.proofs.GivenLaws.{left-more, left-none, all-left, taken, taken-changed}

@@ -1,7 +1,7 @@
 use Rattle.std.proofs.Common.{◌≡◌, take}
 use Rattle.rules.specs.Withdrawal.{remain}
 use Rattle.hour_offers.specs.View.{offers_in}
-use Rattle.hour_borders.specs.Ways.{over_in}
+use Rattle.hour_borders.specs.Directions.{over_in}
 use Rattle.withdraw_keep.specs.Group.{group_in}
 use Rattle.withdraw_take.specs.Given.{gives_in}
 use Rattle.withdraw_take.proofs.take_from.Given as goal

@@ -1,4 +1,4 @@
-use Prim.Native.Nat.{ℕ, ◌-◌}
+use Prim.Native.Nat.{ℕ}
 use mathlib.Core.Path.{ap, ◌∙◌}
 use lib.ListN.{get_or}
 use Rattle.std.specs.Bool.{then_some}
@@ -6,24 +6,19 @@ use Rattle.std.specs.declared.result.Result.TheVariants.{Ok, Err}
 use Rattle.std.proofs.lemmas.Result.{err_from_is_err_and}
 use Rattle.session.specs.Bare.{bare_notice}
 use Rattle.query.proofs.ReplyLaws.{judged-alike}
-use Rattle.hour_borders.proofs.WayLaws.{way-inner}
-use Rattle.query_maximum.proofs.ShownLaws.{maximum-rows, way-direction}
+use Rattle.query_maximum.proofs.ShownLaws.{maximum-rows}
 use Rattle.query_maximum.proofs.MaximumQueryQuery.judge.Goals as goal
-
-pub overflow_sub-notice : goal.overflow_sub-notice
-overflow_sub-notice c = rw c.way-way_of.ensures.index (way-inner c.args.self.border c.args.self.export c.in_ok-at.ensures.found.low)
 
 pub returns-clause-found : goal.returns-clause-found
 returns-clause-found c =
     let f = c.in_ok-at.ensures.found in
-    let of = ap (λ w. w - 2) c.way-way_of.ensures.index ∙ way-direction c.args.self.border c.args.self.export f.low in
     record {
       borders = f;
-      way = c.way-way_of.ensures.index;
-      other = c.way-other.ensures.index;
+      direction = c.direction-along.ensures.index;
+      other = c.direction-other.ensures.index;
       capacity =
           c.then_some-capacity.ensures
-          ∙ ap (λ i. let n = get_or c.args.s.now.capacities i bare_notice in then_some n.given (get_or n.energies c.in_ok-at.at 0)) of;
+          ∙ ap (λ i. let n = get_or c.args.s.now.capacities i bare_notice in then_some n.given (get_or n.energies c.in_ok-at.at 0)) c.direction-along.ensures.index;
     }
 
 pub returns-in_err-at-clause-judges : goal.returns-in_err-at-clause-judges

@@ -1,14 +1,14 @@
 use mathlib.Core.Bool.{not}
 use native.Mathlib.Omega.{arith}
-use Rattle.hour_borders.proofs.WayLaws.{way-small}
+use Rattle.hour_borders.proofs.DirectionLaws.{direction-small}
 use Rattle.query_maximum.proofs.ShownLaws.{maximum-shown, maximum-absent}
 use Rattle.query_maximum.proofs.MaximumQueryQuery.show.Goals as goal
 
-pub figure-requires-clause-way : goal.figure-requires-clause-way
-figure-requires-clause-way c = let f = c.requires in rw f.way (way-small c.args.self.border c.args.self.export (omega (arith, f.borders.high)))
+pub figure-requires-clause-direction : goal.figure-requires-clause-direction
+figure-requires-clause-direction c = let f = c.requires in rw f.direction (direction-small c.args.self.border c.args.self.export (omega (arith, f.borders.high)))
 
 pub figure-requires-clause-other : goal.figure-requires-clause-other
-figure-requires-clause-other c = let f = c.requires in rw f.other (way-small c.args.self.border (not c.args.self.export) (omega (arith, f.borders.high)))
+figure-requires-clause-other c = let f = c.requires in rw f.other (direction-small c.args.self.border (not c.args.self.export) (omega (arith, f.borders.high)))
 
 pub returns-in-Some : goal.returns-in-Some
 returns-in-Some c = rw c.figure.ensures (λ b sound e. maximum-shown _ _ _ _ _ c.requires b sound e _ c.in-Some.is c.args.self.maximum)

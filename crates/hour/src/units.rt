@@ -1,0 +1,210 @@
+// Whether the units of an hour's lodgements are such as a session's hours have. Both kinds stand in one list, offers first.
+ghost use Rattle.std.specs.Prelude.{◌≡◌, ◌≤◌, ◌+◌, ◌++◌, ◌<◌, cond, eqb, map, length};
+ghost use Rattle.std.specs.List.{list_any};
+ghost use Rattle.rules.specs.Lists.{All, any};
+ghost use Rattle.rules.specs.Units.{passes};
+ghost use Rattle.hour_offers.specs.View.{execution_in, executions_in};
+ghost use Rattle.hour_offers.specs.Sound.{ExecutionInRange};
+ghost use Rattle.hour_borders.specs.Directions.{published_in};
+ghost use Rattle.hour.specs.View.{energy_among, fresh_in, hour_in};
+ghost use Rattle.hour.specs.Units.{lodgement_of, lodgements_of, unit_energy, line_in, any_pair, last_ones, same_unit, clash, beyond, is_over, agree};
+ghost use Rattle.hour.specs.Ready.{InRange, are_units};
+
+use crate::Hour;
+use arrayvec::ArrayVec;
+use hour_offers::{Execution, Offer};
+use rules::{DIRECTIONS, LODGEMENTS, MAX_ENERGY, UNITS};
+
+// Offers as executions are: a holder and an energy. A slice's type does not tell that they are at most 128.
+fn as_lodgements(offers: &[Offer]) -> ArrayVec<Execution, LODGEMENTS>
+    requires { length offers.now ≤ 128 }
+    ensures lodgements { executions_in result.items ≡ map lodgement_of (map fresh_in offers.now) }
+    ensures same_length { length result.items ≡ length offers.now }
+{
+    let mut lodgements = ArrayVec::new();
+    for offer in offers {
+        lodgements.push(Execution {
+            holder: offer.holder,
+            energy: offer.offered,
+        });
+    }
+    lodgements
+}
+
+// Executions behind them.
+fn add(executions: &[Execution], lodgements: &mut ArrayVec<Execution, LODGEMENTS>)
+    requires { length lodgements.old.items + length executions.now ≤ 128 }
+    ensures { lodgements.new.items ≡ lodgements.old.items ++ executions.now }
+{
+    for execution in executions {
+        lodgements.push(*execution);
+    }
+}
+
+// Whether two lodgements have one number, or one unit's number and two units' border, side or mark.
+#[tactic(auto, unfolding(crate::specs::Units::clash))]
+fn clash(x: &Execution, y: &Execution) -> bool
+    ensures { result ≡ clash (execution_in x.now) (execution_in y.now) }
+{
+    let (a, b) = (&x.holder, &y.holder);
+    a.number == b.number
+        || (a.unit == b.unit
+            && (a.border != b.border || a.purchase != b.purchase || a.legacy != b.legacy))
+}
+
+// Whether one of some lodgements does with this one.
+fn clashes(x: &Execution, others: &[Execution]) -> bool
+    ensures { result ≡ list_any (λ y. clash (execution_in x.now) (execution_in y)) others.now }
+{
+    others.iter().any(|y| clash(x, y))
+}
+
+// Whether two of some lodgements do.
+fn any_clash(lodgements: &[Execution]) -> bool
+    ensures { result ≡ any_pair clash (executions_in lodgements.now) }
+{
+    let mut left = lodgements;
+    while let Some((x, behind)) = left.split_first() {
+        if clashes(x, behind) {
+            return true;
+        }
+        left = behind;
+    }
+    false
+}
+
+// Whether one of some lodgements is of this one's unit.
+#[tactic(auto, unfolding(crate::specs::Units::same_unit))]
+fn stands_among(x: &Execution, others: &[Execution]) -> bool
+    ensures { result ≡ list_any (λ y. same_unit (execution_in x.now) (execution_in y)) others.now }
+{
+    others.iter().any(|y| x.holder.unit == y.holder.unit)
+}
+
+// How many units some lodgements are of: each is counted at its last one.
+fn units_of(lodgements: &[Execution]) -> usize
+    requires { length lodgements.now ≤ 128 }
+    ensures { result ≡ length (last_ones same_unit (executions_in lodgements.now)) }
+{
+    let mut left = lodgements;
+    let mut count = 0;
+    while let Some((x, behind)) = left.split_first() {
+        if !stands_among(x, behind) {
+            count += 1;
+        }
+        left = behind;
+    }
+    count
+}
+
+// A lodgement's energy, if it is the unit's.
+fn own(x: &Execution, unit: u32) -> u32
+    ensures own { result ≡ cond (eqb x.now.holder.unit unit) x.now.energy 0 }
+    ensures within { result ≤ x.now.energy }
+{
+    if x.holder.unit == unit { x.energy } else { 0 }
+}
+
+// A unit's energy among some lodgements.
+fn energy_of(lodgements: &[Execution], unit: u32) -> u32
+    requires few { length lodgements.now ≤ 128 }
+    requires in_range { All ExecutionInRange (executions_in lodgements.now) }
+    ensures { result ≡ unit_energy (executions_in lodgements.now) unit }
+{
+    let mut sum = 0;
+    for x in lodgements {
+        sum += own(x, unit);
+    }
+    sum
+}
+
+// A direction's capacity. Border 0 has no direction.
+fn capacity(capacities: &[Option<u32>; DIRECTIONS], border: u32, export: bool) -> Option<u32>
+    requires border { border < 5 }
+    ensures { result ≡ energy_among (published_in capacities.now) border export }
+{
+    if border == 0 {
+        return None;
+    }
+    capacities[hour_borders::direction(border, export)]
+}
+
+// Whether an energy passes limit 12: "at a border with both directions published, the sum of the two capacities". What is left of it
+// above the one is compared with the other, since the type of an option in an array does not tell that two can be added.
+#[tactic(auto, unfolding(crate::specs::Units::line_in, crate::specs::Units::both_of, rules::specs::Units::passes), using(crate::proofs::LineLaws::sum_above))]
+fn passes_line(capacities: &[Option<u32>; DIRECTIONS], border: u32, energy: u32) -> bool
+    requires border { border < 5 }
+    ensures { result ≡ passes energy (line_in (published_in capacities.now) border) }
+{
+    let Some(export) = capacity(capacities, border, true) else {
+        return false;
+    };
+    let Some(import) = capacity(capacities, border, false) else {
+        return false;
+    };
+    export < energy && import < energy - export
+}
+
+// Whether a lodgement's unit has more than any unit at its border can have.
+#[tactic(auto, unfolding(crate::specs::Units::is_over, crate::specs::Units::beyond))]
+fn is_over(capacities: &[Option<u32>; DIRECTIONS], lodgements: &[Execution], x: &Execution) -> bool
+    requires few { length lodgements.now ≤ 128 }
+    requires in_range { All ExecutionInRange (executions_in lodgements.now) }
+    requires border { x.now.holder.border < 5 }
+    ensures { result ≡ is_over (published_in capacities.now) (executions_in lodgements.now) (execution_in x.now) }
+{
+    let energy = energy_of(lodgements, x.holder.unit);
+    MAX_ENERGY < energy || passes_line(capacities, x.holder.border, energy)
+}
+
+// Whether the unit of one of them has.
+fn any_over(capacities: &[Option<u32>; DIRECTIONS], lodgements: &[Execution]) -> bool
+    requires few { length lodgements.now ≤ 128 }
+    requires in_range { All ExecutionInRange (executions_in lodgements.now) }
+    ensures { result ≡ any (is_over (published_in capacities.now) (executions_in lodgements.now)) (executions_in lodgements.now) }
+{
+    for x in lodgements {
+        if is_over(capacities, lodgements, x) {
+            return true;
+        }
+    }
+    false
+}
+
+// The lodgements of an hour.
+#[tactic(auto, unfolding(crate::specs::Units::lodgements_of, crate::specs::View::hour_in))]
+fn lodgements(h: &Hour) -> ArrayVec<Execution, LODGEMENTS>
+    requires { length h.now.offers.items + length h.now.executions.items ≤ 128 }
+    ensures { executions_in result.items ≡ lodgements_of (hour_in h.now) }
+{
+    let mut lodgements = as_lodgements(&h.offers);
+    add(&h.executions, &mut lodgements);
+    lodgements
+}
+
+// Whether no two of some lodgements are of one unit.
+fn of_many(lodgements: &[Execution]) -> bool
+    requires { length lodgements.now ≤ 128 }
+    ensures { result ≡ eqb (length (last_ones same_unit (executions_in lodgements.now))) (length (executions_in lodgements.now)) }
+{
+    units_of(lodgements) == lodgements.len()
+}
+
+// Whether the units of some lodgements are such as a session has.
+#[tactic(auto, unfolding(crate::specs::Units::agree))]
+fn units_agree(capacities: &[Option<u32>; DIRECTIONS], lodgements: &[Execution]) -> bool
+    requires few { length lodgements.now ≤ 128 }
+    requires in_range { All ExecutionInRange (executions_in lodgements.now) }
+    ensures { result ≡ agree (published_in capacities.now) (executions_in lodgements.now) }
+{
+    units_of(lodgements) <= UNITS && !any_clash(lodgements) && !any_over(capacities, lodgements)
+}
+
+// Whether the units of an hour that is in its ranges are such as a session's hours have (`Ready` of specs/Ready.antt).
+#[tactic(auto, unfolding(crate::specs::Ready::are_units, crate::specs::View::hour_in))]
+pub fn units_ready(h: &Hour) -> bool
+    requires { InRange h.now }
+    ensures { result ≡ are_units h.now }
+{
+    of_many(&as_lodgements(&h.offers)) && units_agree(&h.capacities, &lodgements(h))
+}
