@@ -81,7 +81,7 @@ fn run_call(s: Session, kind: Kind, p: &[u8]) -> Effect
         Kind::Register => run_register(s, p),
         Kind::Capacity => run_capacity(s, p),
         Kind::Available => run_available(s, p),
-        Kind::Lodge => lodge::lodge::lodge(s, p),
+        Kind::Lodge => lodge::lodge(s, p),
         Kind::Annul => run_annul(s, p),
         Kind::Close => close::close(s),
         Kind::Clear => clear::clear(s),

@@ -126,7 +126,7 @@ pub extern "C" fn gate_capacity(s: &mut Session, notice: Capacities) -> Response
 pub extern "C" fn gate_lodge(s: &mut Session, message: &[u8]) -> Response
     ensures { Met s.old (lodge message.now) (record { session = s.new; answer = result }) }
 {
-    let step = lodge::lodge::lodge_change(s, message);
+    let step = lodge::lodge_change(s, message);
     settle(s, step)
 }
 

@@ -43,7 +43,7 @@ fn effect(s: Session, call: Call) -> Effect
         Call::Register(unit) => register::register(s, unit),
         Call::Capacity(notice) => notify_capacity::capacity(s, notice),
         Call::Available(notice) => notify_unavailability::available(s, notice),
-        Call::Lodge(message) => lodge::lodge::lodge(s, message.as_slice()),
+        Call::Lodge(message) => lodge::lodge(s, message.as_slice()),
         Call::Annul(key) => annul::annul(s, key),
         Call::Close => close::close(s),
         Call::Clear => clear::clear(s),
@@ -65,7 +65,7 @@ fn lodge_message(session: &mut Session, fields: Fields) -> Response
     let mut message = [0u8; 108];
     match message_writer::write_fields(&fields, &mut message) {
         Ok(count) => {
-            let effect = lodge::lodge::lodge(*session, &message[..count]);
+            let effect = lodge::lodge(*session, &message[..count]);
             *session = effect.session;
             effect.answer
         }

@@ -5,7 +5,7 @@ use Rattle.session_changes.specs.Changes.{standing_with}
 use Rattle.session_changes.proofs.StepLaws.{step-refused, step-entered}
 use Rattle.lodge_limits.proofs.JudgeLaws.{judged-for}
 use Rattle.lodge.proofs.LodgeLaws.{lodge-entered}
-use Rattle.lodge.proofs.lodge.lodge_change.Goals as goal
+use Rattle.lodge.proofs.lodge_change.Goals as goal
 
 pub returns-in_err-judge-clause-met : goal.returns-in_err-judge-clause-met
 returns-in_err-judge-clause-met c =
