@@ -18,9 +18,20 @@ pub struct Date {
     pub day: u32,
 }
 
+// "Dates run from 2002-01-01 to 2099-12-31"
+const FIRST_YEAR: u32 = 2002;
+
+const LAST_YEAR: u32 = 2099;
+
+// "other days 24"
+const OTHER_DAY: u32 = 24;
+
+// The name of a day's last hour, whatever its length.
+const LAST_NAME: u32 = 23;
+
 // The first date that a session can have.
 pub const FIRST: Date = Date {
-    year: 2002,
+    year: FIRST_YEAR,
     month: 1,
     day: 1,
 };
@@ -60,7 +71,7 @@ fn days_of_month(year: u32, month: u32) -> u32
 pub fn is_date(d: Date) -> bool
     ensures { result ≡ is_date (date_in d) }
 {
-    (2002..=2099).contains(&d.year)
+    (FIRST_YEAR..=LAST_YEAR).contains(&d.year)
         && (1..=12).contains(&d.month)
         && (1..=days_of_month(d.year, d.month)).contains(&d.day)
 }
@@ -106,7 +117,7 @@ pub fn hours_of(d: Date) -> u32
     match d.month {
         3 if is_last_sunday(d) => SHORT_DAY,
         10 if is_last_sunday(d) => LONG_DAY,
-        _ => 24,
+        _ => OTHER_DAY,
     }
 }
 
@@ -181,7 +192,7 @@ fn hour_of(hours: u32, c: Clock) -> Option<u32>
         0..=1 => Some(c.name + 1),
         2 if hours == SHORT_DAY => None,
         2 => Some(3),
-        3..=23 => Some(hours - (23 - c.name)),
+        3..=LAST_NAME => Some(hours - (LAST_NAME - c.name)),
         _ => None,
     }
 }
