@@ -13,6 +13,7 @@ use lodge_keys::{holder_for, key_of};
 use message::Fields;
 use message::judge::bad_fields;
 use message_ranges::bad_map;
+use rules::LONG_DAY;
 use rules::row::Row;
 use session::{Holder, Session};
 
@@ -21,7 +22,7 @@ fn names_beyond(hours: u32, map: u32) -> bool
     requires { hours ≤ 25 }
     ensures { result ≡ names_beyond hours map }
 {
-    map % (1u32 << (25 - hours)) != 0
+    map % (1u32 << (LONG_DAY - hours)) != 0
 }
 
 // Row 4: "empty map, hour outside 1 to H", of an H that is at most 25, as above.

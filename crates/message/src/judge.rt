@@ -14,10 +14,10 @@ pub fn named(map: u32, h: usize) -> bool
     requires last { h ≤ 25 }
     ensures { result ≡ names map h }
 {
-    (map >> (25 - h)) % 2 == 1
+    (map >> (HOURS - h)) % 2 == 1
 }
 
-// In hour h the energy or the price is outside its range. The hour names a bit of the map and a place in two arrays of C's struct.
+// In hour h the energy or the price is outside its range. The hour names a bit of the map and an index in two arrays of C's struct.
 #[tactic(auto, unfolding(rules::specs::Message::bad_hour, message_ranges::specs::Slots::bad_slot, rules::specs::Lists::hourly))]
 fn bad_hour(m: &Fields, h: usize, top: u32) -> bool
     requires first { 1 ≤ h }

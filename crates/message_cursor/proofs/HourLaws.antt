@@ -1,4 +1,4 @@
--- The named hours one after the other: what is taken of those that are left, put into two lists.
+-- The named hours one after the other: their slots are taken and put into two lists.
 use Prim.Native.Nat.{ℕ, zero, suc, ◌-◌, ◌^◌, ◌<◌}
 use mathlib.Core.Path.{◌≡◌, refl, ◌∙◌}
 use mathlib.Core.Bool.{Bool}

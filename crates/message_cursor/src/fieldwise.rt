@@ -11,6 +11,7 @@ use message::judge::bad_fields;
 use message::{Fields, NO_FIELDS, Reading};
 use message_ranges::bad_map;
 use message_reader::{bad_form, top_of};
+use rules::HOURS;
 use rules::row::Row;
 
 // Fills in the energy and the price of each hour that the map names, "energy 17, and for an offer price 15", after the fields before the slots
@@ -42,7 +43,7 @@ fn fields_of(s: &[u8]) -> Fields
     let mark = reader.take(1);
     let unit = reader.take(16);
     let contract = reader.take(16);
-    let map = reader.take(25);
+    let map = reader.take(HOURS);
     let mut m = Fields {
         execution: kind == 1,
         default: mark == 1,

@@ -92,7 +92,7 @@ module _ (f : Form) (bytes : List ℕ) where
   unfolding bad_fields bad_key decode fields_of
   fields-judged = ap (λ b. bad_number (field 7 16 (bits_of bytes)) || bad_contract (is_execution (bits_of bytes)) (field 23 16 (bits_of bytes)) || b) slots-judged
 
-  -- the same, of a message that is read by form f, of the fields before its slots and of what the tests of its key and of its slots found
+  -- the same for a message of form f: m are its fields before the slots, k and b what the tests of key and slots found
   pub fields_told : form_of bytes ≡ f → (m : Read) → m ≡ blank (bits_of bytes) → (k b : Bool) → k ≡ (bad_number m.unit || bad_contract m.execution m.contract)
       → b ≡ bad_hours f bytes m → wrong_range bytes ≡ (k || b)
   unfolding wrong_range message_of

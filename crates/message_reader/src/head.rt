@@ -7,6 +7,7 @@ ghost use Rattle.message_reader.specs.Slots.{blank};
 use message::Fields;
 use message::form::{length_for, slots_end};
 use message_bits::{part, slot_at};
+use rules::HOURS;
 
 #[derive(Clone, Copy)]
 pub struct Head<'a> {
@@ -55,7 +56,7 @@ impl<'a> Head<'a> {
         ensures { result ≡ wrong_form self.entry.bytes.now }
     {
         let kind = self.field(4, 2);
-        let map = self.field(39, 25);
+        let map = self.field(39, HOURS);
         // All three are looked at: with `||` each would be a branch by itself, to run and to prove.
         let wrong = (self.bytes.len() != length_for(kind == 1, map))
             | (self.field(0, 4) != 1)
@@ -73,6 +74,6 @@ impl<'a> Head<'a> {
         m.default = self.field(6, 1) == 1;
         m.unit = self.field(7, 16);
         m.contract = self.field(23, 16);
-        m.map = self.field(39, 25);
+        m.map = self.field(39, HOURS);
     }
 }
