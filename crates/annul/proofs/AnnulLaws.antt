@@ -28,36 +28,36 @@ module _ (s : Session) (k : Key) where
   abbrev call : D.Call
   call = D.annul (key_in k)
 
-  abbrev Judged : Result ℕ Code.Row → Type 0
-  Judged j = JudgesRow s call j
+  abbrev ByTable : Result ℕ Code.Row → Type 0
+  ByTable j = JudgesRow s call j
 
   abbrev bad : Bool
   bad = bad_key (key_in k)
 
-  pub annul-2 : s.closed ≡ true → Judged (Err Gate)
+  pub annul-2 : s.closed ≡ true → ByTable (Err Gate)
   unfolding D.rows_of D.gate_row D.call_rows D.change_row row first_row given_by
   annul-2 h b e = rw (closed-as s b e, h)
 
   module _ (h : s.closed ≡ false) where
-    pub annul-5 : bad ≡ true → Judged (Err Range)
+    pub annul-5 : bad ≡ true → ByTable (Err Range)
     unfolding D.rows_of D.gate_row D.call_rows D.change_row row first_row given_by
     annul-5 t b e = rw (t, closed-as s b e, h)
 
     module _ (t : bad ≡ false) where
-      pub annul-6 : (r : Code.Row) → NotHolding s k r → Judged (Err r)
+      pub annul-6 : (r : Code.Row) → NotHolding s k r → ByTable (Err r)
       unfolding D.rows_of D.gate_row D.call_rows D.change_row row first_row given_by
       annul-6 r x b e = rw (t, x.bad b e, x.row, closed-as s b e, h)
 
       module _ {a : Holder} (x : Holding s k a) where
-        annul-13 : key_index s k ≡ None → Judged (Err Absent)
+        annul-13 : key_index s k ≡ None → ByTable (Err Absent)
         unfolding D.rows_of D.gate_row D.call_rows D.change_row row first_row given_by
         annul-13 n b e = rw (t, x.good b e, stands-none s b e k n, closed-as s b e, h)
 
-        annul-0 : (p : ℕ) → key_index s k ≡ Some p → Judged (Ok p)
+        annul-0 : (p : ℕ) → key_index s k ≡ Some p → ByTable (Ok p)
         unfolding D.rows_of D.gate_row D.call_rows D.change_row row first_row given_by
         annul-0 p n b e = rw (t, x.good b e, (stands-some s b e k p n).0, closed-as s b e, h)
 
-        pub annul-last : (o : Option ℕ) → key_index s k ≡ o → Judged (ok_or o Absent)
+        pub annul-last : (o : Option ℕ) → key_index s k ≡ o → ByTable (ok_or o Absent)
         annul-last None n = annul-13 n
         annul-last (Some p) n = annul-0 p n
 

@@ -105,9 +105,9 @@ module _ (H : ℕ) (own : List ℕ) (load : ℕ → ℕ) where
           by_bool (eqb low 0) (λ t. absurd (none-some h (rw t at e)))
           (λ t. let f : Some low ≡ Some h = rw t at e in rw (low-is, t) (ap (λ o. some (number_of l.row, unwrap_or o 0)) f))
 
-      pub first-kept : hour_at low ≡ None → first_passed (l ∷ ls) H own load ≡ first_passed ls H own load
+      pub first-unpassed : hour_at low ≡ None → first_passed (l ∷ ls) H own load ≡ first_passed ls H own load
       unfolding first_passed limit_rows limit_row first_row given_by
-      first-kept e = by_bool (eqb low 0) (λ t. rw (low-is, t)) (λ t. absurd (none-some low (sym (rw t at e))))
+      first-unpassed e = by_bool (eqb low 0) (λ t. rw (low-is, t)) (λ t. absurd (none-some low (sym (rw t at e))))
 
   -- that at an index
   module _ (ls : List Code.Limit) (i : ℕ) (d : Code.Limit) (inside : i < length ls) where
@@ -124,8 +124,8 @@ module _ (H : ℕ) (own : List ℕ) (load : ℕ → ℕ) where
       pub at-passed : (h : ℕ) → hour_at (lowest (passed_at own load (laid es)) H) ≡ Some h → first_passed (drop i ls) H own load ≡ some (number_of l.row, h)
       at-passed h e = from-here ∙ first-passed l (drop (i + 1) ls) es is h e
 
-      pub at-kept : hour_at (lowest (passed_at own load (laid es)) H) ≡ None → first_passed (drop i ls) H own load ≡ first_passed (drop (i + 1) ls) H own load
-      at-kept e = from-here ∙ first-kept l (drop (i + 1) ls) es is e
+      pub at-unpassed : hour_at (lowest (passed_at own load (laid es)) H) ≡ None → first_passed (drop i ls) H own load ≡ first_passed (drop (i + 1) ls) H own load
+      at-unpassed e = from-here ∙ first-unpassed l (drop (i + 1) ls) es is e
 
   pub at-end : (ls : List Code.Limit) (n : ℕ) → length ls ≤ n → first_passed (drop n ls) H own load ≡ none
   unfolding first_passed limit_rows first_row given_by

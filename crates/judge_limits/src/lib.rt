@@ -91,8 +91,8 @@ pub fn limits_of(
     ]
 }
 
-// The first of the limits that is passed, with the lowest hour in which it is: "The lowest applicable number is given", so those behind it
-// are not looked at. Asked is what `lowest_hour` asks.
+// The first limit that is passed, with the lowest hour in which it is. "The lowest applicable number is given", so the limits after it are not
+// looked at. It asks the same as `lowest_hour`.
 pub fn judge_energy(
     limits: &[Limit],
     own: &[u32; HOURS],

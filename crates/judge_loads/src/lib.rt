@@ -12,9 +12,9 @@ use session::Energies;
 // "the lowest hour in which that limit is passed", of hours 1 to `hours`. An hour's load is the lodgement's own energy and that of the others,
 // which are named by their indices. An hour without own energy is not named, and passes no limit. A load only grows while the others are
 // added, so the search ends as soon as it is above the limit. Two loops left by a label: document 01 names the form. `judge_energy` alone
-// takes the same parameters, so they are no struct. That `hours` fits is asked, since C's session has a plain
-// number; that the indices do, since a list of numbers has no type that tells of which slice. They are indices, not references: what says which are
-// counted (`CountedOf`, `accepted_for`) says it by index, and each contract would say the map from them.
+// takes the same parameters, so they are no struct. It asks that `hours` fits, since C's session has a plain number, and that the indices do, since
+// no type of a list says which slice its numbers index. They are indices, not references: `CountedOf` and `accepted_for` say by index which
+// lodgements are counted, and with references each contract would say the map from them.
 pub fn lowest_hour(
     own: &[u32; HOURS],
     energies: &[Energies],

@@ -20,7 +20,7 @@ use Rattle.lodge_keys.proofs.TakenLaws.{entered-image}
 use Rattle.lodge_judge.specs.Judging.{Room}
 use Rattle.lodge.specs.Entries.{EnteredFields}
 
--- a message's lodgement under a number behind the m that are left, those behind index p moved forward
+-- a message's lodgement enters under a number, after the m that are left; those after index p move forward
 abbrev pub entering : Fields → ℕ → ℕ → ℕ → Step StandingChange
 entering f p m number = record {
   change = record {
@@ -39,7 +39,7 @@ module _ (s : Session) (f : Fields) (o : Option ℕ) (at : o ≡ key_index s (ke
   abbrev left : ℕ
   left = left_of s.standing o
 
-  -- the index behind those left is free
+  -- the index after those left is free
   room-left : left < 128
   room-left = rw at r.index
 

@@ -19,21 +19,21 @@ use Rattle.lodge_keys.specs.Sums.{Below, Added, energy_of, SumsAt}
 pub record Adding (before row after : List ℕ) (h : ℕ) : Type 0 where
   pub added : (k : ℕ) → k < h → get_or after k 0 ≡ get_or before k 0 + get_or row k 0
   pub below : (i : ℕ) → Below i before → (k : ℕ) → k < h → k < 25 → get_or after k 0 ≤ (i + 1) * 4294967295
-  pub kept : (k : ℕ) → h ≤ k → get_or after k 0 ≡ get_or before k 0
+  pub unchanged : (k : ℕ) → h ≤ k → get_or after k 0 ≡ get_or before k 0
 
 module _ (before row after : List ℕ) (h : ℕ) (p : Adding before row after h) where
   -- the next hour's sum is not added to yet
   pub adding-low : (i : ℕ) → h < 25 → Below i before → get_or after h 0 ≤ i * 4294967295
   unfolding Below
-  adding-low i l b = rw (p.kept h (omega arith)) (b h l)
+  adding-low i l b = rw (p.unchanged h (omega arith)) (b h l)
 
   pub adding-next : (v r : ℕ) → h < length after → r ≡ get_or row h 0 → r < 4294967296 → v ≡ get_or after h 0 + r → Adding before row (set after h v) (h + 1)
   adding-next v r l e low q =
-      let was = p.kept h (omega arith) in
+      let was = p.unchanged h (omega arith) in
       record {
         added = λ k n. ⊎_elim (λ (x : k ≡ h). rw (x, get_or-set_same after h v 0 l) (omega (arith, was))) (λ n. other k (λ x. absurd (omega arith)) ∙ p.added k n) (eq-or-lt_of_le (last k n));
         below = λ i b k n m. ⊎_elim (λ (x : k ≡ h). rw (x, get_or-set_same after h v 0 l) (omega (arith, adding-low i (omega arith) b))) (λ n. rw (other k (λ x. absurd (omega arith))) (p.below i b k n m)) (eq-or-lt_of_le (last k n));
-        kept = λ k n. other k (λ x. absurd (omega arith)) ∙ p.kept k (omega arith);
+        unchanged = λ k n. other k (λ x. absurd (omega arith)) ∙ p.unchanged k (omega arith);
       }
     where
       last : (k : ℕ) → k < h + 1 → k ≤ h

@@ -1,4 +1,4 @@
--- A key's lodgement taken out by moving those behind it forward, and one put behind those that are left.
+-- A key's lodgement is taken out: those after it move forward. A new one is put after those that are left.
 use Prim.Native.Nat.{ℕ, zero, suc, ◌+◌, ◌-◌, ◌≤◌, ◌<◌}
 use mathlib.Core.Path.{◌≡◌, refl, sym, ap, ◌∙◌}
 use mathlib.Core.Bool.{Bool, true, false, cond, not, ◌&&◌, beq, false≢true}
@@ -78,7 +78,7 @@ module _ {A B : Type 0} (p : A → Bool) (f : A → B) where
       by_bool (p x) (λ e. rw (e, keep_all p (all_map (λ y g. g e) a)))
       (λ e. let m = rw e at h in rw e (ap suc (one_fewer o (omega arith))))
 
-  -- the one that passes taken out, y put behind the others
+  -- the one that passes is taken out, and y put after the others
   head-out : (x : A) {xs : List A} → p x ≡ true → All (λ z. p x ≡ true → p z ≡ false) xs → (n : ℕ) → n ≡ length xs → (rest : List B) (y : B)
       → set (moved (index_of p (x ∷ xs)) n (map f (x ∷ xs) ++ rest)) n y ≡ map f (others (x ∷ xs)) ++ (y ∷ rest)
   unfolding keep index_of
@@ -182,8 +182,8 @@ module _ {A : Type 0} (q : A → Bool) (l : List A) (n : ℕ) (fit : n ≤ lengt
 
 module _ (s : Session) (k : Key) (p m : ℕ) (at : p ≡ index_of (of_key k) (take s.standing s.lodgements)) (left : m ≡ left_at s.standing p) (free : m < 128)
     (b : B.Book) (sound : Sound b) (early : b.closed ≡ false) (e : s ≡ image b) where
-  abbrev kept : List L.Lodgement
-  kept = L.without (key_in k) b.standing
+  abbrev standing_left : List L.Lodgement
+  standing_left = L.without (key_in k) b.standing
 
   abbrev has_key : L.Lodgement → Bool
   has_key l = L.same_key l.key (key_in k)
@@ -197,8 +197,8 @@ module _ (s : Session) (k : Key) (p m : ℕ) (at : p ≡ index_of (of_key k) (ta
   left-book : m ≡ left_at (length b.standing) p
   left-book = left ∙ ap (λ n. left_at n p) (sym (standing-as s b e))
 
-  -- an empty index behind those left
-  taken-at : standing_with s (record { from = p; to = m; at = m; lodgement = no_lodgement; energies = no_energies; standing = m; last = s.last }) ≡ image (D.with_standing b kept b.last)
+  -- an empty index after those left
+  taken-at : standing_with s (record { from = p; to = m; at = m; lodgement = no_lodgement; energies = no_energies; standing = m; last = s.last }) ≡ image (D.with_standing b standing_left b.last)
   unfolding image verdicts_in hours_in D.with_standing L.without B.hours
   taken-at =
       rw (
@@ -210,16 +210,16 @@ module _ (s : Session) (k : Key) (p m : ℕ) (at : p ≡ index_of (of_key k) (ta
         open-stage b sound early,
       )
 
-  -- a lodgement behind those left
+  -- a lodgement after those left
   entered-at : (l : L.Lodgement) (last : ℕ)
-      → standing_with s (record { from = p; to = m; at = m; lodgement = lodgement_as l; energies = energies_as l; standing = m + 1; last = last }) ≡ image (D.with_standing b (kept ++ (l ∷ [])) last)
+      → standing_with s (record { from = p; to = m; at = m; lodgement = lodgement_as l; energies = energies_as l; standing = m + 1; last = last }) ≡ image (D.with_standing b (standing_left ++ (l ∷ [])) last)
   unfolding image verdicts_in hours_in D.with_standing L.without B.hours
   entered-at l last =
       rw (
         e,
         laid-over has_key lodgement_as once p m index-book left-book 128 no_lodgement free l,
         laid-over has_key energies_as once p m index-book left-book 128 no_energies free l,
-        length_last kept l,
+        length_last standing_left l,
         left-count has_key lodgement_as once p m index-book left-book,
         early,
         open-stage b sound early,
@@ -236,12 +236,12 @@ module _ (s : Session) (k : Key) (o : Option ℕ) (m : ℕ) (found : o ≡ key_i
   left : m ≡ left_at s.standing from
   left = rest ∙ (ap (left_of s.standing) found ∙ (left-as (of_key k) s.lodgements s.standing (lodgements-fit s b e) ∙ ap (left_at s.standing) (sym at)))
 
-  -- an empty index behind those left
+  -- an empty index after those left
   pub taken-image : standing_with s (record { from = from; to = m; at = m; lodgement = no_lodgement; energies = no_energies; standing = m; last = s.last })
       ≡ image (D.with_standing b (L.without (key_in k) b.standing) b.last)
   taken-image = taken-at s k from m at left free b sound early e
 
-  -- a lodgement behind those left
+  -- a lodgement after those left
   pub entered-image : (l : L.Lodgement) (last : ℕ)
       → standing_with s (record { from = from; to = m; at = m; lodgement = lodgement_as l; energies = energies_as l; standing = m + 1; last = last })
       ≡ image (D.with_standing b (L.without (key_in k) b.standing ++ (l ∷ [])) last)

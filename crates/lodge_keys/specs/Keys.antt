@@ -32,7 +32,7 @@ left_of n = elim [
   | Some p ↦ n - 1
 ]
 
--- where those behind it begin to move forward: nowhere, if none was found
+-- the index from which those after it move forward: none moves, if none was found
 abbrev pub from_at : ℕ → Option ℕ → ℕ
 from_at n = elim [
   | None ↦ n

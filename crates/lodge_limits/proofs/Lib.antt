@@ -1,3 +1,3 @@
-pub mod KeptLaws
+pub mod PassedLaws
 pub mod CountedLaws
 pub mod JudgeLaws

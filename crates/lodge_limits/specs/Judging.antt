@@ -12,8 +12,8 @@ use Rattle.lodge_keys.specs.Beside.{marks_for}
 use Rattle.lodge_pending.specs.declared.Pending.{Pending}
 
 -- a limit by hour is passed in no hour
-unfoldable pub kept : List ℕ → (ℕ → ℕ) → ℕ → List ℕ → Bool
-kept own load H limit = eqb (lowest (passed_at own load (laid limit)) H) 0
+unfoldable pub passed_nowhere : List ℕ → (ℕ → ℕ) → ℕ → List ℕ → Bool
+passed_nowhere own load H limit = eqb (lowest (passed_at own load (laid limit)) H) 0
 
 -- nothing refuses
 abbrev pub is_clear : Option (ℕ × ℕ) → Bool

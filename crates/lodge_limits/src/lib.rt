@@ -7,7 +7,7 @@ ghost use Rattle.session.specs.Parts.{said};
 ghost use Rattle.judge_limits.specs.Limits.{first_passed};
 ghost use Rattle.lodge_keys.specs.Sums.{load_on};
 ghost use Rattle.lodge_pending.specs.Awaiting.{Awaits};
-ghost use Rattle.lodge_limits.specs.Judging.{kept, is_clear, judged_for};
+ghost use Rattle.lodge_limits.specs.Judging.{passed_nowhere, is_clear, judged_for};
 
 use answer::Refusal;
 use judge_limits::{Limit, border_limit, judge_energy, limits_of};
@@ -16,17 +16,18 @@ use lodge_pending::Pending;
 use rules::HOURS;
 use session::Session;
 
-// Whether a limit is passed in none of the hours 1 to `hours`, by a lodgement's own energy and a sum. In an hour that it does not name its
-// energy is 0, which passes nothing. The hour is the index in three arrays, which two zips would say no plainer. No type says that `hours` is at most 25, here and below: C's session has a plain number.
-fn keeps(own: &[u32; HOURS], sums: &[u64; HOURS], hours: usize, limit: &[u64; HOURS]) -> bool
+// Whether a limit is passed in none of the hours 1 to `hours`, by a lodgement's own energy and a sum. In an hour that it does not name its energy
+// is 0, which passes nothing. The hour is the index in three arrays: two zips would be no plainer. No type says that `hours` is at most 25, here
+// and below: C's session has a plain number.
+fn passed_nowhere(own: &[u32; HOURS], sums: &[u64; HOURS], hours: usize, limit: &[u64; HOURS]) -> bool
     requires { hours ≤ 25 }
-    ensures { result ≡ kept own.now (load_on own.now sums.now) hours limit.now }
+    ensures { result ≡ passed_nowhere own.now (load_on own.now sums.now) hours limit.now }
 {
     (0..hours).all(|h| u64::from(own[h]) <= limit[h].saturating_sub(sums[h]))
 }
 
 // Whether none of the limits is passed: then the judgement by them is clear.
-fn keeps_all(limits: &[Limit], own: &[u32; HOURS], sums: &[u64; HOURS], hours: usize) -> bool
+fn none_passed(limits: &[Limit], own: &[u32; HOURS], sums: &[u64; HOURS], hours: usize) -> bool
     requires { hours ≤ 25 }
     ensures { result ≡ is_clear (first_passed limits.now hours own.now (load_on own.now sums.now)) }
 {
@@ -34,7 +35,7 @@ fn keeps_all(limits: &[Limit], own: &[u32; HOURS], sums: &[u64; HOURS], hours: u
         let Some(by_hour) = &limit.by_hour else {
             continue;
         };
-        if !keeps(own, sums, hours, by_hour) {
+        if !passed_nowhere(own, sums, hours, by_hour) {
             return false;
         }
     }
@@ -53,7 +54,7 @@ pub fn judge(s: &Session, p: &Pending) -> Result<(), Refusal>
     let line = border_limit(unit.border, &s.capacities);
     let limits = limits_of(unit, &s.notices[p.holder.at], line, p.fields.default);
     let sums = sums_of(&s.energies, counted);
-    if keeps_all(&limits, own, &sums, hours) {
+    if none_passed(&limits, own, &sums, hours) {
         return Ok(());
     }
     judge_energy(&limits, own, &s.energies, counted, hours)

@@ -39,8 +39,8 @@ module _ (s : Session) (u : U.TradingUnit) where
   call = D.register u
 
   -- the judgement is the table's
-  abbrev Judged : Result (Unit {0}) Code.Row → Type 0
-  Judged j = JudgesRow s call j
+  abbrev ByTable : Result (Unit {0}) Code.Row → Type 0
+  ByTable j = JudgesRow s call j
 
   abbrev bad : Bool
   bad = U.bad_unit u
@@ -51,28 +51,28 @@ module _ (s : Session) (u : U.TradingUnit) where
   abbrev second : Bool
   second = list_any (beside_unit u) (take s.enrolled s.units)
 
-  pub register-2 : s.closed ≡ true → Judged (Err Gate)
+  pub register-2 : s.closed ≡ true → ByTable (Err Gate)
   unfolding D.rows_of D.gate_row D.call_rows D.change_row row first_row given_by
   register-2 h b e = rw (closed-as s b e, h)
 
-  pub register-5 : s.closed ≡ false → bad ≡ true → Judged (Err Range)
+  pub register-5 : s.closed ≡ false → bad ≡ true → ByTable (Err Range)
   unfolding D.rows_of D.gate_row D.call_rows D.change_row row first_row given_by
   register-5 h k b e = rw (k, closed-as s b e, h)
 
-  pub register-7 : s.closed ≡ false → bad ≡ false → taken ≡ true → Judged (Err Taken)
+  pub register-7 : s.closed ≡ false → bad ≡ false → taken ≡ true → ByTable (Err Taken)
   unfolding D.rows_of D.gate_row D.call_rows D.change_row row first_row given_by
   register-7 h k t b e = rw (k, registered-as s b e u.number, any-list (number_is u.number) (take s.enrolled s.units), t, closed-as s b e, h)
 
-  pub register-8 : s.closed ≡ false → bad ≡ false → taken ≡ false → second ≡ true → Judged (Err Second)
+  pub register-8 : s.closed ≡ false → bad ≡ false → taken ≡ false → second ≡ true → ByTable (Err Second)
   unfolding D.rows_of D.gate_row D.call_rows D.change_row row first_row given_by
   register-8 h k t g b e = rw (k, registered-as s b e u.number, any-list (number_is u.number) (take s.enrolled s.units), t, second-as s b e u, any-list (beside_unit u) (take s.enrolled s.units), g, closed-as s b e, h)
 
-  pub register-9 : s.closed ≡ false → bad ≡ false → taken ≡ false → second ≡ false → 64 ≤ s.enrolled → Judged (Err Full)
+  pub register-9 : s.closed ≡ false → bad ≡ false → taken ≡ false → second ≡ false → 64 ≤ s.enrolled → ByTable (Err Full)
   unfolding D.rows_of D.gate_row D.call_rows D.change_row D.units_full row first_row given_by
   register-9 h k t g f b e =
       rw (k, registered-as s b e u.number, any-list (number_is u.number) (take s.enrolled s.units), t, second-as s b e u, any-list (beside_unit u) (take s.enrolled s.units), g, enrolled-as s b e, le-leb 64 s.enrolled f, closed-as s b e, h)
 
-  pub register-0 : s.closed ≡ false → bad ≡ false → taken ≡ false → second ≡ false → s.enrolled < 64 → Judged (Ok tt)
+  pub register-0 : s.closed ≡ false → bad ≡ false → taken ≡ false → second ≡ false → s.enrolled < 64 → ByTable (Ok tt)
   unfolding D.rows_of D.gate_row D.call_rows D.change_row D.units_full row first_row given_by
   register-0 h k t g f b e =
       rw (k, registered-as s b e u.number, any-list (number_is u.number) (take s.enrolled s.units), t, second-as s b e u, any-list (beside_unit u) (take s.enrolled s.units), g, enrolled-as s b e, lt-leb 64 s.enrolled f, closed-as s b e, h)

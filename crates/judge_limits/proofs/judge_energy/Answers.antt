@@ -1,6 +1,6 @@
 use mathlib.Core.Path.{sym, ◌∙◌}
 use native.Mathlib.Omega.{arith}
-use Rattle.judge_limits.proofs.RowLaws.{at-absent, at-passed, at-kept, at-end}
+use Rattle.judge_limits.proofs.RowLaws.{at-absent, at-passed, at-unpassed, at-end}
 use Rattle.judge_limits.proofs.judge_energy.Goals as goal
 
 pub loop-limit-preserved-in_default : goal.loop-limit-preserved-in_default
@@ -12,7 +12,7 @@ returns-in-Some-lowest_hour c =
 
 pub loop-limit-preserved : goal.loop-limit-preserved
 loop-limit-preserved c =
-    c.loop-limit.invariant ∙ at-kept _ _ _ _ c.loop-limit.limit-index _ (omega arith) _ c.in-Some.is (sym c.lowest_hour.ensures ∙ c.in_default-lowest_hour.is)
+    c.loop-limit.invariant ∙ at-unpassed _ _ _ _ c.loop-limit.limit-index _ (omega arith) _ c.in-Some.is (sym c.lowest_hour.ensures ∙ c.in_default-lowest_hour.is)
 
 pub returns : goal.returns
 returns c = sym (c.loop-limit.invariant ∙ at-end _ _ _ c.args.limits.now c.loop-limit.limit-index (omega arith))

@@ -1,7 +1,7 @@
 use Rattle.std.proofs.Common.{◌≡◌, drop}
 use Rattle.judge_limits.specs.Limits.{first_passed}
 use Rattle.lodge_keys.specs.Sums.{load_on}
-use Rattle.lodge_limits.proofs.keeps_all.Given as goal
+use Rattle.lodge_limits.proofs.none_passed.Given as goal
 
 abbrev pub invariant-loop-limit : goal.invariant-loop-limit
 invariant-loop-limit l =

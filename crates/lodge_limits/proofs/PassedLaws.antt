@@ -1,4 +1,4 @@
--- Limits that are kept in every hour, and a judgement that is clear exactly where all are: each way out.
+-- Limits passed in no hour, and a judgement that is clear exactly where all are: each way out.
 use Prim.Native.Nat.{ℕ, zero, suc, ◌+◌, ◌-◌, ◌≤◌, ◌<◌}
 use mathlib.Core.Path.{◌≡◌, refl, sym}
 use mathlib.Core.Bool.{Bool, true, false, false≢true}
@@ -17,7 +17,7 @@ use mathlib.Core.Option.{Option, some, none}
 use Rattle.std.specs.Prelude.{Some, None}
 use Rattle.std.specs.List.{list_all, range_with_len}
 use Rattle.lodge_keys.specs.Sums.{load_on}
-use Rattle.lodge_limits.specs.Judging.{kept, is_clear}
+use Rattle.lodge_limits.specs.Judging.{passed_nowhere, is_clear}
 
 -- Hour by hour
 
@@ -36,35 +36,35 @@ module _ (own sums limit : List ℕ) (h : ℕ) where
       (λ e. let z : get_or own h 0 ≡ 0 → ⊥ = λ q. absurd (omega (arith, eqb-false)) in within own (load_on own sums) limit h (omega (arith, load_at own sums h, z)))
 
   -- the test of the hour at an index
-  abbrev pub keeps_at : Bool
-  keeps_at = leb (get_or own h 0) (get_or limit h 0 - get_or sums h 0)
+  abbrev pub within_at : Bool
+  within_at = leb (get_or own h 0) (get_or limit h 0 - get_or sums h 0)
 
--- all hours keep it
+-- it is passed in none of the hours
 module _ (own sums limit : List ℕ) where
-  all_keep : (i n : ℕ) → list_all (keeps_at own sums limit) (range_with_len i n) ≡ eqb (first (passed_at own (load_on own sums) (laid limit)) 0 (from (suc i) n)) 0
+  all_within : (i n : ℕ) → list_all (within_at own sums limit) (range_with_len i n) ≡ eqb (first (passed_at own (load_on own sums) (laid limit)) 0 (from (suc i) n)) 0
   unfolding first from
-  all_keep i zero = refl
-  all_keep i (suc n) =
+  all_within i zero = refl
+  all_within i (suc n) =
       let e : suc (suc i) ≡ suc (i + 1) = omega arith in
-      by_bool (keeps_at own sums limit i)
-      (λ t. rw (t, within-load own sums limit i (leb-true (get_or own i 0) _ t), e) (all_keep (i + 1) n))
+      by_bool (within_at own sums limit i)
+      (λ t. rw (t, within-load own sums limit i (leb-true (get_or own i 0) _ t), e) (all_within (i + 1) n))
       (λ t. rw (t, over-load own sums limit i (leb-false (get_or own i 0) _ t)) (sym (ne_eqb (suc i) 0 (λ z. absurd (omega arith)))))
 
-  pub all-keep : (n : ℕ) → list_all (keeps_at own sums limit) (range_with_len 0 n) ≡ kept own (load_on own sums) n limit
-  unfolding kept lowest
-  all-keep n = all_keep 0 n
+  pub all-within : (n : ℕ) → list_all (within_at own sums limit) (range_with_len 0 n) ≡ passed_nowhere own (load_on own sums) n limit
+  unfolding passed_nowhere lowest
+  all-within n = all_within 0 n
 
 -- the hour that is found for a limit
 module _ (own : List ℕ) (load : ℕ → ℕ) (H : ℕ) (limit : List ℕ) where
   abbrev low : ℕ
   low = lowest (passed_at own load (laid limit)) H
 
-  pub kept-nowhere : kept own load H limit ≡ true → hour_at low ≡ None
-  unfolding kept
-  kept-nowhere e = rw e refl
+  pub passed-nowhere : passed_nowhere own load H limit ≡ true → hour_at low ≡ None
+  unfolding passed_nowhere
+  passed-nowhere e = rw e refl
 
-  pub passed-somewhere : kept own load H limit ≡ false → hour_at low ≡ Some low
-  unfolding kept
+  pub passed-somewhere : passed_nowhere own load H limit ≡ false → hour_at low ≡ Some low
+  unfolding passed_nowhere
   passed-somewhere e = rw e refl
 
 -- a clear judgement
