@@ -19,7 +19,12 @@ use session::Session;
 // Whether a limit is passed in none of the hours 1 to `hours`, by a lodgement's own energy and a sum. In an hour that it does not name its energy
 // is 0, which passes nothing. The hour is the index in three arrays: two zips would be no plainer. No type says that `hours` is at most 25, here
 // and below: C's session has a plain number.
-fn passed_nowhere(own: &[u32; HOURS], sums: &[u64; HOURS], hours: usize, limit: &[u64; HOURS]) -> bool
+fn passed_nowhere(
+    own: &[u32; HOURS],
+    sums: &[u64; HOURS],
+    hours: usize,
+    limit: &[u64; HOURS],
+) -> bool
     requires { hours ≤ 25 }
     ensures { result ≡ passed_nowhere own.now (load_on own.now sums.now) hours limit.now }
 {

@@ -10,34 +10,34 @@ unfoldable pub stored : List ℕ → ℕ → ℕ → ℕ → List ℕ
 stored buf at v n = sets buf at (M.bytes_of (M.bits (n * 8) v))
 
 -- how far a message is written: `pos` bits, of which the last pos % 8 wait in the low bits of `acc`
-pub record Place : Type 0 where
+pub record PenState : Type 0 where
   pub pos : ℕ
   pub acc : ℕ
 
-abbrev pub first : Place
+abbrev pub first : PenState
 first = record { pos = 0; acc = 0 }
 
-abbrev pub place_of : Pen → Place
-place_of p = record { pos = p.pos; acc = p.acc }
+abbrev pub state_of : Pen → PenState
+state_of p = record { pos = p.pos; acc = p.acc }
 
 -- the buffer once bits `bs` follow those that are written and zero bits fill the last byte
-unfoldable pub completed_at : List ℕ → Place → List ℕ → List ℕ
+unfoldable pub completed_at : List ℕ → PenState → List ℕ → List ℕ
 completed_at buf p bs = sets buf (p.pos / 8) (M.bytes_of (M.bits (p.pos % 8) p.acc ++ bs))
 
 abbrev pub completed : Pen → List ℕ → List ℕ
-completed p bs = completed_at p.buffer.now (place_of p) bs
+completed p bs = completed_at p.buffer.now (state_of p) bs
 
 -- w more bits find room in the buffer
-pub record RoomAt (buf : List ℕ) (p : Place) (w : ℕ) : Type 0 where
+pub record RoomAt (buf : List ℕ) (p : PenState) (w : ℕ) : Type 0 where
   pub byte : p.acc < 256
   pub within : p.pos + w ≤ length buf * 8
   pub small : p.pos + w < 2 ^ 32
 
 abbrev pub Room : Pen → ℕ → Type 0
-Room p w = RoomAt p.buffer.now (place_of p) w
+Room p w = RoomAt p.buffer.now (state_of p) w
 
 -- bits `bs` are appended: whatever follows, the buffer comes to hold the same
-pub record AppendedAt (old : List ℕ) (p : Place) (bs : List ℕ) (new : List ℕ) (r : Place) : Type 0 where
+pub record AppendedAt (old : List ℕ) (p : PenState) (bs : List ℕ) (new : List ℕ) (r : PenState) : Type 0 where
   pub long : length new ≡ length old
   pub moved : r.pos ≡ p.pos + length bs
   pub byte : r.acc < 256
@@ -46,7 +46,7 @@ pub record AppendedAt (old : List ℕ) (p : Place) (bs : List ℕ) (new : List �
 -- the pen stays at its buffer, and bits `bs` are appended there
 pub record Appended (p : Pen) (bs : List ℕ) (r : Pen) : Type 0 where
   pub same : r.buffer.ghost_name ≡ p.buffer.ghost_name
-  pub at : AppendedAt p.buffer.now (place_of p) bs r.buffer.now (place_of r)
+  pub at : AppendedAt p.buffer.now (state_of p) bs r.buffer.now (state_of r)
 
 -- fields that are not refused
 pub record InRanges (m : M.Fields) : Type 0 where

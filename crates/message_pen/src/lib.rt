@@ -4,7 +4,7 @@
 ghost use Rattle.std.specs.Prelude.{◌≡◌, [], ◌++◌, ℕ, ◌+◌, ◌^◌, ◌≤◌, ◌<◌, length};
 ghost use Rattle.rules.specs.Message.{form1, bits, head_bits, hour_bits};
 ghost use Rattle.message.specs.View.{fields_in};
-ghost use Rattle.message_pen.specs.Pens.{Appended, InRanges, Room, SlotFits, SlotWord, completed, first, place_of, stored};
+ghost use Rattle.message_pen.specs.Pens.{Appended, InRanges, Room, SlotFits, SlotWord, completed, first, state_of, stored};
 
 use message::Fields;
 
@@ -21,7 +21,7 @@ impl<'a> Pen<'a> {
     pub fn new(buffer: &'a mut [u8]) -> Pen<'a>
         ensures same_reference { result.buffer.ghost_name ≡ buffer.entry.ghost_name }
         ensures buffer { result.buffer.now ≡ buffer.old }
-        ensures at_first { place_of result ≡ first }
+        ensures at_first { state_of result ≡ first }
     {
         Pen {
             buffer,
@@ -35,7 +35,7 @@ impl<'a> Pen<'a> {
         requires eight { n ≤ 8 }
         requires room { from + n ≤ length self.old.buffer.now }
         ensures same_reference { self.new.buffer.ghost_name ≡ self.old.buffer.ghost_name }
-        ensures place { place_of self.new ≡ place_of self.old }
+        ensures state { state_of self.new ≡ state_of self.old }
         ensures buffer { self.new.buffer.now ≡ stored self.old.buffer.now from v n }
     {
         let bytes = v.to_be_bytes();

@@ -13,8 +13,8 @@ use message::judge::bad_fields;
 use message::{Fields, Written};
 use message_pen::{Pen, head_word, slot_word};
 use message_ranges::bad_map;
-use rules::MAX_ENERGY;
 use rules::row::Row;
+use rules::{HOURS, MAX_ENERGY};
 
 // The first 64 bits, from the start of the buffer on. (`InRanges`, here and below: `message_pen::head_word` says why no type has it; `Room`: a pen's
 // `put_bits` does.)
@@ -24,7 +24,7 @@ fn put_head(m: &Fields, pen: &mut Pen<'_>)
     ensures { Appended pen.old (head_bits form1 (fields_in m.now)) pen.new }
 {
     pen.put_bits(head_word(m), 39);
-    pen.put_bits(u64::from(m.map), 25);
+    pen.put_bits(u64::from(m.map), HOURS);
 }
 
 // The slots of the hours that the map names, rising.

@@ -45,8 +45,8 @@ module _ (s : Session) (a : Capacities) where
   ps = a.directions
 
   -- the judgement is the table's
-  abbrev Judged : Result (Unit {0}) Code.Row → Type 0
-  Judged j = JudgesRow s (capacity_in a) j
+  abbrev ByTable : Result (Unit {0}) Code.Row → Type 0
+  ByTable j = JudgesRow s (capacity_in a) j
 
   off-hours-as : (b : B.Book) → s ≡ image b → any (U.not_of_hours (B.hours b)) (capacities_in ps) ≡ list_any (off_hours s.hours) ps
   off-hours-as b e =
@@ -55,19 +55,19 @@ module _ (s : Session) (a : Capacities) where
   off-range-as : any U.bad_published (capacities_in ps) ≡ list_any off_range ps
   off-range-as = any-map published_in U.bad_published ps ∙ any-list off_range ps
 
-  pub capacity-2 : s.closed ≡ true → Judged (Err Gate)
+  pub capacity-2 : s.closed ≡ true → ByTable (Err Gate)
   unfolding D.rows_of D.gate_row D.call_rows D.change_row row first_row given_by
   capacity-2 h b e = rw (closed-as s b e, h)
 
-  pub capacity-4 : s.closed ≡ false → list_any (off_hours s.hours) ps ≡ true → Judged (Err Hour)
+  pub capacity-4 : s.closed ≡ false → list_any (off_hours s.hours) ps ≡ true → ByTable (Err Hour)
   unfolding D.rows_of D.gate_row D.call_rows D.change_row row first_row given_by
   capacity-4 h k b e = rw (off-hours-as b e, k, closed-as s b e, h)
 
-  pub capacity-5 : s.closed ≡ false → list_any (off_hours s.hours) ps ≡ false → list_any off_range ps ≡ true → Judged (Err Range)
+  pub capacity-5 : s.closed ≡ false → list_any (off_hours s.hours) ps ≡ false → list_any off_range ps ≡ true → ByTable (Err Range)
   unfolding D.rows_of D.gate_row D.call_rows D.change_row row first_row given_by
   capacity-5 h k r b e = rw (off-hours-as b e, k, off-range-as, r, closed-as s b e, h)
 
-  pub capacity-0 : s.closed ≡ false → list_any (off_hours s.hours) ps ≡ false → list_any off_range ps ≡ false → Judged (Ok tt)
+  pub capacity-0 : s.closed ≡ false → list_any (off_hours s.hours) ps ≡ false → list_any off_range ps ≡ false → ByTable (Ok tt)
   unfolding D.rows_of D.gate_row D.call_rows D.change_row row first_row given_by
   capacity-0 h k r b e = rw (off-hours-as b e, k, off-range-as, r, closed-as s b e, h)
 
@@ -81,7 +81,7 @@ module _ (H : ℕ) (most : H ≤ 25) where
       stored-as n es (omega (arith, most, eqb-true (length (counted n es)) H (not-false _ h), length-counted n es))
   stored-direction false n es h = refl
 
-  -- directions that are absent or of H hours are kept as the book keeps them
+  -- directions that are absent or of H hours are stored as the book has them
   directions-as : (ps : List Published) → any (U.not_of_hours H) (capacities_in ps) ≡ false → map direction_as ps ≡ map notice_as (capacities_in ps)
   unfolding any published_in direction_as
   directions-as [] h = refl

@@ -14,7 +14,7 @@ use Rattle.session.specs.Image.{published_in}
 use Rattle.session.specs.declared.Published.{Published}
 use Rattle.session.proofs.LaidLaws.{length-counted}
 use Rattle.notify_unavailability.specs.Notices.{over_limit}
-use Rattle.notify_unavailability.proofs.NoticeLaws.{bad-counted, kept-as}
+use Rattle.notify_unavailability.proofs.NoticeLaws.{bad-counted, stored-pad}
 use Rattle.notify_capacity.specs.Capacities.{off_hours, off_range}
 
 module _ (p : Published) where
@@ -34,12 +34,12 @@ module _ (p : Published) where
   unfolding published_in U.bad_published
   of-energies h = rw h (bad-counted p.count p.energies)
 
--- its energies laid over, and 0 behind those that count
+-- its energies laid over, and 0 after those that count
 pub laid-behind : (n c : ℕ) (es zs : List ℕ) → length es ≡ 25 → c ≡ min n 25 → zs ≡ replicate (25 - c) 0
     → take c es ++ (zs ++ drop (25 - c) (drop c es)) ≡ pad 25 0 (take 25 (take n es))
 laid-behind n c es zs e m q =
     let rest : drop (25 - c) (drop c es) ≡ [] = drop_of_length-le (drop c es) {i = 25 - c} (omega (arith, length-drop c es)) in
     let front : take c (take n es) ≡ take c es = take-take c n es (omega arith) in
-    rw (q, rest, append-nil, ← front, ← drop-replicate {X = ℕ} c 25 0) (kept-as c (take n es) (omega (arith, length-take n es)))
+    rw (q, rest, append-nil, ← front, ← drop-replicate {X = ℕ} c 25 0) (stored-pad c (take n es) (omega (arith, length-take n es)))
 
 pub ruleset directions = (no-hours, of-count, no-energies, of-energies)

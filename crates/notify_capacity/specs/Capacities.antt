@@ -13,7 +13,7 @@ use Rattle.notify_capacity.specs.declared.Capacities.{Capacities}
 abbrev pub capacity_in : Capacities → D.Call
 capacity_in n = D.capacity (capacities_in n.directions)
 
--- a direction as it is kept
+-- a direction as it is stored
 unfoldable pub direction_as : Published → Notice
 direction_as p = cond p.published (stored_as (take p.count p.energies)) no_notice
 

@@ -53,60 +53,60 @@ pub bad-counted : (n : ℕ) (es : List ℕ) → U.bad_energies (counted n es) �
 unfolding U.bad_energies
 bad-counted n es = any-counted over_limit n es refl ∙ any-list over_limit (take n es)
 
--- what is kept of them is what the book keeps
+-- the energies stored are those of the book
 pub stored-as : (n : ℕ) (es : List ℕ) → n ≤ 25 → stored_as (take n es) ≡ notice_as (some (counted n es))
 unfolding notice_as
 stored-as n es h = rw (pad-counted 25 n es h, take_all 25 (take n es) (omega (arith, length-take n es, h)))
 
--- blanks behind the first of them
+-- blanks after the first n
 padded : (m n : ℕ) (es : List ℕ) → n ≤ length es → take n es ++ drop n (replicate m 0) ≡ pad m 0 (take n es)
 unfolding pad
 padded m n es h = let e : length (take n es) ≡ n = omega (arith, length-take n es, h) in rw (drop-replicate {X = ℕ} n m 0, e)
 
-pub kept-as : (n : ℕ) (es : List ℕ) → n ≡ min (length es) 25 → take n es ++ drop n (replicate 25 0) ≡ pad 25 0 (take 25 es)
-kept-as n es h = front-end 25 0 es _ n 25 (padded 25 n es (omega (arith, h))) (omega (arith, h)) (omega (arith, h))
+pub stored-pad : (n : ℕ) (es : List ℕ) → n ≡ min (length es) 25 → take n es ++ drop n (replicate 25 0) ≡ pad 25 0 (take 25 es)
+stored-pad n es h = front-end 25 0 es _ n 25 (padded 25 n es (omega (arith, h))) (omega (arith, h)) (omega (arith, h))
 
 -- Judging
 
 module _ (s : Session) (a : Availability) where
   -- the judgement is the table's
-  abbrev Judged : Result Holder R.Row → Type 0
-  Judged j = JudgesRow s (available_in a) j
+  abbrev ByTable : Result Holder R.Row → Type 0
+  ByTable j = JudgesRow s (available_in a) j
 
   abbrev bad : Bool
   bad = U.bad_number a.unit || list_any over_limit (take a.count a.energies)
 
-  pub available-2 : s.closed ≡ true → Judged (Err Gate)
+  pub available-2 : s.closed ≡ true → ByTable (Err Gate)
   unfolding D.rows_of D.gate_row D.call_rows D.change_row row first_row given_by
   available-2 h b e = rw (closed-as s b e, h)
 
-  pub available-4 : s.closed ≡ false → eqb a.count s.hours ≡ false → Judged (Err Hour)
+  pub available-4 : s.closed ≡ false → eqb a.count s.hours ≡ false → ByTable (Err Hour)
   unfolding D.rows_of D.gate_row D.call_rows D.change_row row first_row given_by
   available-4 h k b e = rw (length-counted a.count a.energies, hours-as s b e, k, closed-as s b e, h)
 
-  pub available-5 : s.closed ≡ false → eqb a.count s.hours ≡ true → bad ≡ true → Judged (Err Range)
+  pub available-5 : s.closed ≡ false → eqb a.count s.hours ≡ true → bad ≡ true → ByTable (Err Range)
   unfolding D.rows_of D.gate_row D.call_rows D.change_row row first_row given_by
   available-5 h k r b e = rw (length-counted a.count a.energies, hours-as s b e, k, bad-counted a.count a.energies, r, closed-as s b e, h)
 
   module _ (h : s.closed ≡ false) (k : eqb a.count s.hours ≡ true) (r : bad ≡ false) where
-    available-6 : held (take s.enrolled s.units) a.unit ≡ None → Judged (Err R.TheVariants.Unit)
+    available-6 : held (take s.enrolled s.units) a.unit ≡ None → ByTable (Err R.TheVariants.Unit)
     unfolding D.rows_of D.gate_row D.call_rows D.change_row D.unregistered row first_row given_by
     available-6 t b e =
         rw (length-counted a.count a.energies, hours-as s b e, k, bad-counted a.count a.energies, r, holder-none s b e a.unit t, closed-as s b e, h)
 
-    available-0 : (x : Holder) → held (take s.enrolled s.units) a.unit ≡ Some x → Judged (Ok x)
+    available-0 : (x : Holder) → held (take s.enrolled s.units) a.unit ≡ Some x → ByTable (Ok x)
     unfolding D.rows_of D.gate_row D.call_rows D.change_row D.unregistered row first_row given_by
     available-0 x t b e =
         rw (length-counted a.count a.energies, hours-as s b e, k, bad-counted a.count a.energies, r, holder-registered s b e a.unit x t, closed-as s b e, h)
 
     -- the unit that was looked for is found, or refused
-    pub available-found : (o : Option Holder) → o ≡ held (take s.enrolled s.units) a.unit → Judged (ok_or o R.TheVariants.Unit)
+    pub available-found : (o : Option Holder) → o ≡ held (take s.enrolled s.units) a.unit → ByTable (ok_or o R.TheVariants.Unit)
     available-found None q = available-6 (sym q)
     available-found (Some x) q = available-0 x (sym q)
 
 -- Entering
 
--- what changes each element that passes, where at most one does, is a change at its index
+-- at most one element passes: to change each that passes is to change the one at its index
 module _ {A B : Type 0} (p : A → Bool) (f : A → B) (h : A → A) (z : B) (same : (x : A) → p x ≡ false → f x ≡ f (h x)) (put : (x : A) → p x ≡ true → z ≡ f (h x)) where
   others : {xs : List A} → All (λ x. p x ≡ false) xs → map f xs ≡ map f (map h xs)
   others none = refl

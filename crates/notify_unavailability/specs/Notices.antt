@@ -14,6 +14,6 @@ available_in n = D.available n.unit (counted n.count n.energies)
 abbrev pub over_limit : ℕ → Bool
 over_limit e = ltb max_energy e
 
--- energies that are kept: those that have a place, then 0
+-- energies as they are stored: the first 25 at most, then 0
 abbrev pub stored_as : List ℕ → Notice
 stored_as es = record { given = true; reserved = 0; reserved2 = 0; energies = pad 25 0 (take 25 es) }

@@ -23,7 +23,7 @@ pub struct Availability {
     pub energies: [u32; HOURS],
 }
 
-// The energies that C's count gives: as many as there is place for.
+// The energies that C's count gives: at most as many as the array has.
 pub fn front(count: usize, energies: &[u32; HOURS]) -> &[u32]
     ensures { result.now ≡ take count energies.now }
 {

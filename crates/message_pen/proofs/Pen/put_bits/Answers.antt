@@ -1,5 +1,5 @@
 use Rattle.std.proofs.Common.{ap}
-use Rattle.message_pen.specs.Pens.{place_of}
+use Rattle.message_pen.specs.Pens.{state_of}
 use Rattle.message_pen.proofs.PenLaws.{shift-whole, shift_fits, put-appended}
 use Rattle.message_pen.proofs.Pen.put_bits.Goals as goal
 
@@ -9,6 +9,6 @@ overflow_add-all c = record { fits = shift_fits _ _ _ c.requires.room.byte c.req
 pub returns : goal.returns
 returns c = record {
   same = c.put_bytes.ensures.same_reference;
-  at = rw (ap (λ p. p.pos) c.put_bytes.ensures.place)
-      (put-appended _ (place_of c.args.self.now) c.args.v c.args.w _ c.requires.fits (shift-whole _ _ c.requires.room.byte c.requires.width) _ c.put_bytes.ensures.buffer);
+  at = rw (ap (λ p. p.pos) c.put_bytes.ensures.state)
+      (put-appended _ (state_of c.args.self.now) c.args.v c.args.w _ c.requires.fits (shift-whole _ _ c.requires.room.byte c.requires.width) _ c.put_bytes.ensures.buffer);
 }
