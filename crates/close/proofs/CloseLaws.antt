@@ -30,14 +30,14 @@ use Rattle.close_order.proofs.RoomLaws.{closing_at, reached-at}
 
 -- 2: "closing [..] twice"
 module _ (s : Session) where
-  abbrev pub Judged : Result (Unit {0}) Code.Row → Type 0
-  Judged j = JudgesRow s D.close j
+  abbrev pub ByTable : Result (Unit {0}) Code.Row → Type 0
+  ByTable j = JudgesRow s D.close j
 
-  pub close-2 : s.closed ≡ true → Judged (Err Gate)
+  pub close-2 : s.closed ≡ true → ByTable (Err Gate)
   unfolding D.rows_of D.gate_row D.call_rows D.change_row row first_row given_by
   close-2 h b e = rw (closed-as s b e, h)
 
-  pub close-0 : s.closed ≡ false → Judged (Ok tt)
+  pub close-0 : s.closed ≡ false → ByTable (Ok tt)
   unfolding D.rows_of D.gate_row D.call_rows D.change_row row first_row given_by
   close-0 h b e = rw (closed-as s b e, h)
 

@@ -54,7 +54,7 @@ module _ (s : Session) (class at : ℕ) (given : List Verdict) (room : List (Lis
   pub next-absent : (hs : List (O.Option ℕ)) → HoldersOf s hs → get_or hs at None ≡ None → Next given room
   next-absent hs held n b sound e a = absurd (none-some _ (sym n ∙ unit-found s hs held b sound e at in_List))
 
-  -- what its room holds of a lodgement that is taken
+  -- the room after a lodgement is taken
   module _ (t : Bool) (k : TakesAt s class at t) (q : t ≡ true) (long : at < length given) (w : Within s) (full : s.standing ≤ length s.energies) (own : List ℕ) (o : Owns s at own) (p : ℕ) (holder : p ≡ unit_index s (get_or s.lodgements at no_lodgement).key.unit) (v : Verdict) (row : List ℕ) (r : Bool) (m : Admitted own (get_or room p []) row r) where
     indexed : Admitted own (get_or room (unit_index s (get_or s.lodgements at no_lodgement).key.unit) []) row r
     indexed = rw (← holder) m
