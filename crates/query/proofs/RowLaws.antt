@@ -38,25 +38,25 @@ an-hour H h k = let z = neither (eqb h 0) (ltb H h) k in (above h (eqb-false h 0
 
 module _ (s : Session) (h : ℕ) where
   -- a judgement of an hour is the table's
-  abbrev Judged : Result ℕ Code.Row → Type 0
-  Judged j = Judges s (Q.price h) j
+  abbrev ByTable : Result ℕ Code.Row → Type 0
+  ByTable j = Judges s (Q.price h) j
 
-  pub hour-unsound : within s ≡ false → Judged (Err Gate)
+  pub hour-unsound : within s ≡ false → ByTable (Err Gate)
   hour-unsound w b sound e = unsound s w b sound e
 
-  pub hour-2 : s.cleared ≡ false → Judged (Err Gate)
+  pub hour-2 : s.cleared ≡ false → ByTable (Err Gate)
   unfolding Q.query_rows Q.figure_rows row first_row given_by
   hour-2 k b sound e = rw (cleared-as s b e, k)
 
-  pub hour-4 : s.cleared ≡ true → not_an_hour s.hours h ≡ true → Judged (Err Hour)
+  pub hour-4 : s.cleared ≡ true → not_an_hour s.hours h ≡ true → ByTable (Err Hour)
   unfolding Q.query_rows Q.figure_rows row first_row given_by
   hour-4 k n b sound e = rw (hours-as s b e, n, cleared-as s b e, k)
 
-  pub hour-0 : (at : ℕ) → s.cleared ≡ true → not_an_hour s.hours h ≡ false → Judged (Ok at)
+  pub hour-0 : (at : ℕ) → s.cleared ≡ true → not_an_hour s.hours h ≡ false → ByTable (Ok at)
   unfolding Q.query_rows Q.figure_rows row first_row given_by
   hour-0 at k n b sound e = rw (hours-as s b e, n, cleared-as s b e, k)
 
--- Rows behind those of the hour
+-- Rows after those of the hour
 
 module _ (b : Book) (h : ℕ) (rows : List Row) where
   -- a row of the hour is given in front of them

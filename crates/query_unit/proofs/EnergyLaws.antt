@@ -22,7 +22,7 @@ use Rattle.query.proofs.FigureLaws.{pad-at, figures-as}
 use Rattle.session.specs.Bare.{bare_figures}
 use Rattle.query_unit.specs.declared.Energy.{Energy}
 use Rattle.query_unit.specs.declared.Energy.TheVariants.{Matched, Executed}
-use Rattle.query_unit.specs.declared.Place.{Place}
+use Rattle.query_unit.specs.declared.Indices.{Indices}
 use Rattle.query_unit.specs.Parts.{UnitFits, energy_of, energy_query}
 
 the_number : (us : List U.Registered) (n : ℕ) → U.is_registered us n ≡ true → (U.unit_of us n).unit.number ≡ n
@@ -42,7 +42,7 @@ module _ (f : ℕ → ℕ) (us : List U.Registered) where
       ∙ ap of_unit (sym (index-first (U.has_number n) U.nobody us))
       ∙ ap f (the_number us n h)
 
-module _ (s : Session) (b : Book) (e : s ≡ image b) (unit hour : ℕ) (p : Place) (f : UnitFits s unit hour p) where
+module _ (s : Session) (b : Book) (e : s ≡ image b) (unit hour : ℕ) (p : Indices) (f : UnitFits s unit hour p) where
   -- an energy of a unit
   unit-figure : (g : ℕ → ℕ) → get_or (by_unit g b.units) p.unit 0 ≡ g unit
   unit-figure g =

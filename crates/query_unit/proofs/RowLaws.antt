@@ -29,7 +29,7 @@ use Rattle.rules.specs.declared.row.Row.TheVariants as V
 use Rattle.rules.specs.declared.row.Row.TheVariants.{Range}
 use Rattle.query_unit.specs.declared.Energy.{Energy}
 use Rattle.query_unit.specs.declared.Energy.TheVariants.{Matched, Executed}
-use Rattle.query_unit.specs.declared.Place.{Place}
+use Rattle.query_unit.specs.declared.Indices.{Indices}
 use Rattle.query_unit.specs.Parts.{energy_query}
 use Rattle.query.specs.Parts.{Judges}
 use Rattle.query.proofs.RowLaws.{front, behind}
@@ -37,10 +37,10 @@ use Rattle.query.proofs.ReplyLaws.{SameRows}
 
 module _ (s : Session) (u h : ℕ) (j : Result ℕ Code.Row) (judges : Judges s (Q.price h) j) where
   -- a judgement of a unit is the table's
-  abbrev Judged : Result Place Code.Row → Type 0
-  Judged k = Judges s (Q.matched u h) k
+  abbrev ByTable : Result Indices Code.Row → Type 0
+  ByTable k = Judges s (Q.matched u h) k
 
-  pub unit-front : (x : Code.Row) → j ≡ Err x → Judged (Err x)
+  pub unit-front : (x : Code.Row) → j ≡ Err x → ByTable (Err x)
   unfolding Q.query_rows
   unit-front x d b sound e = front b h (Q.unit_rows b u) (rw d at (judges b sound e))
 
@@ -49,16 +49,16 @@ module _ (s : Session) (u h : ℕ) (j : Result ℕ Code.Row) (judges : Judges s 
     unfolding Q.query_rows
     unit-rows b sound e = behind b h (Q.unit_rows b u) (rw clear at (judges b sound e))
 
-    pub unit-5 : bad_number u ≡ true → Judged (Err Range)
+    pub unit-5 : bad_number u ≡ true → ByTable (Err Range)
     unfolding Q.unit_rows row first_row given_by
     unit-5 k b sound e = rw (unit-rows b sound e, k)
 
     module _ (k : bad_number u ≡ false) where
-      pub unit-6 : position (number_is u) (take s.enrolled s.units) ≡ None → Judged (Err V.Unit)
+      pub unit-6 : position (number_is u) (take s.enrolled s.units) ≡ None → ByTable (Err V.Unit)
       unfolding Q.unit_rows row first_row given_by
       unit-6 n b sound e = let h : held (take s.enrolled s.units) u ≡ None = rw n refl in rw (unit-rows b sound e, k, holder-none s b e u h)
 
-      pub unit-0 : (p : Place) → position (number_is u) (take s.enrolled s.units) ≡ Some p.unit → Judged (Ok p)
+      pub unit-0 : (p : Indices) → position (number_is u) (take s.enrolled s.units) ≡ Some p.unit → ByTable (Ok p)
       unfolding Q.unit_rows row first_row given_by
       unit-0 p n b sound e =
           let x : Holder = record { at = p.unit; unit = get_or (take s.enrolled s.units) p.unit no_unit } in

@@ -7,10 +7,10 @@ use Rattle.session.specs.declared.HourFigures.{HourFigures}
 use Rattle.query.specs.Parts.{HourFits}
 use Rattle.query_unit.specs.declared.Energy.{Energy}
 use Rattle.query_unit.specs.declared.Energy.TheVariants.{Matched, Executed}
-use Rattle.query_unit.specs.declared.Place.{Place}
+use Rattle.query_unit.specs.declared.Indices.{Indices}
 
 -- what no row refuses: a registered unit, which has this index, in an hour of a cleared day
-pub record UnitFits (s : Session) (unit hour : ℕ) (p : Place) : Type 0 where
+pub record UnitFits (s : Session) (unit hour : ℕ) (p : Indices) : Type 0 where
   pub hours : HourFits s hour p.hour
   pub index : p.unit ≡ unit_index s unit
   pub registered : p.unit < s.enrolled

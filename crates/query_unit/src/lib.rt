@@ -23,7 +23,7 @@ enum Energy {
 
 // Where a unit's energies in an hour stand: the index of the hour's figures, and the unit's own.
 #[derive(Clone, Copy, Debug, PartialEq, Eq)]
-struct Place {
+struct Indices {
     hour: usize,
     unit: usize,
 }
@@ -42,7 +42,7 @@ impl Energy {
 }
 
 // A unit in an hour, or the row that refuses it: 2, 4, 5, 6.
-fn judge_unit(s: &Session, unit: u32, hour: u32) -> Result<Place, Row>
+fn judge_unit(s: &Session, unit: u32, hour: u32) -> Result<Indices, Row>
     ensures judges { Judges s.now (Q.matched unit hour) result }
     ensures found { IfOk result (λ p. UnitFits s.now unit hour p) }
 {
@@ -51,7 +51,7 @@ fn judge_unit(s: &Session, unit: u32, hour: u32) -> Result<Place, Row>
         return Err(Row::Range);
     }
     let of = index(&s.units[..s.enrolled], unit).ok_or(Row::Unit)?;
-    Ok(Place { hour: at, unit: of })
+    Ok(Indices { hour: at, unit: of })
 }
 
 // Of a unit's energy in an hour: 2, 4, 5, 6.
@@ -63,17 +63,17 @@ struct UnitQuery {
 }
 
 impl Query for UnitQuery {
-    type Found = Place;
+    type Found = Indices;
 
     ghost query = { λ q. energy_query q.energy q.unit q.hour };
 
     ghost is_found = { λ s q p. UnitFits s q.unit q.hour p };
 
-    fn judge(self, s: &Session) -> Result<Place, Row> {
+    fn judge(self, s: &Session) -> Result<Indices, Row> {
         judge_unit(s, self.unit, self.hour)
     }
 
-    fn show(self, s: &Session, at: Place) -> Response {
+    fn show(self, s: &Session, at: Indices) -> Response {
         Response::from(self.energy.among(&s.figures[at.hour], at.unit))
     }
 }

@@ -158,27 +158,27 @@ module _ (s : Session) (b : Book) (e : s ≡ image b) where
 
 module _ (s : Session) (n : ℕ) where
   -- a judgement of a lodging number is the table's
-  abbrev Judged : Result ℕ Code.Row → Type 0
-  Judged j = Judges s (Q.verdict n) j
+  abbrev ByTable : Result ℕ Code.Row → Type 0
+  ByTable j = Judges s (Q.verdict n) j
 
-  pub verdict-unsound : within s ≡ false → Judged (Err Gate)
+  pub verdict-unsound : within s ≡ false → ByTable (Err Gate)
   verdict-unsound w b sound e = unsound s w b sound e
 
-  pub verdict-2 : s.closed ≡ false → Judged (Err Gate)
+  pub verdict-2 : s.closed ≡ false → ByTable (Err Gate)
   unfolding Q.query_rows row first_row given_by
   verdict-2 k b sound e = rw (closed-as s b e, k)
 
   module _ (k : s.closed ≡ true) where
-    verdict-13 : (Rising (take s.standing s.lodgements) → position (lodged n) (take s.standing s.lodgements) ≡ None) → Judged (Err Absent)
+    verdict-13 : (Rising (take s.standing s.lodgements) → position (lodged n) (take s.standing s.lodgements) ≡ None) → ByTable (Err Absent)
     unfolding Q.query_rows row first_row given_by
     verdict-13 h b sound e = rw (absent s b e n (h (rises s b e sound)), closed-as s b e, k)
 
-    verdict-0 : (at : ℕ) → (Rising (take s.standing s.lodgements) → position (lodged n) (take s.standing s.lodgements) ≡ Some at) → Judged (Ok at)
+    verdict-0 : (at : ℕ) → (Rising (take s.standing s.lodgements) → position (lodged n) (take s.standing s.lodgements) ≡ Some at) → ByTable (Ok at)
     unfolding Q.query_rows row first_row given_by
     verdict-0 at h b sound e = rw ((stands s b e n at (h (rises s b e sound))).0, closed-as s b e, k)
 
     -- the number that was looked for is found, or refused
-    pub verdict-found : (o : Option ℕ) → (Rising (take s.standing s.lodgements) → o ≡ position (lodged n) (take s.standing s.lodgements)) → Judged (ok_or o Absent)
+    pub verdict-found : (o : Option ℕ) → (Rising (take s.standing s.lodgements) → o ≡ position (lodged n) (take s.standing s.lodgements)) → ByTable (ok_or o Absent)
     verdict-found None h = verdict-13 (λ r. sym (h r))
     verdict-found (Some at) h = verdict-0 at (λ r. sym (h r))
 

@@ -21,7 +21,7 @@ fn lodged_at(lodgements: &[Lodgement], number: u32) -> Option<usize>
 
 // A verdict with no limit's number is hidden. No `From`: it would stand in `session`, far from this one use of it.
 #[tactic(auto, unfolding(crate::specs::Parts::told_as))]
-fn told(v: Verdict) -> Response
+fn response_of(v: Verdict) -> Response
     ensures { result ≡ told_as v }
 {
     if v.accepted {
@@ -54,7 +54,7 @@ impl Query for VerdictQuery {
     }
 
     fn show(self, s: &Session, at: usize) -> Response {
-        told(s.verdicts[at])
+        response_of(s.verdicts[at])
     }
 }
 
