@@ -16,7 +16,7 @@ use arrayvec::ArrayVec;
 use book::Replayed;
 use calendar::Date;
 use rehearse_lines::telling::{Said, tell};
-use rehearse_report::replies::Told;
+use rehearse_report::replies::InWords;
 use rehearse_words::lines;
 use rehearse_words::words::{Words, is_blank};
 use session::Session;
@@ -91,8 +91,8 @@ fn read(line: &[u8]) -> Option<Line> {
     Some(line)
 }
 
-// A log run: "calls 12, bytes 1848:", then what stands in each index that there was room for, an answer or `NO_ANSWER`. In front stands the
-// date's answer, where there is a date.
+// A log run: "calls 12, bytes 1848:", then for each index in the room an answer or `NO_ANSWER`. The date's answer stands first, where there is
+// a date.
 #[derive(Clone, Copy)]
 struct Run<'a> {
     opened: Option<Response>,
@@ -104,7 +104,7 @@ struct Run<'a> {
 impl fmt::Display for Run<'_> {
     fn fmt<W: fmt::Write>(&self, f: &mut fmt::Formatter<W>) -> fmt::Result {
         if let Some(opened) = self.opened {
-            write!(f, "{}, ", Told(opened))?;
+            write!(f, "{}, ", InWords(opened))?;
         }
         write!(f, "calls {}, bytes {}:", self.calls, self.read)?;
         for answer in self.answers {

@@ -4,7 +4,7 @@ ghost use Rattle.rehearse_lines.specs.Runs.{is_refused};
 
 use answer::{Kind, Response};
 use rehearse_report::Report;
-use rehearse_report::replies::Told;
+use rehearse_report::replies::InWords;
 use session::Session;
 use std::{fmt, io};
 
@@ -28,7 +28,7 @@ impl fmt::Display for Said {
     fn fmt<W: fmt::Write>(&self, f: &mut fmt::Formatter<W>) -> fmt::Result {
         match self {
             Said::NotUnderstood => write!(f, "not understood"),
-            Said::Answer(answer) => write!(f, "{}", Told(*answer)),
+            Said::Answer(answer) => write!(f, "{}", InWords(*answer)),
             Said::Report => write!(f, "report"),
         }
     }

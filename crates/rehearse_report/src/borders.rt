@@ -1,6 +1,7 @@
 // The hours with their prices, and in each hour a row for each border.
 use crate::cells::{Cell, Hour, number_in};
 use query_any::Query;
+use rules::BORDERS;
 use session::Session;
 use std::fmt;
 
@@ -13,7 +14,7 @@ enum Border {
 }
 
 impl Border {
-    const ALL: [Border; 4] = [
+    const ALL: [Border; BORDERS] = [
         Border::France,
         Border::Andorra,
         Border::Portugal,

@@ -8,9 +8,9 @@ use std::fmt;
 
 // The answer of a call or a query: "accepted", "refused 10 maximum hour 3", "number 5". What has the number of no kind reads as steps.
 #[derive(Clone, Copy, Debug, PartialEq, Eq)]
-pub struct Told(pub Response);
+pub struct InWords(pub Response);
 
-impl fmt::Display for Told {
+impl fmt::Display for InWords {
     ghost output = { λ t. Some (told_words t.0) };
 
     fn fmt<W: fmt::Write>(&self, f: &mut fmt::Formatter<W>) -> fmt::Result {

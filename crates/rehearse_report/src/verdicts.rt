@@ -1,6 +1,6 @@
 // The verdicts: a row for each lodgement that stood at closing.
 use crate::cells::Cell;
-use crate::replies::Told;
+use crate::replies::InWords;
 use query_any::Query;
 use session::{Key, Session};
 use std::fmt;
@@ -17,7 +17,7 @@ impl fmt::Display for Verdicts<'_> {
         )?;
         for lodgement in session.lodgements.iter().take(session.standing) {
             let number = lodgement.number;
-            let verdict = Told(Query::Verdict(number).reply(session));
+            let verdict = InWords(Query::Verdict(number).reply(session));
             writeln!(f, "  {number:>6}  {}  {verdict}", Holder(lodgement.key))?;
         }
         Ok(())

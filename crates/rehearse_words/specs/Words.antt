@@ -21,7 +21,7 @@ from_word line = drop (unwrap_or (word_start line) (length line)) line
 abbrev pub first_word : List ℕ → List ℕ
 first_word line = take (word_end (from_word line)) (from_word line)
 
--- what stands behind the blank that ends it
+-- the rest of the line, after the blank that ends the word
 abbrev pub behind_word : List ℕ → List ℕ
 behind_word line = drop 1 (drop (word_end (from_word line)) (from_word line))
 

@@ -32,8 +32,8 @@ fn date(word: &[u8]) -> Option<Date> {
     })
 }
 
-// What a line asks for by its first word and those behind it that are read. The clauses say it of the words that ask for nothing more; of the others it
-// is the whole of docs/REHEARSAL.md, and a contract would be these functions again.
+// What a line asks for: its first word says it, and the words after that are read. The clauses say it for the first words that need no other.
+// For the rest it is all of docs/REHEARSAL.md, and a contract would be these functions again.
 pub fn asked(name: &[u8], words: &mut Words) -> Option<Line>
     ensures close { name.now ≡ codes "close" → result ≡ Some (Line.Call Call.Close) }
     ensures clear { name.now ≡ codes "clear" → result ≡ Some (Line.Call Call.Clear) }

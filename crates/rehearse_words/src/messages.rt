@@ -40,10 +40,10 @@ fn names(word: &[u8], hour: u32) -> bool {
 // Hour 1 is bit 24, hour 25 bit 0; bit 25 stands for every other hour.
 fn put(fields: &mut Fields, slot: Slot) {
     let Some(at) = (slot.hour as usize).checked_sub(1).filter(|at| *at < HOURS) else {
-        fields.map |= 1 << 25;
+        fields.map |= 1 << HOURS;
         return;
     };
-    fields.map |= 1 << (24 - at);
+    fields.map |= 1 << (HOURS - 1 - at);
     fields.energies[at] = slot.energy;
     fields.prices[at] = slot.price;
 }

@@ -2,7 +2,7 @@
 use crate::words::Words;
 use query_any::Query;
 
-// The query that a line's first word names, with what the words behind it say.
+// The query that a line's first word names. The words after it give its arguments.
 pub(crate) fn query(name: &[u8], words: &mut Words) -> Option<Query> {
     Some(match name {
         b"verdict" => Query::Verdict(words.number()?),

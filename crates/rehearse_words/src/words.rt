@@ -161,7 +161,7 @@ fn bytes<const N: usize>(word: &[u8]) -> Option<ArrayVec<u8, N>>
     Some(bytes)
 }
 
-// What stands before a mark and behind it.
+// The parts of a word before and after a mark.
 pub(crate) fn parted(word: &[u8], mark: u8) -> Option<(&[u8], &[u8])> {
     let at = word.iter().position(|b| *b == mark)?;
     Some((&word[..at], &word[at + 1..]))
