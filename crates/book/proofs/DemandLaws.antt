@@ -27,7 +27,7 @@ use Rattle.rules.proofs.ClosingLaws.{closing-exactly}
 use Rattle.rules.proofs.UnitLaws.{units-balanced, some-cut-units}
 use Rattle.answer.specs.Told.{shown}
 use Rattle.answer.specs.declared.Response.{Response}
-use Rattle.book.specs.Demand3.{is_acceptance, Staged, Judged, matched_of, executed_of, crossing_at, uncut_at, IsCut, Carried, Holds, Demanded}
+use Rattle.book.specs.Demand3.{is_acceptance, Staged, VerdictReply, matched_of, executed_of, crossing_at, uncut_at, IsCut, Carried, Holds, Demanded}
 use Rattle.book.proofs.RunLaws.{started, day-book}
 use Rattle.book.proofs.StageLaws.{staged-told, closing-told}
 use Rattle.book.proofs.ReplyLaws.{number_of, energy-of, acceptance-of, limit-of, hidden-of, of_hidden, told-limit, all_found, all-entries, sum_same, number-good, verdict-given, matched-given, executed-given, market-given, bilateral-given}
@@ -42,7 +42,7 @@ no_cut (each u t) (M.another m) = no_cut t m
 module _ (b : Book) (s : R.Sound b) (response : Q.Query → Response) (said : (q : Q.Query) → response q ≡ shown (Q.query b q)) where
   -- Closing
 
-  judged-one : b.closed ≡ true → (l : Lodgement) → Q.is_standing b l.number ≡ true → M.Judgement b l → Judged b response l
+  judged-one : b.closed ≡ true → (l : Lodgement) → Q.is_standing b l.number ≡ true → M.Judgement b l → VerdictReply b response l
   unfolding M.verdict_of
   judged-one c l st j =
       let v = M.verdict_of b l in
@@ -61,7 +61,7 @@ module _ (b : Book) (s : R.Sound b) (response : Q.Query → Response) (said : (q
   unfolding Q.is_standing
   standing-all = all_found (λ l. l.number) b.standing
 
-  judged-all : b.closed ≡ true → All (Judged b response) b.standing
+  judged-all : b.closed ≡ true → All (VerdictReply b response) b.standing
   judged-all c = all_both (λ l st j. judged-one c l st j) standing-all (closing-exactly b s.standing.rising)
 
   -- Clearing, in an hour

@@ -102,7 +102,7 @@ unfolding bytes_in
 no-call-bytes zero log h = refl
 no-call-bytes (suc n) log h = rw (sym h)
 
--- one more answer behind those that stand in front
+-- one more answer after the others
 set-behind : (xs old : List ℕ) (n x : ℕ) → length xs ≡ n → n < length old → set (xs ++ drop n old) n x ≡ (xs ++ (x ∷ [])) ++ drop (n + 1) old
 set-behind xs old n x h k =
     rw (add-one, drop-cons old n 0 k) (set-over x (get_or old n 0) (drop (suc n) old) xs n h)

@@ -32,7 +32,7 @@ is_acceptance r = eqb r.kind 0
 
 module _ (b : Book) (response : Q.Query → Response) where
   -- Closing: the reply to the query of a standing lodgement's verdict
-  pub record Judged (l : Lodgement) : Type 0 where
+  pub record VerdictReply (l : Lodgement) : Type 0 where
     -- "an unhidden lodgement standing at closing was refused there exactly when, in an hour it names, its energy with that
     -- accepted before it on its unit passes the ceiling"
     pub exactly : is_hidden b.standing l ≡ false → (is_acceptance (response (Q.verdict l.number)) ≡ false) ↔ ((h : ℕ) × Passes b l h)
@@ -117,7 +117,7 @@ pub record Demand3 (start : Book) (cs : List D.Call) (rs : List Response) (respo
   -- those standing at closing": the book at the list's end still holds what the call that closed it found
   pub found : ClosingAccepted cs rs → ClosedIn start cs
   -- "If closing was accepted"
-  pub closing : ClosingAccepted cs rs → All (Judged (D.after start cs) response) (D.after start cs).standing
+  pub closing : ClosingAccepted cs rs → All (VerdictReply (D.after start cs) response) (D.after start cs).standing
   -- "If clearing was accepted too, all that follows holds in each hour."
   pub clearing : ClearingAccepted cs rs → (h : ℕ) → 1 ≤ h → h ≤ hours (D.after start cs) → Holds (D.after start cs) response h
 

@@ -73,7 +73,7 @@ fn run_annul(s: Session, p: &[u8]) -> Effect
     annul::annul(s, book_log::key_of(p))
 }
 
-// The call of a record whose count of bytes is that of its kind.
+// A record's call. The record has as many bytes as its kind says.
 fn run_call(s: Session, kind: Kind, p: &[u8]) -> Effect
     ensures { Met s (call_of (number_of kind) p.now) result }
 {
