@@ -50,7 +50,7 @@ fn any_off_range(ps: &[Published]) -> bool
     ps.iter().any(|p| bad_published(p))
 }
 
-// A direction laid where the session keeps it.
+// A direction laid where the session keeps it: made by `notify_unavailability::stored_notice` and then copied, all eight took twice as long.
 #[tactic(auto, unfolding(crate::specs::Capacities::direction_as))]
 fn lay(stored: &mut Notice, p: &Published)
     ensures { stored.new ≡ direction_as p.now }
