@@ -221,7 +221,7 @@ module _ (b : Book) (s : Sound b) where
       each_all (λ x y k u. subst (HeldIn b.units) (sym k.holder) u) (figures-cleared b h s.standing.rising).offers
       (all-mapped (offer_at b.units h) (all_keep (λ l. not l.key.execution) (all_keep (λ l. ltb 0 (energy_at l h)) accepted-held)))
 
-  -- what the units that pass a test have of some energies, if the energies' holders pass it as their units do
+  -- over the units that pass a test some energies sum to what they do over the holders that pass it: a unit passes where its holder does
   sum-held : {A : Type 0} (holder : A → Holder) (energy : A → ℕ) (p : Registered → Bool) (q : Holder → Bool)
       → ((r : Registered) (x : Holder) → Held r x → p r ≡ q x) → {xs : List A} → All (λ x. HeldIn b.units (holder x)) xs
       → sum_of (λ r. sum_of energy (keep (λ x. eqb (holder x).unit r.unit.number) xs)) (keep p b.units) ≡ sum_of energy (keep (λ x. q (holder x)) xs)
@@ -229,7 +229,7 @@ module _ (b : Book) (s : Sound b) where
       sum_by (λ r. r.unit.number) (λ x. (holder x).unit) energy p (λ x. q (holder x)) s.units.distinct
       (all_map (λ x h. some-map (λ r k. (k.number, agree r (holder x) k)) (held-some h)) a)
 
-  -- what the units of a side have matched is what is matched on that side
+  -- the units of a side have matched as much as is matched on that side
   pub units-matched : (side : Bool) (h : ℕ)
       → sum_of (λ r. matched_at b r.unit.number h) (keep (λ r. beq r.unit.purchase side) b.units) ≡ matched_on side (figures_at b h).offers
   unfolding matched_at matched_on
@@ -241,14 +241,14 @@ module _ (b : Book) (s : Sound b) where
       ≡ sum_of (λ r. matched_at b r.unit.number h) (keep (λ r. beq r.unit.purchase true) b.units)
   units-balanced h = units-matched false h ∙ (figures-cleared b h s.standing.rising).balanced ∙ sym (units-matched true h)
 
-  -- what the units of a border and side have matched is what is matched of the offers that run there in that direction
+  -- the units of a border and side have matched as much as the offers that run there in that direction
   pub units-market : (border : ℕ) (export : Bool) (h : ℕ)
       → sum_of (λ r. matched_at b r.unit.number h) (keep (λ r. eqb r.unit.border border && beq r.unit.purchase export) b.units)
       ≡ sum_of (λ o. o.matched) (keep (λ o. runs border export o.holder) (figures_at b h).offers)
   unfolding matched_at
   units-market border export h = sum-held (λ o. o.holder) (λ o. o.matched) _ (runs border export) (runs-agrees border export) (offers-held h)
 
-  -- and what they have executed is what the executions that run there have
+  -- and they have executed as much as the executions that run there
   pub units-executed : (border : ℕ) (export : Bool) (h : ℕ)
       → sum_of (λ r. executed_at b r.unit.number h) (keep (λ r. eqb r.unit.border border && beq r.unit.purchase export) b.units)
       ≡ sum_of (λ x. x.energy) (keep (λ x. runs border export x.holder) (figures_at b h).executions)
