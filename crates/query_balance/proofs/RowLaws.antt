@@ -29,10 +29,10 @@ a-border (suc n) k = (omega arith, ltb-false 4 (suc n) (neither (eqb (suc n) 0) 
 
 module _ (s : Session) (border h : ℕ) (j : Result ℕ Code.Row) (judges : Judges s (Q.price h) j) where
   -- a judgement of a border is the table's
-  abbrev Judged : Result ℕ Code.Row → Type 0
-  Judged k = Judges s (Q.market border h) k
+  abbrev ByTable : Result ℕ Code.Row → Type 0
+  ByTable k = Judges s (Q.market border h) k
 
-  pub border-front : (x : Code.Row) → j ≡ Err x → Judged (Err x)
+  pub border-front : (x : Code.Row) → j ≡ Err x → ByTable (Err x)
   unfolding Q.query_rows
   border-front x d b sound e = front b h (Q.border_rows border) (rw d at (judges b sound e))
 
@@ -41,11 +41,11 @@ module _ (s : Session) (border h : ℕ) (j : Result ℕ Code.Row) (judges : Judg
     unfolding Q.query_rows
     border-rows b sound e = behind b h (Q.border_rows border) (rw clear at (judges b sound e))
 
-    pub border-5 : bad_border border ≡ true → Judged (Err Range)
+    pub border-5 : bad_border border ≡ true → ByTable (Err Range)
     unfolding Q.border_rows row first_row given_by
     border-5 k b sound e = rw (border-rows b sound e, k)
 
-    pub border-0 : (of : ℕ) → bad_border border ≡ false → Judged (Ok of)
+    pub border-0 : (of : ℕ) → bad_border border ≡ false → ByTable (Ok of)
     unfolding Q.border_rows row first_row given_by
     border-0 of k b sound e = rw (border-rows b sound e, k)
 
