@@ -1,20 +1,21 @@
 -- The hour that is being given, part by part, and what is answered of it.
-use Rattle.std.specs.Prelude.{cond, ltb, [], ◌∷◌, ◌++◌, length, set, replicate, Option, Some, None}
+use Rattle.std.specs.Prelude.{cond, ltb, eqb, [], ◌∷◌, ◌++◌, length, set, replicate, Option, Some, None}
+use Rattle.rules.specs.Units.{direction}
 use Rattle.hour.specs.declared.Hour.{Hour}
 use Rattle.hour.specs.Ready.{figures_in_range}
-use Rattle.hour_borders.specs.Ways.{way_of}
 use Rattle.figures.specs.declared.hours.Cleared.{Cleared}
 use Rattle.figures.specs.declared.hours.Part.{Part}
 use Rattle.figures.specs.declared.hours.Part.TheVariants.{Offer, Execution, Capacity}
 
 abbrev pub no_parts : Hour
-no_parts = record { offers = record { items = [] }; executions = record { items = [] }; capacities = replicate 10 None }
+no_parts = record { offers = record { items = [] }; executions = record { items = [] }; capacities = replicate 8 None }
 
--- an hour with one part more: a lodgement, where there is room for it, or a capacity, where it is of a border
+-- an hour with one part more: a lodgement, where there is room for it, or a capacity, where it is of a border; none has a capacity of border 0
 abbrev pub with_part : Part → Hour → Option Hour
 with_part (Offer o) h = cond (ltb (length h.offers.items) 128) (Some (record h { offers = record { items = h.offers.items ++ o ∷ [] } })) None
 with_part (Execution x) h = cond (ltb (length h.executions.items) 128) (Some (record h { executions = record { items = h.executions.items ++ x ∷ [] } })) None
-with_part (Capacity border export energy) h = Some (cond (ltb border 5) (record h { capacities = set h.capacities (way_of border export) (Some energy) }) h)
+with_part (Capacity border export energy) h =
+    cond (eqb border 0) None (Some (cond (ltb border 5) (record h { capacities = set h.capacities (direction border export) (Some energy) }) h))
 
 -- none stays none
 abbrev pub put_in : Part → Option Hour → Option Hour

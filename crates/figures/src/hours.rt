@@ -6,6 +6,7 @@ ghost use Rattle.figures.specs.Hours.{no_parts, with_part, put_in, cleared_of, a
 use arrayvec::ArrayVec;
 use hour::{Figures, Hour};
 use hour_offers::{Execution, Offer};
+use rules::DIRECTIONS;
 use std::{fmt, mem};
 
 // A part of an hour: a lodgement, or the capacity of a border's direction.
@@ -20,7 +21,8 @@ pub(crate) enum Part {
     },
 }
 
-// Whether an hour has room for a part, which it then has. A capacity of what is no border is passed over.
+// Whether an hour can have a part, which it then has: one that it has room for. No hour has a capacity of border 0, and one of what is no border
+// is passed over.
 fn takes(hour: &mut Hour, part: Part) -> bool
     ensures taken { result ≡ true → with_part part hour.old ≡ Some hour.new }
     ensures full { result ≡ false → with_part part hour.old ≡ None }
@@ -33,15 +35,18 @@ fn takes(hour: &mut Hour, part: Part) -> bool
             export,
             energy,
         } => {
+            if border == 0 {
+                return false;
+            }
             if border < 5 {
-                hour.capacities[hour_borders::way(border, export)] = Some(energy);
+                hour.capacities[hour_borders::direction(border, export)] = Some(energy);
             }
             true
         }
     }
 }
 
-// The hour that is being given; none after more lodgements than an hour has room for.
+// The hour that is being given; none after a part that no hour has, or more lodgements than one has room for.
 #[derive(Drop)]
 pub(crate) struct NextHour(Option<Hour>);
 
@@ -52,7 +57,7 @@ impl NextHour {
         NextHour(Some(Hour {
             offers: ArrayVec::new(),
             executions: ArrayVec::new(),
-            capacities: [None; 10],
+            capacities: [None; DIRECTIONS],
         }))
     }
 
@@ -92,7 +97,7 @@ impl fmt::Display for Answer {
 // An hour's figures, and the capacities that it was cleared with.
 #[derive(Drop)]
 struct Cleared {
-    capacities: [Option<u32>; 10],
+    capacities: [Option<u32>; DIRECTIONS],
     figures: Figures,
 }
 
@@ -129,14 +134,13 @@ impl fmt::Display for Cleared {
 
 // Of the four borders, exports less imports: " 100 -20 0 0".
 #[derive(Clone, Copy)]
-struct Balances<'a>(&'a [u32; 10]);
+struct Balances<'a>(&'a [u32; DIRECTIONS]);
 
 impl fmt::Display for Balances<'_> {
     fn fmt<W: fmt::Write>(&self, f: &mut fmt::Formatter<W>) -> fmt::Result {
         let flows = self.0;
         let (pairs, _) = flows.as_chunks::<2>();
-        // The first pair is domestic.
-        for [exports, imports] in pairs.iter().skip(1) {
+        for [exports, imports] in pairs {
             let balance = i64::from(*exports) - i64::from(*imports);
             write!(f, " {balance}")?;
         }
@@ -155,16 +159,21 @@ impl fmt::Display for Maxima<'_> {
             figures,
         } = self.0;
         let market = &figures.market;
-        // An hour that is cleared has no capacity of border 0. By index: the way names the border, the direction and the one across.
-        for (way, maximum) in figures.maxima.iter().enumerate() {
-            if let (Some(capacity), Some(maximum)) = (capacities[way], maximum) {
-                let name = if way % 2 == 0 { "export" } else { "import" };
+        // By index: a direction names its border, its side and the one across.
+        for (direction, maximum) in figures.maxima.iter().enumerate() {
+            if let (Some(capacity), Some(maximum)) = (capacities[direction], maximum) {
+                let name = if direction % 2 == 0 {
+                    "export"
+                } else {
+                    "import"
+                };
                 let bilateral = maximum_left(
                     capacity,
-                    market[hour_borders::across(way)],
-                    market[way],
+                    market[hour_borders::across(direction)],
+                    market[direction],
                 );
-                write!(f, " {} {name} {maximum} {bilateral}", way / 2)?;
+                let border = direction / 2 + 1;
+                write!(f, " {border} {name} {maximum} {bilateral}")?;
             }
         }
         Ok(())

@@ -1,5 +1,5 @@
 -- The parts of an hour's clearing together are the rules' `clear_hour`.
-use Prim.Native.Nat.{ℕ, ◌/◌, ◌%◌, ◌≤◌, ◌<◌}
+use Prim.Native.Nat.{ℕ, ◌+◌, ◌/◌, ◌%◌, ◌≤◌, ◌<◌}
 use mathlib.Core.Path.{◌≡◌, refl, sym, ap, ◌∙◌}
 use mathlib.Core.Bool.{true, false≢true}
 use mathlib.Core.List.{List, [], ◌∷◌, ◌++◌, map, map-map}
@@ -24,9 +24,9 @@ use Rattle.hour_offers.specs.declared.Execution.{Execution}
 use Rattle.hour_offers.specs.View.{offers_in, executions_in}
 use Rattle.hour_offers.specs.Sound.{ExecutionInRange}
 use Rattle.std.specs.List.{refill}
-use Rattle.hour_borders.specs.Ways.{directed, energies_of, published_in}
+use Rattle.hour_borders.specs.Directions.{directed, energies_of, published_in}
 use Rattle.hour_borders.specs.Flows.{MarketFlows, ExecutionFlows}
-use Rattle.hour_borders.proofs.WayLaws.{published-once}
+use Rattle.hour_borders.proofs.DirectionLaws.{published-once}
 use Rattle.hour_cut.specs.Cuts.{Enough, Lowered}
 use Rattle.hour_market.specs.declared.Market.{Market}
 use Rattle.hour_market.specs.Parts.{MarketCleared}
@@ -34,7 +34,7 @@ use Rattle.hour.specs.declared.Hour.{Hour}
 use Rattle.hour.specs.Ready.{InRange}
 use Rattle.hour.specs.View.{hour_in, figures_in, figures_as, offer_as, execution_as}
 use Rattle.hour.proofs.ReadyLaws.{energy-of}
-use Rattle.hour.proofs.LaidLaws.{ten-at, figures-laid, figures-back}
+use Rattle.hour.proofs.LaidLaws.{eight-at, figures-laid, figures-back}
 
 -- a ready hour is one of the rules'
 pub hour-sound : {h : Hour} → InRange h → H.Sound (hour_in h)
@@ -56,11 +56,10 @@ module _ {h : Hour} (ready : InRange h) (os : List Offer) {r : Market}
 
   -- laid out
   pub figures-said : (xs : List Execution) (b : List ℕ) → executions_in xs ≡ cut_all (offers_in os) (published_in h.capacities) (executions_in h.executions.items)
-      → length r.maxima ≡ 10 → ((w : ℕ) → w < 2 → get_or r.maxima w None ≡ None)
-      → length r.flows ≡ 10 → MarketFlows r.flows (offers_in os) → length b ≡ 10 → ExecutionFlows b (executions_in xs)
+      → length r.maxima ≡ 8 → length r.flows ≡ 8 → MarketFlows r.flows (offers_in os) → length b ≡ 8 → ExecutionFlows b (executions_in xs)
       → record { offers = record { items = os }; executions = record { items = xs }; maxima = r.maxima; market = r.flows; bilateral = b; steps = r.steps; price = r.price }
       ≡ figures_as (C.clear_hour (hour_in h))
-  figures-said xs b c l home lm fm lx fx = figures-laid _ l home lm fm lx fx ∙ ap figures_as (cleared-said xs b c)
+  figures-said xs b c l lm fm lx fx = figures-laid _ l lm fm lx fx ∙ ap figures_as (cleared-said xs b c)
 
 -- What follows of an hour's figures
 
@@ -82,27 +81,27 @@ made-energy f (Some x) e = refl
 -- maxima are those of the published directions
 module _ (first : List M.Offer) (xs : List RuleExecution) (a : List (Option ℕ)) where
   maximum-on : ℕ → ℕ → ℕ
-  maximum-on w e = (maximum_of first xs (record { border = w / 2; export = eqb (w % 2) 0; energy = e })).energy
+  maximum-on d e = (maximum_of first xs (record { border = d / 2 + 1; export = eqb (d % 2) 0; energy = e })).energy
 
   abbrev maxima : List (Option ℕ)
-  maxima = map (λ w. made (maximum-on w) (get_or a w None)) (from 0 10)
+  maxima = map (λ d. made (maximum-on d) (get_or a d None)) (from 0 8)
 
-  maximum-at : (w : ℕ) → w < 10 → get_or maxima w None ≡ made (maximum-on w) (get_or a w None)
-  maximum-at w l = ten-at (λ w. made (maximum-on w) (get_or a w None)) None w l
+  maximum-at : (d : ℕ) → d < 8 → get_or maxima d None ≡ made (maximum-on d) (get_or a d None)
+  maximum-at d l = eight-at (λ d. made (maximum-on d) (get_or a d None)) None d l
 
-  maximum-as : (w : ℕ) → w < 10 → is_some (get_or a w None) ≡ true → maximum_of first xs (directed (energies_of a) w) ≡ directed (energies_of maxima) w
+  maximum-as : (d : ℕ) → d < 8 → is_some (get_or a d None) ≡ true → maximum_of first xs (directed (energies_of a) d) ≡ directed (energies_of maxima) d
   unfolding directed maximum_of maximum-on
-  maximum-as w l t =
-      ap (λ n. record { border = w / 2; export = eqb (w % 2) 0; energy = n })
-      (ap (maximum-on w) (energy-of a w) ∙ (sym (made-energy (maximum-on w) (get_or a w None) t) ∙ (ap (λ o. unwrap_or o 0) (sym (maximum-at w l)) ∙ sym (energy-of maxima w))))
+  maximum-as d l t =
+      ap (λ n. record { border = d / 2 + 1; export = eqb (d % 2) 0; energy = n })
+      (ap (maximum-on d) (energy-of a d) ∙ (sym (made-energy (maximum-on d) (get_or a d None) t) ∙ (ap (λ o. unwrap_or o 0) (sym (maximum-at d l)) ∙ sym (energy-of maxima d))))
 
   maxima-published : map (maximum_of first xs) (published_in a) ≡ published_in maxima
   unfolding published_in
   maxima-published =
-      map-map (maximum_of first xs) (directed (energies_of a)) (keep (λ w. is_some (get_or a w None)) (from 2 8))
-      ∙ (map-all (λ w. maximum_of first xs (directed (energies_of a) w)) (directed (energies_of maxima))
-      (all_both (λ w t l. maximum-as w l t) (keep-passes (λ w. is_some (get_or a w None)) (from 2 8)) (all_keep (λ w. is_some (get_or a w None)) (from_all (λ w. w < 10) 2 8 (λ w h k. omega arith))))
-      ∙ ap (map (directed (energies_of maxima))) (keep_same _ _ (from_all _ 2 8 (λ w h k. sym (ap (λ o. is_some o) (maximum-at w (omega arith)) ∙ made-some (maximum-on w) (get_or a w None))))))
+      map-map (maximum_of first xs) (directed (energies_of a)) (keep (λ d. is_some (get_or a d None)) (from 0 8))
+      ∙ (map-all (λ d. maximum_of first xs (directed (energies_of a) d)) (directed (energies_of maxima))
+      (all_both (λ d t l. maximum-as d l t) (keep-passes (λ d. is_some (get_or a d None)) (from 0 8)) (all_keep (λ d. is_some (get_or a d None)) (from_all (λ d. d < 8) 0 8 (λ d h k. omega arith))))
+      ∙ ap (map (directed (energies_of maxima))) (keep_same _ _ (from_all _ 0 8 (λ d h k. sym (ap (λ o. is_some o) (maximum-at d (omega arith)) ∙ made-some (maximum-on d) (get_or a d None))))))
 
 -- the figures of a ready hour are read back
 pub figures-read : {h : Hour} → InRange h → figures_in (figures_as (C.clear_hour (hour_in h))) ≡ C.clear_hour (hour_in h)

@@ -9,7 +9,7 @@ ghost use Rattle.hour.specs.View.{fresh_in};
 use arrayvec::ArrayVec;
 use hour::{Figures, Hour};
 use hour_offers::{Execution, Offer};
-use rules::LODGEMENTS;
+use rules::{DIRECTIONS, LODGEMENTS};
 
 // Offers before their hour's first match, written to an empty list. Tried: figures made of lists that are handed back; a quiet day, which misses its
 // bar of speed by a little as it is, takes 3 % longer. A slice's type does not tell that offers are at most 128.
@@ -44,9 +44,9 @@ pub fn clear_in_range(h: &Hour) -> Option<Figures>
         let mut figures = Figures {
             offers: ArrayVec::new(),
             executions: ArrayVec::new(),
-            maxima: [None; 10],
-            market: [0; 10],
-            bilateral: [0; 10],
+            maxima: [None; DIRECTIONS],
+            market: [0; DIRECTIONS],
+            bilateral: [0; DIRECTIONS],
             steps: 0,
             price: 0,
         };

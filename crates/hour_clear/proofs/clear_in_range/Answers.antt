@@ -53,7 +53,7 @@ returns-then-in_range c =
     let cut = rw same at (c.cut.ensures.cut (offers_in os) c.clear-market.ensures.flows (rw same flows) (rw same (enough-said ready os m))) in
     let z : c.deref-then-in_range-3.result.now ≡ xs = c.deref-then-in_range-3.ensures.0 ∙ refilled (length c.uncut.new.uncut.items) c.uncut.new.uncut.items xs (omega (arith, ap length c.deref_mut-then-in_range.ensures.value)) in
     rw passed (ap Some (rw (refilled (length c.fresh.new.fresh.items) c.fresh.new.fresh.items os (omega (arith, ap length c.deref_mut.ensures.value)), refilled (length c.uncut.new.uncut.items) c.uncut.new.uncut.items xs (omega (arith, ap length c.deref_mut-then-in_range.ensures.value)))
-    (figures-said ready os m xs c.execution_flows-bilateral.result cut (omega arith) c.clear-market.ensures.none_at_home (omega arith) c.clear-market.ensures.flows (omega arith)
+    (figures-said ready os m xs c.execution_flows-bilateral.result cut (omega arith) (omega arith) c.clear-market.ensures.flows (omega arith)
     (subst (λ (l : List Execution). ExecutionFlows c.execution_flows-bilateral.result (executions_in l)) z c.execution_flows-bilateral.ensures.flows))))
 
 pub returns-else-in_range : goal.returns-else-in_range
