@@ -11,8 +11,8 @@ use hour::{Figures, Hour};
 use hour_offers::{Execution, Offer};
 use rules::{DIRECTIONS, LODGEMENTS};
 
-// Offers before their hour's first match, written to an empty list. Tried: figures made of lists that are handed back; a quiet day, which misses its
-// bar of speed by a little as it is, takes 3 % longer. A slice's type does not tell that offers are at most 128.
+// Offers before their hour's first match, written to an empty list. Tried: figures made of lists that are handed back; no plainer, and a quiet day takes
+// 3 % longer. A slice's type does not tell that offers are at most 128.
 fn fresh(offers: &[Offer], fresh: &mut ArrayVec<Offer, LODGEMENTS>)
     requires few { length offers.now ≤ 128 }
     requires empty { fresh.old.items ≡ [] }
