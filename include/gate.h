@@ -48,7 +48,7 @@ extern "C" {
 /* ------------------------------------------------------------------------------------------------ version */
 
 /* Of this header. It rises with each change of a name, a struct or a meaning; a session of one version is not one of another. */
-#define GATE_VERSION 1
+#define GATE_VERSION 2
 
 /* ------------------------------------------------------------------------------------------------ sizes */
 
@@ -57,8 +57,7 @@ enum {
     GATE_LODGEMENTS = 128,    /* standing lodgements */
     GATE_NUMBERS = 65535,     /* highest number of a unit, an agent, a contract, a lodgement */
     GATE_HOURS = 25,          /* hours of the longest day */
-    GATE_DIRECTIONS = 8,      /* of a capacity notice: see gate_direction */
-    GATE_WAYS = 10,           /* of an hour's figures: export and import of border 0 (domestic purchases and sales), of 1, .. of 4 */
+    GATE_DIRECTIONS = 8,      /* export and import of the four borders: see gate_direction */
     GATE_MAX_ENERGY = 99999,
     GATE_MAX_PRICE = 18030,
     GATE_MESSAGE = 108,       /* bytes of the longest message */
@@ -163,7 +162,7 @@ typedef struct GateCapacities {
     GatePublished directions[GATE_DIRECTIONS];
 } GateCapacities;
 
-/* The place of a border's direction, border 1 to 4, in a capacity notice. */
+/* The index of a border's direction, border 1 to 4, in a capacity notice and in an hour's figures. */
 static inline size_t gate_direction(uint32_t border, bool is_export) {
     return (size_t)(border - 1) * 2 + (is_export ? 0 : 1);
 }
@@ -251,13 +250,13 @@ typedef struct GateVerdict {
     uint32_t hour;
 } GateVerdict;
 
-/* An hour's figures, after clearing. Energies at the borders stand at border * 2 for export, border * 2 + 1 for import; those of
- * units by the unit's index. */
+/* An hour's figures, after clearing. Energies at the borders stand by direction (gate_direction), those of units by the unit's
+ * index. */
 typedef struct GateHourFigures {
     uint32_t price;
-    uint32_t market[GATE_WAYS];
-    uint32_t bilateral[GATE_WAYS];
-    uint32_t maxima[GATE_WAYS]; /* market maxima, 0 also where the direction has none (gate_market_maximum tells) */
+    uint32_t market[GATE_DIRECTIONS];
+    uint32_t bilateral[GATE_DIRECTIONS];
+    uint32_t maxima[GATE_DIRECTIONS]; /* market maxima, 0 also where the direction has none (gate_market_maximum tells) */
     uint32_t matched[GATE_UNITS];
     uint32_t executed[GATE_UNITS];
 } GateHourFigures;
@@ -306,15 +305,15 @@ GATE_ASSERT(sizeof(GateClockName) == 12 && offsetof(GateClockName, second) == 8)
 GATE_ASSERT(sizeof(GateNotice) == 104 && offsetof(GateNotice, energies) == 4);
 GATE_ASSERT(sizeof(GateLodgement) == 16 && sizeof(GateEnergies) == 200);
 GATE_ASSERT(sizeof(GateVerdict) == 12 && offsetof(GateVerdict, limit) == 4);
-GATE_ASSERT(sizeof(GateHourFigures) == 636 && offsetof(GateHourFigures, executed) == 380);
+GATE_ASSERT(sizeof(GateHourFigures) == 612 && offsetof(GateHourFigures, executed) == 356);
 GATE_ASSERT(offsetof(GateSession, hours) == 12 && offsetof(GateSession, enrolled) == 16 && offsetof(GateSession, units) == 24);
 GATE_ASSERT(offsetof(GateSession, notices) == 1304 && offsetof(GateSession, capacities) == 7960);
 GATE_ASSERT(offsetof(GateSession, standing) == 8792 && offsetof(GateSession, lodgements) == 8800);
 GATE_ASSERT(offsetof(GateSession, energies) == 10848 && offsetof(GateSession, last) == 36448);
 GATE_ASSERT(offsetof(GateSession, closed) == 36452 && offsetof(GateSession, cleared) == 36453);
 GATE_ASSERT(offsetof(GateSession, verdicts) == 36456 && offsetof(GateSession, figures) == 37992);
-GATE_ASSERT(sizeof(GateSession) == 53896);
-GATE_ASSERT(sizeof(GateOpening) == 53928 && offsetof(GateOpening, session) == 32);
+GATE_ASSERT(sizeof(GateSession) == 53296);
+GATE_ASSERT(sizeof(GateOpening) == 53328 && offsetof(GateOpening, session) == 32);
 
 /* ------------------------------------------------------------------------------------------------ the archive */
 

@@ -282,11 +282,11 @@ pub struct HourFigures {
     /// The price.
     pub price: u32,
     /// Market flows by direction.
-    pub market: [u32; 10],
+    pub market: [u32; 8],
     /// Bilateral flows by direction.
-    pub bilateral: [u32; 10],
+    pub bilateral: [u32; 8],
     /// Market maxima by direction.
-    pub maxima: [u32; 10],
+    pub maxima: [u32; 8],
     /// Matched energy by the unit's place.
     pub matched: [u32; 64],
     /// Executed energy by the unit's place.
@@ -428,7 +428,7 @@ mod declared {
 // else, and bytes that are there up to their length. The interface asks for nothing more, so none of them has a condition.
 
 /// The version of `include/gate.h` that these declarations are of (`GATE_VERSION` there).
-pub const VERSION: u32 = 1;
+pub const VERSION: u32 = 2;
 
 /// Whether the archive that is linked is of this version, with sessions of this size.
 pub fn matches() -> bool {

@@ -53,7 +53,7 @@ pub struct Clock {
     pub second: bool,
 }
 
-/// Which way energy crosses a border.
+/// The direction in which energy crosses a border.
 #[derive(Clone, Copy, Debug, PartialEq, Eq, Hash)]
 pub enum Direction {
     /// Out of the country: purchases.

@@ -66,15 +66,15 @@ fn capacities(words: &[&str]) -> Option<Capacities> {
     let mut notice = Capacities::none();
     let mut seen = Vec::new();
     for three in words.chunks(3) {
-        let [border, way, list] = three else {
+        let [border, word, list] = three else {
             return None;
         };
-        let (border, way) = (number(border)?, direction(way)?);
-        if !(1..=4).contains(&border) || seen.contains(&(border, way)) {
+        let (border, toward) = (number(border)?, direction(word)?);
+        if !(1..=4).contains(&border) || seen.contains(&(border, toward)) {
             return None;
         }
-        seen.push((border, way));
-        notice = notice.with(border, way, energies(list)?);
+        seen.push((border, toward));
+        notice = notice.with(border, toward, energies(list)?);
     }
     Some(notice)
 }
@@ -192,11 +192,11 @@ fn answer<E: Exchange>(session: &mut E, words: &[&str]) -> Option<String> {
         ["market", border, hour] => said(session.market_balance(number(border)?, number(hour)?)),
         ["bilateral", border, hour] => said(session.bilateral_balance(number(border)?, number(hour)?)),
         ["price", hour] => said(session.price(number(hour)?)),
-        ["market-maximum", border, way, hour] => {
-            maximum(session.market_maximum(number(border)?, direction(way)?, number(hour)?))
+        ["market-maximum", border, word, hour] => {
+            maximum(session.market_maximum(number(border)?, direction(word)?, number(hour)?))
         }
-        ["bilateral-maximum", border, way, hour] => {
-            maximum(session.bilateral_maximum(number(border)?, direction(way)?, number(hour)?))
+        ["bilateral-maximum", border, word, hour] => {
+            maximum(session.bilateral_maximum(number(border)?, direction(word)?, number(hour)?))
         }
         _ => return None,
     })

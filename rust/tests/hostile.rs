@@ -32,9 +32,9 @@ fn ask_all(session: &ffi::Session) -> Response {
             }
         }
         for border in (0..=5).chain([u32::MAX]) {
-            for way in [Direction::Export, Direction::Import] {
-                asked(session, Query::MarketMaximum(border, way, hour));
-                asked(session, Query::BilateralMaximum(border, way, hour));
+            for direction in [Direction::Export, Direction::Import] {
+                asked(session, Query::MarketMaximum(border, direction, hour));
+                asked(session, Query::BilateralMaximum(border, direction, hour));
             }
             asked(session, Query::Market(border, hour));
             last = asked(session, Query::Bilateral(border, hour));

@@ -135,15 +135,17 @@ static void figures_agree(void) {
             CHECK(figure(gate_executed(s, s->units[i].number, h), f->executed[i]));
         }
         for (uint32_t b = 1; b <= 4; b++) {
-            CHECK(figure(gate_market_balance(s, b, h), (int64_t)f->market[b * 2] - (int64_t)f->market[b * 2 + 1]));
-            CHECK(figure(gate_bilateral_balance(s, b, h), (int64_t)f->bilateral[b * 2] - (int64_t)f->bilateral[b * 2 + 1]));
+            size_t e = gate_direction(b, true);
+            size_t i = gate_direction(b, false);
+            CHECK(figure(gate_market_balance(s, b, h), (int64_t)f->market[e] - (int64_t)f->market[i]));
+            CHECK(figure(gate_bilateral_balance(s, b, h), (int64_t)f->bilateral[e] - (int64_t)f->bilateral[i]));
             for (int export = 0; export <= 1; export++) {
                 const GateNotice *c = &s->capacities[gate_direction(b, export)];
                 GateResponse market = gate_market_maximum(s, b, export, h);
                 GateResponse bilateral = gate_bilateral_maximum(s, b, export, h);
-                uint32_t along = f->market[b * 2 + !export];
-                uint32_t against = f->market[b * 2 + export];
-                CHECK(c->given ? figure(market, f->maxima[b * 2 + !export]) : is(market, GATE_ABSENT, 0, 0, 0, 0));
+                uint32_t along = f->market[export ? e : i];
+                uint32_t against = f->market[export ? i : e];
+                CHECK(c->given ? figure(market, f->maxima[export ? e : i]) : is(market, GATE_ABSENT, 0, 0, 0, 0));
                 CHECK(c->given ? figure(bilateral, (int64_t)c->energies[h - 1] - (int64_t)along + (int64_t)against) : is(bilateral, GATE_ABSENT, 0, 0, 0, 0));
             }
         }

@@ -21,8 +21,8 @@ pub(crate) enum Part {
     },
 }
 
-// Whether an hour can have a part, which it then has: one that it has room for. No hour has a capacity of border 0, and one of what is no border
-// is passed over.
+// Whether an hour can have a part, which it then has. It has room for so many lodgements, and no hour has a capacity of border 0. A capacity of
+// what is no border is passed over.
 fn takes(hour: &mut Hour, part: Part) -> bool
     ensures taken { result ≡ true → with_part part hour.old ≡ Some hour.new }
     ensures full { result ≡ false → with_part part hour.old ≡ None }

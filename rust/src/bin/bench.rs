@@ -57,11 +57,11 @@ fn full<E: Exchange>(congested: bool) -> E {
     };
     let mut notice = Capacities::none();
     for line in 1..=4 {
-        for way in [Direction::Export, Direction::Import] {
-            let passed = (way == Direction::Export) == (line % 2 == 1);
+        for direction in [Direction::Export, Direction::Import] {
+            let passed = (direction == Direction::Export) == (line % 2 == 1);
             match (congested, passed) {
-                (false, _) => notice = notice.with(line, way, Energies::flat(LARGEST_ENERGY, 25)),
-                (true, true) => notice = notice.with(line, way, Energies::flat(900, 25)),
+                (false, _) => notice = notice.with(line, direction, Energies::flat(LARGEST_ENERGY, 25)),
+                (true, true) => notice = notice.with(line, direction, Energies::flat(900, 25)),
                 // Published too, the sum of both would be a limit of each offer.
                 (true, false) => {}
             }

@@ -30,7 +30,7 @@ struct Offer {
 }
 
 /// Export is 0, import 1.
-fn way(purchase: bool) -> usize {
+fn direction(purchase: bool) -> usize {
     usize::from(!purchase)
 }
 
@@ -113,7 +113,7 @@ impl Hour {
     fn legacy(&self) -> [[i64; 2]; 4] {
         let mut legacy = [[0; 2]; 4];
         for offer in self.at_borders().filter(|offer| offer.legacy) {
-            legacy[offer.border - 1][way(offer.purchase)] += i64::from(offer.matched);
+            legacy[offer.border - 1][direction(offer.purchase)] += i64::from(offer.matched);
         }
         legacy
     }
@@ -123,7 +123,7 @@ impl Hour {
         let (mut lowest, mut highest) = (None, None);
         for index in &self.abroad {
             let offer = &mut self.offers[*index];
-            if offer.legacy || over[offer.border - 1][way(offer.purchase)] == 0 {
+            if offer.legacy || over[offer.border - 1][direction(offer.purchase)] == 0 {
                 continue;
             }
             offer.offered = offer.matched;
@@ -151,7 +151,7 @@ impl Hour {
         };
         for border in 1..=4 {
             for purchase in [true, false] {
-                let excess = over[border - 1][way(purchase)];
+                let excess = over[border - 1][direction(purchase)];
                 if excess <= 0 {
                     continue;
                 }
@@ -270,7 +270,9 @@ impl Clearing {
     ) -> (Figures, u64) {
         self.load(units, lodgements, hour);
         let Clearing { merit, executions } = self;
-        let capacity = |border: usize, way: usize| capacities[border * 2 + way].as_ref().map(|hours| i64::from(hours[hour]));
+        let capacity = |border: usize, direction: usize| {
+            capacities[border * 2 + direction].as_ref().map(|hours| i64::from(hours[hour]))
+        };
 
         let mut uncut = [0; 4];
         for execution in executions.iter() {
@@ -282,9 +284,9 @@ impl Clearing {
         let legacy = merit.legacy();
         let mut market_maxima = [[None; 2]; 4];
         for border in 0..4 {
-            for (way, sign) in [(0, 1), (1, -1)] {
-                market_maxima[border][way] = capacity(border, way)
-                    .map(|capacity| split(capacity, sign * uncut[border], sign * market[border], legacy[border][way]));
+            for (direction, sign) in [(0, 1), (1, -1)] {
+                market_maxima[border][direction] = capacity(border, direction)
+                    .map(|capacity| split(capacity, sign * uncut[border], sign * market[border], legacy[border][direction]));
             }
         }
 
@@ -293,10 +295,10 @@ impl Clearing {
             let mut over = [[0; 2]; 4];
             let mut any = false;
             for border in 0..4 {
-                for (way, sign) in [(0, 1), (1, -1)] {
-                    if let Some(maximum) = market_maxima[border][way] {
-                        over[border][way] = (sign * market[border] - maximum).max(0);
-                        any |= over[border][way] > 0;
+                for (direction, sign) in [(0, 1), (1, -1)] {
+                    if let Some(maximum) = market_maxima[border][direction] {
+                        over[border][direction] = (sign * market[border] - maximum).max(0);
+                        any |= over[border][direction] > 0;
                     }
                 }
             }
@@ -311,16 +313,16 @@ impl Clearing {
 
         let mut bilateral_maxima = [[None; 2]; 4];
         for border in 0..4 {
-            for (way, sign) in [(0, 1), (1, -1)] {
-                let Some(capacity) = capacity(border, way) else {
+            for (direction, sign) in [(0, 1), (1, -1)] {
+                let Some(capacity) = capacity(border, direction) else {
                     continue;
                 };
                 let maximum = capacity - sign * market[border];
-                bilateral_maxima[border][way] = Some(maximum);
+                bilateral_maxima[border][direction] = Some(maximum);
                 let excess = sign * uncut[border] - maximum;
                 if excess > 0 {
                     let of_group =
-                        |execution: &Execution| execution.border == border + 1 && execution.purchase == (way == 0);
+                        |execution: &Execution| execution.border == border + 1 && execution.purchase == (direction == 0);
                     let group = || executions.iter().filter(|execution| of_group(execution)).map(|one| one.energy);
                     let mut share = Share::new(excess as u64, group().map(u64::from).sum(), group());
                     for execution in executions.iter_mut().filter(|execution| of_group(execution)) {

@@ -60,8 +60,12 @@ pub fn ask<E: Exchange>(exchange: &E, query: Query) -> Answer {
         Query::Executed(unit, hour) => told(exchange.executed(unit, hour), Answer::Amount),
         Query::Market(border, hour) => told(exchange.market_balance(border, hour), Answer::Figure),
         Query::Bilateral(border, hour) => told(exchange.bilateral_balance(border, hour), Answer::Figure),
-        Query::MarketMaximum(border, way, hour) => told(exchange.market_maximum(border, way, hour), Answer::Maximum),
-        Query::BilateralMaximum(border, way, hour) => told(exchange.bilateral_maximum(border, way, hour), Answer::Maximum),
+        Query::MarketMaximum(border, direction, hour) => {
+            told(exchange.market_maximum(border, direction, hour), Answer::Maximum)
+        }
+        Query::BilateralMaximum(border, direction, hour) => {
+            told(exchange.bilateral_maximum(border, direction, hour), Answer::Maximum)
+        }
         Query::Price(hour) => told(exchange.price(hour), Answer::Amount),
     }
 }
@@ -109,8 +113,10 @@ pub fn every_query(units: &[u32], last: u32, mut each: impl FnMut(Query) -> bool
             if !each(Query::Market(border, hour)) || !each(Query::Bilateral(border, hour)) {
                 return;
             }
-            for way in [Direction::Export, Direction::Import] {
-                if !each(Query::MarketMaximum(border, way, hour)) || !each(Query::BilateralMaximum(border, way, hour)) {
+            for direction in [Direction::Export, Direction::Import] {
+                if !each(Query::MarketMaximum(border, direction, hour))
+                    || !each(Query::BilateralMaximum(border, direction, hour))
+                {
                     return;
                 }
             }
@@ -191,7 +197,7 @@ pub fn compare<A: Exchange, B: Exchange>(list: &List, observer: &mut impl Observ
     Ok(())
 }
 
-fn way(direction: Direction) -> &'static str {
+fn word(direction: Direction) -> &'static str {
     match direction {
         Direction::Export => "export",
         Direction::Import => "import",
@@ -217,10 +223,10 @@ impl fmt::Display for Query {
             Query::Market(border, hour) => write!(f, "market {border} {hour}"),
             Query::Bilateral(border, hour) => write!(f, "bilateral {border} {hour}"),
             Query::MarketMaximum(border, direction, hour) => {
-                write!(f, "market-maximum {border} {} {hour}", way(*direction))
+                write!(f, "market-maximum {border} {} {hour}", word(*direction))
             }
             Query::BilateralMaximum(border, direction, hour) => {
-                write!(f, "bilateral-maximum {border} {} {hour}", way(*direction))
+                write!(f, "bilateral-maximum {border} {} {hour}", word(*direction))
             }
             Query::Price(hour) => write!(f, "price {hour}"),
         }

@@ -228,13 +228,13 @@ impl Maker {
         let published = if congested { 85 } else { self.rng.pick(&[20, 60, 60, 90, 100]) };
         let tightest = self.rng.chance(5);
         for border in 1..=4 {
-            for way in [Direction::Export, Direction::Import] {
+            for direction in [Direction::Export, Direction::Import] {
                 if !self.rng.chance(published) {
                     continue;
                 }
                 let mut quarters = if tightest { 0 } else { self.capacity_quarters };
                 // Where the sum of both would be a limit, most energy would not get as far as the split.
-                if congested && (way == Direction::Export) != (self.purchases[border] >= 50) {
+                if congested && (direction == Direction::Export) != (self.purchases[border] >= 50) {
                     if self.rng.chance(60) {
                         continue;
                     }
@@ -243,7 +243,7 @@ impl Maker {
                 let most = (self.scale * quarters / 4).min(LARGEST_ENERGY);
                 let least = if self.rng.chance(50) { most / 2 } else { 0 };
                 let energies = self.energies(|rng| rng.between(least, most));
-                notice = notice.with(border as u32, way, energies);
+                notice = notice.with(border as u32, direction, energies);
             }
         }
         self.calls.push(Entry::Capacity(Box::new(notice)));
@@ -380,15 +380,15 @@ impl Maker {
             _ => self.rng.pick(&[0, 1, 41, 65_535, 65_536]),
         };
         let border = self.rng.below(6);
-        let way = if self.rng.chance(50) { Direction::Export } else { Direction::Import };
+        let direction = if self.rng.chance(50) { Direction::Export } else { Direction::Import };
         match self.rng.below(8) {
             0 => Query::Verdict(self.rng.below(self.keys.len() as u32 + 2)),
             1 => Query::Matched(unit, hour),
             2 => Query::Executed(unit, hour),
             3 => Query::Market(border, hour),
             4 => Query::Bilateral(border, hour),
-            5 => Query::MarketMaximum(border, way, hour),
-            6 => Query::BilateralMaximum(border, way, hour),
+            5 => Query::MarketMaximum(border, direction, hour),
+            6 => Query::BilateralMaximum(border, direction, hour),
             _ => Query::Price(hour),
         }
     }
@@ -437,12 +437,12 @@ impl Maker {
             (energy, [(sale, energy, 1000), (export, energy, 5000), (legacy, energy, 4000)])
         };
         let capacity = if self.rng.chance(60) { balance - 1 } else { self.rng.below(balance) };
-        let (way, other) = match mirrored {
+        let (direction, other) = match mirrored {
             false => (Direction::Export, Direction::Import),
             true => (Direction::Import, Direction::Export),
         };
         let hours = self.hours as usize;
-        let notice = Capacities::none().with(1, way, Energies::flat(capacity, hours));
+        let notice = Capacities::none().with(1, direction, Energies::flat(capacity, hours));
         let notice = if self.rng.chance(50) { notice.with(1, other, Energies::flat(90_000, hours)) } else { notice };
         self.calls.push(Entry::Capacity(Box::new(notice)));
         for (mut unit, energy, price) in lodged {

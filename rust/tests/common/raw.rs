@@ -52,15 +52,15 @@ pub fn clock(name: u32, second: bool, reserved: u8) -> ffi::Clock {
 }
 
 pub fn asked(session: &ffi::Session, query: Query) -> Response {
-    let export = |way| way == Direction::Export;
+    let export = |direction| direction == Direction::Export;
     match query {
         Query::Verdict(number) => ffi::verdict(session, number),
         Query::Matched(unit, hour) => ffi::matched(session, unit, hour),
         Query::Executed(unit, hour) => ffi::executed(session, unit, hour),
         Query::Market(border, hour) => ffi::market_balance(session, border, hour),
         Query::Bilateral(border, hour) => ffi::bilateral_balance(session, border, hour),
-        Query::MarketMaximum(border, way, hour) => ffi::market_maximum(session, border, export(way), hour),
-        Query::BilateralMaximum(border, way, hour) => ffi::bilateral_maximum(session, border, export(way), hour),
+        Query::MarketMaximum(border, direction, hour) => ffi::market_maximum(session, border, export(direction), hour),
+        Query::BilateralMaximum(border, direction, hour) => ffi::bilateral_maximum(session, border, export(direction), hour),
         Query::Price(hour) => ffi::price(session, hour),
     }
 }

@@ -126,13 +126,13 @@ impl Observer for Seen {
             }
             Answer::Maximum(None) => self.absent_maxima += 1,
             Answer::Maximum(Some(maximum)) => match query {
-                Query::BilateralMaximum(_, way, _) => {
-                    let executed = if way == Direction::Export { self.executed } else { -self.executed };
+                Query::BilateralMaximum(_, direction, _) => {
+                    let executed = if direction == Direction::Export { self.executed } else { -self.executed };
                     self.negative_bilateral_maxima += u64::from(maximum < 0);
                     self.at_bilateral_maximum += u64::from(maximum > 0 && maximum == executed);
                 }
-                Query::MarketMaximum(_, way, hour) => {
-                    let balance = if way == Direction::Export { self.balance } else { -self.balance };
+                Query::MarketMaximum(_, direction, hour) => {
+                    let balance = if direction == Direction::Export { self.balance } else { -self.balance };
                     if self.steps > 0 && maximum > 0 && balance == maximum {
                         let count = if self.at_maximum.0 == hour { self.at_maximum.1 + 1 } else { 1 };
                         self.at_maximum = (hour, count);

@@ -64,9 +64,9 @@ fn simpler(call: &Entry) -> Vec<Entry> {
             let every: Vec<_> = capacities.directions().iter().enumerate().collect();
             let build = |change: &dyn Fn(usize, Energies) -> Option<Energies>| {
                 every.iter().fold(Capacities::none(), |notice, (index, direction)| {
-                    let way = if index % 2 == 0 { Direction::Export } else { Direction::Import };
+                    let toward = if index % 2 == 0 { Direction::Export } else { Direction::Import };
                     match direction.and_then(|energies| change(*index, energies)) {
-                        Some(energies) => notice.with(*index as u32 / 2 + 1, way, energies),
+                        Some(energies) => notice.with(*index as u32 / 2 + 1, toward, energies),
                         None => notice,
                     }
                 })
