@@ -29,8 +29,8 @@ pub struct DayEnd {
     pub figures: [HourFigures; HOURS],
 }
 
-// The hour at index k, `holders` being those of the standing lodgements. An hour that no session of calls has, one that is not ready, gets
-// figures of 0. `Within` is asked: a session is C's struct, so no type of this repository's can say it.
+// The hour at index k, `holders` being those of the standing lodgements. An hour out of its ranges, which no sound
+// book has, gets figures of 0. `Within` is asked: a session is C's struct, so no type of this repository's can say it.
 fn clear_hour(s: &Session, holders: &[Holder], k: usize) -> HourEnd
     requires { Within s.now × (length holders.now ≤ 128) × (k < 25) }
     ensures { Holders s.now holders.now → HourAs s.now k result }

@@ -570,6 +570,6 @@ module _ (h : Hour) (r : Ready h) where
   book-holds : Holding (book_of h) h
   book-holds = record { sound = book-sound; closed = book-closed; hour = ap (λ ks. R.hour_of_day (book_of h) ks 1) accepted ∙ hour-held }
 
--- every ready hour is the hour 1 of a sound, closed book: with `hour-ready`, `Ready` says exactly the hours that a session can hold
+-- every ready hour is the hour 1 of a sound, closed book: with `hour-ready`, `Ready` says exactly the hours of such books
 pub ready_held : (h : Hour) → Ready h → Holding (book_of h) h
 ready_held h r = book-holds h r

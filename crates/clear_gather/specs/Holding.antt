@@ -14,7 +14,8 @@ use Rattle.hour.specs.declared.Hour.{Hour}
 use Rattle.hour.specs.View.{hour_in}
 use Rattle.hour.specs.Units.{lodgements_of, last_ones, same_unit}
 
--- A book that holds an hour: one that calls leave, closed, and its hour 1 is cleared from what the hour has.
+-- A book that holds an hour: sound, which every book that calls leave is, and closed, and its hour 1 is cleared from what the hour has (what an
+-- offer has as matched apart).
 pub record Holding (b : B.Book) (h : Hour) : Type 0 where
   pub sound : I.Sound b
   pub closed : b.closed ≡ true
@@ -62,7 +63,7 @@ published_for (Some energy) = some (replicate 24 energy)
 unfoldable pub notice_for : List (Option ℕ) → ℕ → U.Published
 notice_for cs d = published_for (get_or cs d None)
 
--- a closed book of an ordinary day
+-- A closed book of an ordinary day. Its last number is the largest: sound, though calls leave it so only in some hours.
 unfoldable pub book_of : Hour → B.Book
 book_of h = record {
   date = record { year = 2006; month = 6; day = 1 };

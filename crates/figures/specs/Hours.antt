@@ -22,7 +22,7 @@ abbrev pub put_in : Part → Option Hour → Option Hour
 put_in part None = None
 put_in part (Some h) = with_part part h
 
--- an hour's figures beside its capacities, if it is ready
+-- an hour's figures beside its capacities, if its parts are in their ranges
 abbrev pub cleared_of : Hour → Option Cleared
 cleared_of h = elim (figures_in_range h) [ None ↦ None | Some figures ↦ Some (record { capacities = h.capacities; figures = figures }) ]
 

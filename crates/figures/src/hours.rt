@@ -81,7 +81,7 @@ impl NextHour {
     }
 }
 
-// What is written of an hour: its figures, if it is ready.
+// What is written of an hour: its figures, or "not ready" where a part is out of its range. Its units are not compared.
 #[derive(Drop)]
 pub(crate) struct Answer(Option<Cleared>);
 
