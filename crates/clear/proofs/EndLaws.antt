@@ -28,7 +28,7 @@ use Rattle.hour.specs.declared.Hour.{Hour}
 use Rattle.hour.specs.declared.Figures.{Figures}
 use Rattle.hour.specs.Ready.{is_in_range, figures_in_range}
 use Rattle.hour.specs.View.{hour_in, figures_in, figures_as}
-use Rattle.hour.proofs.ReadyLaws.{range-told, range-holds}
+use Rattle.hour.proofs.RangeLaws.{range-told, range-holds}
 use Rattle.session.specs.declared.Session.{Session}
 use Rattle.session.specs.declared.Unit.{Unit}
 use Rattle.session.specs.declared.HourFigures.{HourFigures}
@@ -50,7 +50,7 @@ use Rattle.clear.specs.Hours.{HourAs, HoursAs}
 use Rattle.std.specs.Prelude.{Some, None, is_some, unwrap_or}
 use Rattle.hour_clear.proofs.ClearLaws.{figures-read, matched-small, executed-small}
 use Rattle.clear_gather.proofs.HourLaws.{hour-as}
-use Rattle.clear_gather.proofs.ReadyLaws.{hour-in-range}
+use Rattle.clear_gather.proofs.RangeLaws.{hour-in-range}
 
 -- One hour
 
@@ -83,9 +83,9 @@ pub hour-told : (s : Session) (hs : List Holder) (k : ℕ) (h : Hour) (f : Figur
     → HourAs s k (record { steps = f.steps; figures = r })
 unfolding figures_in R.figures_at
 hour-told s hs k h f r holders t q kept b sound closed e =
-    let ready = hour-in-range s b e sound closed hs holders k h t in
-    let laid : f ≡ figures_as (R.clear_hour (hour_in h)) = figures-given h f (range-told h ready) q in
-    let read : figures_in f ≡ R.clear_hour (hour_in h) = ap figures_in laid ∙ figures-read ready in
+    let ranges = hour-in-range s b e sound closed hs holders k h t in
+    let laid : f ≡ figures_as (R.clear_hour (hour_in h)) = figures-given h f (range-told h ranges) q in
+    let read : figures_in f ≡ R.clear_hour (hour_in h) = ap figures_in laid ∙ figures-read ranges in
     let a : figures_in f ≡ R.figures_at b (suc k) = read ∙ ap R.clear_hour (hour-as s b e closed hs holders k h t sound.directions) in
     (kept (laid ∙ ap figures_as (sym read)) ∙ (ap₂ cleared_as a (units-as s b e) ∙ sym (figures-as b (suc k))), ap (λ (x : R.Figures). x.steps) a)
 

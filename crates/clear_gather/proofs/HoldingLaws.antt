@@ -38,8 +38,8 @@ use Rattle.hour_offers.specs.View.{execution_in}
 use Rattle.hour.specs.declared.Hour.{Hour}
 use Rattle.hour.specs.View.{fresh_in, energy_among, hour_in}
 use Rattle.hour.specs.Units.{lodgement_of, lodgements_of, unit_energy, both_of, line_in, last_ones, same_unit}
-use Rattle.hour.specs.Ready.{Between, HolderReady, SameUnit, Ready}
-use Rattle.hour.proofs.ReadyLaws.{energy-of}
+use Rattle.hour.specs.Ready.{Between, HolderWithin, SameUnit, Ready}
+use Rattle.hour.proofs.RangeLaws.{energy-of}
 use Rattle.hour.proofs.PairLaws.{all-last-ones, last_apart}
 use Rattle.hour.proofs.LineLaws.{capacity-abroad, capacity-home}
 use Rattle.session.proofs.LaidLaws.{any-map}
@@ -47,7 +47,7 @@ use Rattle.session.specs.Image as I
 use Rattle.clear_gather.specs.Holding.{Holding, unit_for, lodgement_for, offer_for, execution_for, insert_all, published_for, notice_for, book_of}
 use Rattle.clear_gather.proofs.ListLaws.{flat, kept-flat, eight}
 use Rattle.clear_gather.proofs.HourLaws.{hour-same}
-use Rattle.clear_gather.proofs.ReadyLaws.{first_one}
+use Rattle.clear_gather.proofs.RangeLaws.{first_one}
 use Rattle.clear_gather.proofs.HourReadyLaws.{optional, both-as}
 use Rattle.clear_gather.proofs.InsertLaws.{all_inserted, length_inserted, pair-inserted, rise-inserted, keep_all, keep-inserted, keep-others, each-among, pairwise-parts, every_two, one_more}
 
@@ -145,7 +145,7 @@ apart-agents : (x y : Holder) → eqb x.unit y.unit ≡ false → U.same_border_
 unfolding U.same_border_side U.domestic
 apart-agents x y n = by_bool (eqb x.border 0) (λ t. rw t) (λ t. rw (t, n))
 
-good-unit : (x : Holder) → HolderReady 0 x → U.bad_unit (unit_for x).unit ≡ false
+good-unit : (x : Holder) → HolderWithin 0 x → U.bad_unit (unit_for x).unit ≡ false
 unfolding U.bad_unit U.bad_number U.domestic
 good-unit x g =
     rw (ne_eqb x.unit 0 (λ z. absurd (omega (arith, g.unit.0))), le-ltb 65535 x.unit g.unit.1, le-ltb 4 x.border g.border.1)
@@ -255,7 +255,7 @@ module _ (h : Hour) (r : Ready h) where
   abbrev xs : List L.Lodgement
   xs = map execution_for (hour_in h).executions
 
-  ranged : All (λ y. HolderReady 0 y.holder) ls
+  ranged : All (λ y. HolderWithin 0 y.holder) ls
   unfolding lodgements_of
   ranged =
       all_append (all-mapped lodgement_of (all_map (λ o g. g.holder) r.ranges.offers))
@@ -445,7 +445,7 @@ module _ (h : Hour) (r : Ready h) where
 
   ceilings : All (λ y. unit_energy ls y.holder.unit ≤ B.ceiling_of (book_of h) y.holder.unit 1) ls
   ceilings =
-      all_both {P = λ y. Found y.holder × HolderReady 0 y.holder}
+      all_both {P = λ y. Found y.holder × HolderWithin 0 y.holder}
       {Q = λ y. (unit_energy ls y.holder.unit ≤ U.max_energy) × (U.passes (unit_energy ls y.holder.unit) (line_in (hour_in h).capacities y.holder.border) ≡ false)} (λ y f q. ceiling-held y f.0.1 (omega (arith, f.1.border.1)) q.0 q.1)
       (all_both (λ y p q. (p, q)) found ranged) (all_both (λ y p q. (p, q)) r.units.maxima r.units.lines)
 

@@ -23,7 +23,7 @@ use Rattle.hour_offers.specs.View.{execution_in}
 use Rattle.hour.specs.declared.Hour.{Hour}
 use Rattle.hour_borders.specs.Directions.{directed, energies_of, published_in}
 use Rattle.hour.specs.View.{fresh_in, hour_in}
-use Rattle.hour.proofs.ReadyLaws.{energy-of}
+use Rattle.hour.proofs.RangeLaws.{energy-of}
 use Rattle.session.specs.Bare.{bare_notice}
 use Rattle.session.specs.declared.Session.{Session}
 use Rattle.session.specs.declared.Notice.{Notice}

@@ -30,7 +30,7 @@ use Rattle.hour_offers.specs.declared.Holder.{Holder}
 use Rattle.hour.specs.declared.Hour.{Hour}
 use Rattle.hour.specs.View.{energy_among, hour_in}
 use Rattle.hour.specs.Units.{lodgement_of, lodgements_of, unit_energy, both_of, line_in, last_ones, same_unit}
-use Rattle.hour.specs.Ready.{SameUnit, UnitsReady, Ready}
+use Rattle.hour.specs.Ready.{SameUnit, UnitsPossible, Ready}
 use Rattle.hour.proofs.PairLaws.{all-last-ones, last_apart}
 use Rattle.hour.proofs.LineLaws.{capacity-abroad, capacity-home}
 use Rattle.session.specs.declared.Session.{Session}
@@ -39,7 +39,7 @@ use Rattle.session.specs.Image as I
 use Rattle.clear_gather.specs.Built.{Holders, Built}
 use Rattle.clear_gather.proofs.HourLaws.{given_at, capacity-as, capacity-of, hour-as}
 use Rattle.clear_gather.proofs.OfferLaws.{as_many, offers-apart}
-use Rattle.clear_gather.proofs.ReadyLaws.{unit-good, hour-in-range}
+use Rattle.clear_gather.proofs.RangeLaws.{unit-good, hour-in-range}
 
 -- what follows of every two
 pairwise-all : {A : Type 0} {P : A → Type 0} {Q : A → A → Type 0} → ((x y : A) → P x → P y → Q x y) → {xs : List A} → All P xs → Pairwise Q xs
@@ -191,7 +191,7 @@ module _ (b : B.Book) (sound : S.Sound b) (h : ℕ) (start : 1 ≤ h) where
     unfolding R.execution_at R.holder_of
     lines = all-mapped (R.execution_at b.units h) (all_map (λ l p. ap (U.passes (energy l p)) (line (unit l p).border (omega (arith, (unit-good b sound h l p.0).border))) ∙ (unit-within l p).1) own)
 
-    pub day-units : UnitsReady day
+    pub day-units : UnitsPossible day
     day-units = record {
       numbers = rw made numbers-made;
       agree = rw made agree;
@@ -242,5 +242,5 @@ module _ (s : Session) (b : B.Book) (e : s ≡ I.image b) (sound : I.Sound b) (c
       let same : hour_in h ≡ R.hour_of_day b (C.accepted_at b) (suc k) = hour-as s b e closed hs holders k h t sound.directions in
       record {
         ranges = hour-in-range s b e sound closed hs holders k h t;
-        units = subst UnitsReady (sym same) (day-units b sound.ranges (suc k) (omega arith) (λ c l. ap (λ (x : R.Hour). line_in x.capacities c) (sym same) ∙ line_as c l));
+        units = subst UnitsPossible (sym same) (day-units b sound.ranges (suc k) (omega arith) (λ c l. ap (λ (x : R.Hour). line_in x.capacities c) (sym same) ∙ line_as c l));
       }

@@ -4,7 +4,7 @@ pub mod CountLaws
 pub mod DayLaws
 pub mod HourLaws
 pub mod OfferLaws
-pub mod ReadyLaws
+pub mod RangeLaws
 pub mod UnitLaws
 pub mod InsertLaws
 pub mod HourReadyLaws

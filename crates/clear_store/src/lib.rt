@@ -115,7 +115,7 @@ fn plain(maxima: &[Option<u32>; DIRECTIONS]) -> [u32; DIRECTIONS]
     maxima.map(|maximum| maximum.unwrap_or(0))
 }
 
-// What the session keeps of an hour's figures, `units` being those registered. Energies are asked to be those of a ready hour's figures: any caller
+// What the session keeps of an hour's figures, `units` being those registered. Energies are asked to be in range, as an hour's figures are: any caller
 // can build the type.
 pub fn stored(units: &[Unit], figures: &Figures) -> HourFigures
     requires { (length units.now ≤ 64) × All (λ o. o.matched ≤ max_energy) figures.now.offers.items

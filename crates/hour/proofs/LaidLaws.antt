@@ -28,7 +28,7 @@ use Rattle.hour_borders.proofs.DirectionLaws.{direction-back, directions-same}
 use Rattle.session.specs.Image.{by_direction}
 use Rattle.hour.specs.declared.Figures.{Figures}
 use Rattle.hour.specs.View.{offer_as, execution_as, energy_among, laid_by_direction, figures_as, figures_in}
-use Rattle.hour.proofs.ReadyLaws.{energy-of}
+use Rattle.hour.proofs.RangeLaws.{energy-of}
 
 -- What stands in an array of eight made by index
 

@@ -1,5 +1,5 @@
-mod RangeLaws
-pub mod ReadyLaws
+mod RiseLaws
+pub mod RangeLaws
 pub mod LaidLaws
 pub mod PairLaws
 pub mod LineLaws

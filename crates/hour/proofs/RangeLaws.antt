@@ -1,32 +1,249 @@
--- What the tests of an hour's parts say.
-use Rattle.std.proofs.Common.{ℕ, zero, suc, ◌≡◌, ◌+◌, ◌<◌, Bool, ◌&&◌, true, false, List, [], ◌∷◌, map, length, arith, sym, refl, slice_index_or}
-use lib.Dec.{ltb}
-use Rattle.std.specs.List.{IsAllAdjacentAnswer}
-use Rattle.hour.specs.Ranges.{rises}
+-- The test of an hour and what it stands for.
+use Prim.Native.Nat.{ℕ, zero, suc, ◌+◌, ◌≤◌, ◌<◌}
+use mathlib.Core.Path.{◌≡◌, refl}
+use mathlib.Core.Bool.{Bool, true, not}
+use mathlib.Core.List.{List, [], ◌∷◌, map}
+use mathlib.Core.Logic.{⊎_elim}
+use native.Mathlib.Nat.{lt_trans, eq-or-lt_of_le}
+use native.Mathlib.Omega.{arith}
+use lib.Dec.{ltb, eqb}
+use lib.ListN.{get_or, length, take, length-take, length-map}
+use lib.Seq.{get_or-take}
+use borrow.Author.Tests.{leb-true, le-leb, lt-ltb, ltb-true, ltb-false, le-ltb, eqb-false, ne_eqb, not-true}
+use Rattle.std.specs.Prelude.{is_some, unwrap_or, Option, Some, None}
+use Rattle.std.specs.List.{list_all}
+use Rattle.rules.specs.Lists.{All, none, more, Pairwise, empty, ahead, from}
+use Rattle.rules.specs.Units.{max_energy, max_price, bad_number}
+use Rattle.rules.specs.Match as M
+use Rattle.rules.specs.Borders as B
+use Rattle.rules.proofs.BoolLaws.{by_bool, both, neither}
+use Rattle.rules.proofs.ListLaws.{all_map, all_append, all-mapped, all_keep, all-unkept, keep-passes}
+use Rattle.rules.proofs.ElementLaws.{all_both, all-unmapped, pairwise_map}
+use Rattle.rules.proofs.IndexLaws.{from_all}
+use Rattle.hour_offers.specs.View.{offer_in, execution_in, executions_in}
+use Rattle.hour_offers.specs.Sound.{Sound, ExecutionInRange}
+use Rattle.hour.specs.Ranges.{within, holder_within, offer_within, execution_within, rises, capacity_within, lodged_within, offer_number, execution_number, capacities_within}
+use Rattle.hour.specs.declared.Hour.{Hour}
+use Rattle.hour.specs.View.{fresh_in, hour_in}
+use Rattle.hour.specs.Units.{lodgement_of, lodgements_of}
+use Rattle.hour_borders.specs.Directions.{directed, energies_of, published_in}
+use Rattle.hour.specs.Ready.{Between, HolderWithin, OfferWithin, ExecutionWithin, HourInRange, is_in_range}
 
-and-false : (b : Bool) → (b && false) ≡ false
-and-false true = refl
-and-false false = refl
+-- Lists
+
+module _ {A : Type 0} (p : A → Bool) where
+  all-hold : (xs : List A) → list_all p xs ≡ true → All (λ x. p x ≡ true) xs
+  all-hold [] e = none
+  all-hold (x ∷ xs) e = let q = both _ _ e in more {x = x} q.0 (all-hold xs q.1)
+
+  all-told : {xs : List A} → All (λ x. p x ≡ true) xs → list_all p xs ≡ true
+  all-told none = refl
+  all-told (more h t) = rw h (all-told t)
+
+  all-at-index : (d : A) → p d ≡ true → (xs : List A) → list_all p xs ≡ true → (i : ℕ) → p (get_or xs i d) ≡ true
+  all-at-index d e [] h i = e
+  all-at-index d e (x ∷ xs) h zero = (both _ _ h).0
+  all-at-index d e (x ∷ xs) h (suc i) = all-at-index d e xs (both _ _ h).1 i
+
+  all-from-indices : (d : A) (xs : List A) → ((i : ℕ) → i < length xs → p (get_or xs i d) ≡ true) → list_all p xs ≡ true
+  all-from-indices d [] f = refl
+  all-from-indices d (x ∷ xs) f = rw (f 0 (omega arith)) (all-from-indices d xs (λ i l. f (suc i) (omega arith)))
 
 module _ {A : Type 0} (number : A → ℕ) where
-  -- each is below the next
-  pub rises-on : (xs : List A) → ((k : ℕ) (d : A) → k + 1 < length xs → true ≡ ltb (number (slice_index_or xs k d)) (number (slice_index_or xs (k + 1) d))) → true ≡ rises (map number xs)
+  rise-holds : (xs : List A) → rises (map number xs) ≡ true → Pairwise (λ x y. number x < number y) xs
   unfolding rises
-  rises-on [] f = refl
-  rises-on (x ∷ []) f = refl
-  rises-on (x ∷ y ∷ ys) f = let h = f 0 x (omega arith) in rw (← h) (rises-on (y ∷ ys) (λ k d l. let h : suc k + 1 ≡ suc (k + 1) = omega arith in rw h at (f (suc k) d (omega arith))))
+  rise-holds [] e = empty
+  rise-holds (x ∷ []) e = ahead none empty
+  rise-holds (x ∷ y ∷ ys) e =
+      let q = both _ _ e in
+      let h : number x < number y = ltb-true _ _ q.0 in
+      elim (rise-holds (y ∷ ys) q.1) [ ahead a d ↦ ahead (more {x = y} h (all_map (λ z l. lt_trans h l) a)) (ahead a d) ]
 
-  -- one is not
-  pub rises-not : (xs : List A) (k : ℕ) → k + 1 < length xs → ((d : A) → false ≡ ltb (number (slice_index_or xs k d)) (number (slice_index_or xs (k + 1) d))) → false ≡ rises (map number xs)
+  rise-told : {xs : List A} → Pairwise (λ x y. number x < number y) xs → rises (map number xs) ≡ true
   unfolding rises
-  rises-not [] k l f = absurd (omega arith)
-  rises-not (x ∷ []) k l f = absurd (omega arith)
-  rises-not (x ∷ y ∷ ys) zero l f = let h = f x in rw (← h) refl
-  rises-not (x ∷ y ∷ ys) (suc k) l f =
-      let h : suc k + 1 ≡ suc (k + 1) = omega arith in
-      let r = rises-not (y ∷ ys) k (omega arith) (λ d. rw h at (f d)) in
-      rw (← r) (sym (and-false (ltb (number x) (number y))))
+  rise-told empty = refl
+  rise-told (ahead none empty) = refl
+  rise-told (ahead (more {x = y} h t) d) = rw (lt-ltb _ (number y) h) (rise-told d)
 
-  pub rises_answer : (xs : List A) (r : Bool) → IsAllAdjacentAnswer (λ x y b. b ≡ ltb (number x) (number y)) xs r → r ≡ rises (map number xs)
-  rises_answer xs true f = rises-on xs f
-  rises_answer xs false (k, l, f) = rises-not xs k l f
+pub pairwise-unmapped : {A B : Type 0} {S : B → B → Type 0} (f : A → B) (xs : List A) → Pairwise S (map f xs) → Pairwise (λ x y. S (f x) (f y)) xs
+pairwise-unmapped f [] empty = empty
+pairwise-unmapped f (x ∷ xs) (ahead h t) = ahead (all-unmapped f xs h) (pairwise-unmapped f xs t)
+
+-- what holds of each of some numbers holds of the one
+all-from : {P : ℕ → Type 0} (a d : ℕ) → All P (from a d) → (i : ℕ) → a ≤ i → i < a + d → P i
+unfolding from
+all-from a zero h i l k = absurd (omega arith)
+all-from a (suc d) (more h t) i l k = ⊎_elim (λ q. rw (← q) h) (λ z. all-from (suc a) d t i z (omega arith)) (eq-or-lt_of_le l)
+
+-- What an element's test stands for
+
+within-holds : (least most x : ℕ) → within least most x ≡ true → Between least most x
+unfolding within
+within-holds least most x e = let q = both _ _ e in (leb-true _ _ q.0, leb-true _ _ q.1)
+
+within-told : (least most x : ℕ) → Between least most x → within least most x ≡ true
+unfolding within
+within-told least most x h = rw (le-leb least x h.0, le-leb x most h.1)
+
+some : (x : ℕ) → (x ≡ 0 → ⊥) → 1 ≤ x
+some zero f = absurd (f refl)
+some (suc x) f = omega arith
+
+good-number : (n : ℕ) → not (bad_number n) ≡ true → Between 1 65535 n
+unfolding bad_number
+good-number n h = let p = neither (eqb n 0) (ltb 65535 n) (not-true _ h) in (some n (eqb-false n 0 p.0), ltb-false 65535 n p.1)
+
+number-told : (n : ℕ) → Between 1 65535 n → not (bad_number n) ≡ true
+unfolding bad_number
+number-told n h = rw (ne_eqb n 0 (λ z. absurd (omega arith)), le-ltb 65535 n h.1)
+
+holder-holds : (first : ℕ) (x : M.Holder) → holder_within first x ≡ true → HolderWithin first x
+unfolding holder_within
+holder-holds first x e =
+    let p = both _ _ e in
+    let q = both _ _ p.0 in
+    let r = both _ _ q.0 in
+    record {
+      number = good-number x.number r.0;
+      unit = good-number x.unit r.1;
+      border = within-holds first 4 x.border q.1;
+      legacy = λ t. some x.border (eqb-false x.border 0 (rw t at (not-true _ p.1)));
+    }
+
+holder-told : (first : ℕ) (x : M.Holder) → HolderWithin first x → holder_within first x ≡ true
+unfolding holder_within
+holder-told first x r =
+    rw (number-told x.number r.number, number-told x.unit r.unit, within-told first 4 x.border r.border)
+    (by_bool x.legacy (λ t. rw (t, ne_eqb x.border 0 (λ z. absurd (omega (arith, r.legacy t))))) (λ t. rw t))
+
+offer-holds : (o : M.Offer) → offer_within o ≡ true → OfferWithin o
+unfolding offer_within
+offer-holds o e =
+    let p = both _ _ e in
+    let q = both _ _ p.0 in
+    record { holder = holder-holds 0 o.holder q.0; price = leb-true _ _ q.1; energy = within-holds 1 max_energy o.offered p.1 }
+
+offer-told : (o : M.Offer) → OfferWithin o → offer_within o ≡ true
+unfolding offer_within
+offer-told o r = rw (holder-told 0 o.holder r.holder, le-leb o.price max_price r.price, within-told 1 max_energy o.offered r.energy)
+
+execution-holds : (x : B.Execution) → execution_within x ≡ true → ExecutionWithin x
+unfolding execution_within
+execution-holds x e = let p = both _ _ e in record { holder = holder-holds 1 x.holder p.0; energy = within-holds 1 max_energy x.energy p.1 }
+
+execution-told : (x : B.Execution) → ExecutionWithin x → execution_within x ≡ true
+unfolding execution_within
+execution-told x r = rw (holder-told 1 x.holder r.holder, within-told 1 max_energy x.energy r.energy)
+
+-- Capacities
+
+capacity-holds : (c : Option ℕ) → capacity_within c ≡ true → is_some c ≡ true → unwrap_or c 0 ≤ max_energy
+unfolding capacity_within
+capacity-holds None e s = omega arith
+capacity-holds (Some x) e s = leb-true _ _ e
+
+capacity-told : (c : Option ℕ) → (is_some c ≡ true → unwrap_or c 0 ≤ max_energy) → capacity_within c ≡ true
+unfolding capacity_within
+capacity-told None f = refl
+capacity-told (Some x) f = le-leb x max_energy (f refl)
+
+-- what stands at an index, 0 where nothing does
+pub energy-of : (cs : List (Option ℕ)) (w : ℕ) → get_or (energies_of cs) w 0 ≡ unwrap_or (get_or cs w None) 0
+unfolding energies_of
+energy-of [] w = refl
+energy-of (c ∷ cs) zero = refl
+energy-of (c ∷ cs) (suc w) = energy-of cs w
+
+module _ (cs : List (Option ℕ)) where
+  capacities-hold : list_all capacity_within (take 8 cs) ≡ true → All (λ c. c.energy ≤ max_energy) (published_in cs)
+  unfolding published_in directed capacity_within
+  capacities-hold e =
+      all-mapped _
+      (all_both (λ d s k. rw (energy-of cs d) (capacity-holds (get_or cs d None) (rw (get_or-take 8 cs d None k) at (all-at-index capacity_within None refl (take 8 cs) e d)) s))
+      (keep-passes (λ d. is_some (get_or cs d None)) (from 0 8)) (all_keep (λ d. is_some (get_or cs d None)) (from_all (λ d. d < 8) 0 8 (λ d a b. omega arith))))
+
+  capacities-told : All (λ (c : B.Directed). c.energy ≤ max_energy) (published_in cs) → list_all capacity_within (take 8 cs) ≡ true
+  unfolding published_in directed
+  capacities-told r =
+      let a = all-unkept (λ d. is_some (get_or cs d None)) (from 0 8) (all-unmapped _ _ r) in
+      all-from-indices capacity_within None (take 8 cs) (λ d l.
+      let k : d < 8 = omega (arith, length-take 8 cs) in
+      rw (get_or-take 8 cs d None k) (capacity-told (get_or cs d None) (λ t. rw (energy-of cs d) at (all-from 0 8 a d (omega arith) k t))))
+
+-- The test of an hour
+
+-- an hour that passes the test is in its ranges
+pub range-holds : (h : Hour) → is_in_range h ≡ true → HourInRange h
+unfolding is_in_range hour_in lodged_within capacities_within offer_within
+range-holds h e =
+    let os = h.offers.items in
+    let xs = h.executions.items in
+    let a = both _ _ e in
+    let b = both _ _ a.1 in
+    let c = both _ _ b.1 in
+    let d = both _ _ c.1 in
+    let o = both _ _ c.0 in
+    let x = both _ _ d.0 in
+    record {
+      offering = leb-true _ _ a.0;
+      room = leb-true _ _ b.0;
+      offers = all-mapped fresh_in (all_map (λ o e. offer-holds (fresh_in o) e) (all-hold (λ o. offer_within (offer_in o)) os o.0));
+      offers-rise = pairwise_map fresh_in (λ o p l. l) (rise-holds offer_number os o.1);
+      executions = all-mapped execution_in (all_map (λ x e. execution-holds (execution_in x) e) (all-hold (λ x. execution_within (execution_in x)) xs x.0));
+      executions-rise = pairwise_map execution_in (λ x y l. l) (rise-holds execution_number xs x.1);
+      capacities = capacities-hold h.capacities d.1;
+    }
+
+-- an hour that is in them passes it
+pub range-told : (h : Hour) → HourInRange h → is_in_range h ≡ true
+unfolding is_in_range hour_in lodged_within capacities_within offer_within
+range-told h r =
+    let os = h.offers.items in
+    let xs = h.executions.items in
+    rw (
+      le-leb (length os) 64 r.offering,
+      le-leb (length os + length xs) 128 r.room,
+      all-told (λ o. offer_within (offer_in o)) (all_map (λ o e. offer-told (fresh_in o) e) (all-unmapped fresh_in os r.offers)),
+      rise-told offer_number (pairwise-unmapped fresh_in os r.offers-rise),
+      all-told (λ x. execution_within (execution_in x)) (all_map (λ x e. execution-told (execution_in x) e) (all-unmapped execution_in xs r.executions)),
+      rise-told execution_number (pairwise-unmapped execution_in xs r.executions-rise),
+      capacities-told h.capacities r.capacities,
+    )
+
+-- What it says of its parts
+
+capacity-small : (c : Option ℕ) → capacity_within c ≡ true → unwrap_or c 0 ≤ max_energy
+unfolding capacity_within
+capacity-small None e = omega arith
+capacity-small (Some x) e = leb-true _ _ e
+
+module _ {h : Hour} (r : HourInRange h) where
+  -- its offers and executions are such as are cleared
+  pub offers-sound : Sound (hour_in h).offers
+  unfolding hour_in
+  offers-sound = record {
+    few = rw (length-map h.offers.items fresh_in) (omega (arith, r.offering));
+    rising = r.offers-rise;
+    in_range = all-mapped fresh_in (all_map (λ o g. record { border = omega (arith, g.holder.border.1); price = g.price; offered = g.energy.1; matched = omega arith }) (all-unmapped fresh_in h.offers.items r.offers));
+  }
+
+  pub few-executions : length h.executions.items ≤ 128
+  few-executions = omega (arith, r.room)
+
+  pub executions-in-range : All ExecutionInRange (executions_in h.executions.items)
+  unfolding hour_in
+  executions-in-range = all_map (λ x g. record { border = omega (arith, g.holder.border.1); energy = g.energy.1 }) r.executions
+
+  -- and both kinds together
+  pub lodgements-in-range : All ExecutionInRange (lodgements_of (hour_in h))
+  unfolding lodgements_of
+  lodgements-in-range =
+      all_append (all-mapped lodgement_of (all_map (λ o g. record { border = omega (arith, g.holder.border.1); energy = g.energy.1 }) r.offers))
+      (all_map (λ x g. record { border = omega (arith, g.holder.border.1); energy = g.energy.1 }) r.executions)
+
+  -- its capacities are in their range, and 0 stands where there is none
+  pub capacities-small : (d : ℕ) → d < 8 → get_or (energies_of h.capacities) d 0 ≤ max_energy
+  unfolding hour_in capacity_within
+  capacities-small d l =
+      rw (energy-of h.capacities d)
+      (capacity-small (get_or h.capacities d None) (rw (get_or-take 8 h.capacities d None l) at (all-at-index capacity_within None refl (take 8 h.capacities) (capacities-told h.capacities r.capacities) d)))

@@ -12,10 +12,10 @@ use Rattle.rules.proofs.ListLaws.{all_map, any_false, of-any-false}
 use Rattle.rules.proofs.ElementLaws.{all_both, pairwise_map, pairwise-weaken}
 use Rattle.hour.specs.declared.Hour.{Hour}
 use Rattle.hour.specs.View.{hour_in}
-use Rattle.hour.specs.Units.{lodgement_of, lodgements_of, unit_energy, line_in, last_ones, same_unit, clash, beyond, is_over, agree}
-use Rattle.hour.specs.Ready.{SameUnit, Ready, are_units, is_ready}
+use Rattle.hour.specs.Units.{lodgement_of, lodgements_of, unit_energy, line_in, last_ones, same_unit, clash, beyond, is_over, lodgements_possible}
+use Rattle.hour.specs.Ready.{SameUnit, Ready, units_possible, is_ready}
 use Rattle.hour.proofs.PairLaws.{pair-none, of-pair-none, all-last, of-all-last, pairwise_both}
-use Rattle.hour.proofs.ReadyLaws.{range-holds, range-told, pairwise-unmapped}
+use Rattle.hour.proofs.RangeLaws.{range-holds, range-told, pairwise-unmapped}
 
 -- one unit's lodgements that do not clash have one border, side and mark
 one_unit : (x y : Execution) → clash x y ≡ false → x.holder.unit ≡ y.holder.unit → SameUnit x.holder y.holder
@@ -44,7 +44,7 @@ no-number x y t = (neither _ _ t).0
 
 -- an hour that passes the test is ready
 pub ready-holds : (h : Hour) → is_ready h ≡ true → Ready h
-unfolding is_ready are_units agree is_over beyond same_unit
+unfolding is_ready units_possible lodgements_possible is_over beyond same_unit
 ready-holds h e =
     let xs = lodgements_of (hour_in h) in
     let z = both _ _ e in
@@ -67,7 +67,7 @@ ready-holds h e =
 
 -- an hour that is ready passes it
 pub ready-told : (h : Hour) → Ready h → is_ready h ≡ true
-unfolding is_ready are_units agree is_over beyond same_unit
+unfolding is_ready units_possible lodgements_possible is_over beyond same_unit
 ready-told h r =
     rw (
       range-told h r.ranges,

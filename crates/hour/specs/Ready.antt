@@ -5,17 +5,17 @@ use Rattle.rules.specs.Units.{max_energy, max_price, passes}
 use Rattle.rules.specs.Match.{Holder, Offer}
 use Rattle.rules.specs.Borders.{Execution}
 use Rattle.rules.specs.Clearing as C
-use Rattle.hour.specs.Ranges.{offers_ready, executions_ready, capacities_ready}
+use Rattle.hour.specs.Ranges.{offers_within, executions_within, capacities_within}
 use Rattle.hour.specs.declared.Hour.{Hour}
 use Rattle.hour.specs.declared.Figures.{Figures}
 use Rattle.hour.specs.View.{hour_in, figures_as}
-use Rattle.hour.specs.Units.{lodgement_of, lodgements_of, unit_energy, line_in, last_ones, same_unit, agree}
+use Rattle.hour.specs.Units.{lodgement_of, lodgements_of, unit_energy, line_in, last_ones, same_unit, lodgements_possible}
 
 abbrev pub Between : ℕ → ℕ → ℕ → Type 0
 Between least most x = (least ≤ x) × (x ≤ most)
 
 -- Whose an energy can be, at borders from `first` on.
-pub record HolderReady (first : ℕ) (x : Holder) : Type 0 where
+pub record HolderWithin (first : ℕ) (x : Holder) : Type 0 where
   -- "the next lodging number, from 1", "65,535 accepted ones in a session"
   pub number : Between 1 65535 x.number
   -- "A unit has a number [..] (each 1 to 65,535)"
@@ -24,38 +24,38 @@ pub record HolderReady (first : ℕ) (x : Holder) : Type 0 where
   -- "a legacy mark [..] (borders 1 to 4 only)"
   pub legacy : x.legacy ≡ true → 1 ≤ x.border
 
-pub record OfferReady (o : Offer) : Type 0 where
-  pub holder : HolderReady 0 o.holder
+pub record OfferWithin (o : Offer) : Type 0 where
+  pub holder : HolderWithin 0 o.holder
   pub price : o.price ≤ max_price
   -- "Named energies are 1 to 99,999": only lodgements that name the hour are in it
   pub energy : Between 1 max_energy o.offered
 
-pub record ExecutionReady (x : Execution) : Type 0 where
+pub record ExecutionWithin (x : Execution) : Type 0 where
   -- "Executions need a border unit."
-  pub holder : HolderReady 1 x.holder
+  pub holder : HolderWithin 1 x.holder
   pub energy : Between 1 max_energy x.energy
 
--- An hour of which every part is in its range, as one pass over it tells. What an offer has as matched is not looked at, and no figure depends
--- on it. Clearing needs no more than this to be safe, and so the day's hours, which are all ready, are tested for no more
+-- An hour in its ranges: every part is within its own, as one pass over it tells. What an offer has as matched is not looked at, and no figure
+-- depends on it. Clearing needs no more than this to be safe, and so the day's hours, which are all ready, are tested for no more
 -- (`hour_clear::clear_in_range`).
-pub record InRange (h : Hour) : Type 0 where
+pub record HourInRange (h : Hour) : Type 0 where
   -- "At most 64 units", each with one accepted offer at most
   pub offering : length h.offers.items ≤ 64
   -- "There are up to 128 standing lodgements"
   pub room : length h.offers.items + length h.executions.items ≤ 128
   -- each kind by rising lodging number: in this order Share hands out, and equal prices are matched
-  pub offers : All OfferReady (hour_in h).offers
+  pub offers : All OfferWithin (hour_in h).offers
   pub offers-rise : Pairwise (λ o p. o.holder.number < p.holder.number) (hour_in h).offers
-  pub executions : All ExecutionReady (hour_in h).executions
+  pub executions : All ExecutionWithin (hour_in h).executions
   pub executions-rise : Pairwise (λ x y. x.holder.number < y.holder.number) (hour_in h).executions
   pub capacities : All (λ c. c.energy ≤ max_energy) (hour_in h).capacities
 
--- `InRange` as a test (`range-holds` and `range-told` of proofs/ReadyLaws.antt)
+-- `HourInRange` as a test (`range-holds` and `range-told` of proofs/RangeLaws.antt)
 unfoldable pub is_in_range : Hour → Bool
 is_in_range h =
     let o = h.offers.items in
     let x = h.executions.items in
-    leb (length o) 64 && (leb (length o + length x) 128 && (offers_ready o && (executions_ready x && capacities_ready h.capacities)))
+    leb (length o) 64 && (leb (length o + length x) 128 && (offers_within o && (executions_within x && capacities_within h.capacities)))
 
 -- two holders with one border, side and legacy mark
 pub record SameUnit (x y : Holder) : Type 0 where
@@ -63,8 +63,8 @@ pub record SameUnit (x y : Holder) : Type 0 where
   pub purchase : x.purchase ≡ y.purchase
   pub legacy : x.legacy ≡ y.legacy
 
--- What the units of an hour's lodgements are, the rules' hour being given.
-pub record UnitsReady (x : C.Hour) : Type 0 where
+-- The units that a session can have in an hour, the rules' hour being given.
+pub record UnitsPossible (x : C.Hour) : Type 0 where
   -- a lodgement "takes and answers the next lodging number": no two of either kind have one
   pub numbers : Pairwise (λ k l. k.holder.number ≡ l.holder.number → ⊥) (lodgements_of x)
   -- "A unit has a number and an agent [..], a border [..], a side [..], a maximum energy, and a legacy mark": a number has one of each
@@ -78,22 +78,23 @@ pub record UnitsReady (x : C.Hour) : Type 0 where
   -- and at most "at a border with both directions published, the sum of the two capacities (limit 12)"
   pub lines : All (λ l. passes (unit_energy (lodgements_of x) l.holder.unit) (line_in x.capacities l.holder.border) ≡ false) (lodgements_of x)
 
--- An hour that a session can hold. This is exact: every hour gathered from a session is ready (`hour-ready` of
--- crates/clear_gather/proofs/HourReadyLaws.antt), and every ready hour is hour 1 of a closed book of which all holds that calls leave
--- (`ready_held` of crates/clear_gather/proofs/HoldingLaws.antt). Agents, contracts and default marks are not in an hour.
+-- An hour that a session can hold: exactly the hours of sound, closed books (`Sound` of crates/session/specs/Image.antt). Every hour gathered from a
+-- session that stands for such a book is ready (`hour-ready` of crates/clear_gather/proofs/HourReadyLaws.antt), and every ready hour is hour 1 of one
+-- (`ready_held` of crates/clear_gather/proofs/HoldingLaws.antt). Every book that calls leave is sound; that calls lead to each sound book is not
+-- proved. Agents, contracts and default marks are not in an hour.
 pub record Ready (h : Hour) : Type 0 where
-  pub ranges : InRange h
-  pub units : UnitsReady (hour_in h)
+  pub ranges : HourInRange h
+  pub units : UnitsPossible (hour_in h)
 
 -- what `Ready` asks of units, as a test: the offers are of as many units as they are
-unfoldable pub are_units : Hour → Bool
-are_units h =
+unfoldable pub units_possible : Hour → Bool
+units_possible h =
     let os = map lodgement_of (hour_in h).offers in
-    eqb (length (last_ones same_unit os)) (length os) && agree (hour_in h).capacities (lodgements_of (hour_in h))
+    eqb (length (last_ones same_unit os)) (length os) && lodgements_possible (hour_in h).capacities (lodgements_of (hour_in h))
 
 -- `Ready` as a test (`ready-holds` and `ready-told` of proofs/UnitLaws.antt)
 unfoldable pub is_ready : Hour → Bool
-is_ready h = is_in_range h && are_units h
+is_ready h = is_in_range h && units_possible h
 
 -- an hour's figures: the rules' where it is ready, and none where it is not
 unfoldable pub figures_of : Hour → Option Figures

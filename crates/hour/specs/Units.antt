@@ -64,5 +64,5 @@ unfoldable pub is_over : List Directed → List Execution → Execution → Bool
 is_over cs xs x = beyond cs x.holder.border (unit_energy xs x.holder.unit)
 
 -- 64 units at most, each with one border, side and mark, and no more energy than it can have
-unfoldable pub agree : List Directed → List Execution → Bool
-agree cs xs = leb (length (last_ones same_unit xs)) 64 && (not (any_pair clash xs) && not (any (is_over cs xs) xs))
+unfoldable pub lodgements_possible : List Directed → List Execution → Bool
+lodgements_possible cs xs = leb (length (last_ones same_unit xs)) 64 && (not (any_pair clash xs) && not (any (is_over cs xs) xs))

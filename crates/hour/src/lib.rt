@@ -1,13 +1,13 @@
 // An hour as it is cleared and what clearing gives (document 01, "Clearing, hour by hour"): the crate `hour_clear` clears it.
 #![tactic(auto)]
 
-pub mod readiness;
+pub mod ranges;
 pub mod units;
 
 ghost use Rattle.std.specs.Prelude.{◌≡◌};
 ghost use Rattle.hour.specs.Ready.{is_in_range, is_ready};
 
-use crate::readiness::{all_ready, capacities_ready};
+use crate::ranges::{capacities_within, lodged_within};
 use arrayvec::ArrayVec;
 use hour_offers::{Execution, Offer};
 use rules::{DIRECTIONS, LODGEMENTS, UNITS};
@@ -35,8 +35,8 @@ pub struct Figures {
     pub price: u32,
 }
 
-// Whether every part of an hour is in its range, as those of a session are (`InRange` of specs/Ready.antt).
-#[tactic(auto, unfolding(crate::specs::Ready::is_in_range, crate::specs::Ranges::capacities_ready))]
+// Whether an hour is in its ranges, as a session's hours are (`HourInRange` of specs/Ready.antt).
+#[tactic(auto, unfolding(crate::specs::Ready::is_in_range, crate::specs::Ranges::capacities_within))]
 pub fn in_range(h: &Hour) -> bool
     ensures { result ≡ is_in_range h.now }
 {
@@ -44,9 +44,9 @@ pub fn in_range(h: &Hour) -> bool
     let executions = h.executions.as_slice();
     offers.len() <= UNITS
         && offers.len() + executions.len() <= LODGEMENTS
-        && all_ready(offers)
-        && all_ready(executions)
-        && capacities_ready(&h.capacities)
+        && lodged_within(offers)
+        && lodged_within(executions)
+        && capacities_within(&h.capacities)
 }
 
 // Whether an hour is one that a session can hold (`Ready` of specs/Ready.antt).
@@ -54,5 +54,5 @@ pub fn in_range(h: &Hour) -> bool
 pub fn ready(h: &Hour) -> bool
     ensures { result ≡ is_ready h.now }
 {
-    in_range(h) && crate::units::units_ready(h)
+    in_range(h) && crate::units::units_possible(h)
 }

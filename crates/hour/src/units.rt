@@ -1,4 +1,4 @@
-// Whether the units of an hour's lodgements are such as a session's hours have. Both kinds stand in one list, offers first.
+// Whether a session can have the units of an hour's lodgements. Both kinds stand in one list, offers first.
 ghost use Rattle.std.specs.Prelude.{◌≡◌, ◌≤◌, ◌+◌, ◌++◌, ◌<◌, cond, eqb, map, length};
 ghost use Rattle.std.specs.List.{list_any};
 ghost use Rattle.rules.specs.Lists.{All, any};
@@ -7,15 +7,16 @@ ghost use Rattle.hour_offers.specs.View.{execution_in, executions_in};
 ghost use Rattle.hour_offers.specs.Sound.{ExecutionInRange};
 ghost use Rattle.hour_borders.specs.Directions.{published_in};
 ghost use Rattle.hour.specs.View.{energy_among, fresh_in, hour_in};
-ghost use Rattle.hour.specs.Units.{lodgement_of, lodgements_of, unit_energy, line_in, any_pair, last_ones, same_unit, clash, beyond, is_over, agree};
-ghost use Rattle.hour.specs.Ready.{InRange, are_units};
+ghost use Rattle.hour.specs.Units.{lodgement_of, lodgements_of, unit_energy, line_in, any_pair, last_ones, same_unit, clash, beyond, is_over, lodgements_possible};
+ghost use Rattle.hour.specs.Ready.{HourInRange, units_possible};
 
 use crate::Hour;
 use arrayvec::ArrayVec;
 use hour_offers::{Execution, Offer};
 use rules::{DIRECTIONS, LODGEMENTS, MAX_ENERGY, UNITS};
 
-// Offers as executions are: a holder and an energy. A slice's type does not tell that they are at most 128.
+// Offers as executions are: a holder and an energy. A slice's type does not tell that they are at most 128. By a loop: `extend` would bring a
+// `Result` to let go.
 fn as_lodgements(offers: &[Offer]) -> ArrayVec<Execution, LODGEMENTS>
     requires { length offers.now ≤ 128 }
     ensures lodgements { executions_in result.items ≡ map lodgement_of (map fresh_in offers.now) }
@@ -31,7 +32,7 @@ fn as_lodgements(offers: &[Offer]) -> ArrayVec<Execution, LODGEMENTS>
     lodgements
 }
 
-// Executions behind them.
+// Executions put behind an hour's other lodgements. By a loop, as above: `try_extend_from_slice` would bring a `Result` too.
 fn add(executions: &[Execution], lodgements: &mut ArrayVec<Execution, LODGEMENTS>)
     requires { length lodgements.old.items + length executions.now ≤ 128 }
     ensures { lodgements.new.items ≡ lodgements.old.items ++ executions.now }
@@ -52,14 +53,14 @@ fn clash(x: &Execution, y: &Execution) -> bool
             && (a.border != b.border || a.purchase != b.purchase || a.legacy != b.legacy))
 }
 
-// Whether one of some lodgements does with this one.
+// Whether a lodgement clashes with one of the others.
 fn clashes(x: &Execution, others: &[Execution]) -> bool
     ensures { result ≡ list_any (λ y. clash (execution_in x.now) (execution_in y)) others.now }
 {
     others.iter().any(|y| clash(x, y))
 }
 
-// Whether two of some lodgements do.
+// Whether two of some lodgements clash. By a loop: no iterator gives each element with those behind it.
 fn any_clash(lodgements: &[Execution]) -> bool
     ensures { result ≡ any_pair clash (executions_in lodgements.now) }
 {
@@ -73,7 +74,7 @@ fn any_clash(lodgements: &[Execution]) -> bool
     false
 }
 
-// Whether one of some lodgements is of this one's unit.
+// Whether one of the others is of a lodgement's unit.
 #[tactic(auto, unfolding(crate::specs::Units::same_unit))]
 fn stands_among(x: &Execution, others: &[Execution]) -> bool
     ensures { result ≡ list_any (λ y. same_unit (execution_in x.now) (execution_in y)) others.now }
@@ -81,8 +82,8 @@ fn stands_among(x: &Execution, others: &[Execution]) -> bool
     others.iter().any(|y| x.holder.unit == y.holder.unit)
 }
 
-// How many units some lodgements are of: each is counted at its last one.
-fn units_of(lodgements: &[Execution]) -> usize
+// How many units some lodgements are of: each is counted at its last one. By a loop, as in `any_clash`.
+fn count_units(lodgements: &[Execution]) -> usize
     requires { length lodgements.now ≤ 128 }
     ensures { result ≡ length (last_ones same_unit (executions_in lodgements.now)) }
 {
@@ -105,7 +106,7 @@ fn own(x: &Execution, unit: u32) -> u32
     if x.holder.unit == unit { x.energy } else { 0 }
 }
 
-// A unit's energy among some lodgements.
+// A unit's energy among some lodgements. By a loop: `sum` asks that no partial sum wraps, which a closure's result alone does not tell.
 fn energy_of(lodgements: &[Execution], unit: u32) -> u32
     requires few { length lodgements.now ≤ 128 }
     requires in_range { All ExecutionInRange (executions_in lodgements.now) }
@@ -157,7 +158,7 @@ fn is_over(capacities: &[Option<u32>; DIRECTIONS], lodgements: &[Execution], x: 
     MAX_ENERGY < energy || passes_line(capacities, x.holder.border, energy)
 }
 
-// Whether the unit of one of them has.
+// Whether the unit of one of some lodgements has more than it can have. By a loop: a closure cannot carry what `is_over` requires.
 fn any_over(capacities: &[Option<u32>; DIRECTIONS], lodgements: &[Execution]) -> bool
     requires few { length lodgements.now ≤ 128 }
     requires in_range { All ExecutionInRange (executions_in lodgements.now) }
@@ -171,9 +172,9 @@ fn any_over(capacities: &[Option<u32>; DIRECTIONS], lodgements: &[Execution]) ->
     false
 }
 
-// The lodgements of an hour.
+// The lodgements of an hour, offers first.
 #[tactic(auto, unfolding(crate::specs::Units::lodgements_of, crate::specs::View::hour_in))]
-fn lodgements(h: &Hour) -> ArrayVec<Execution, LODGEMENTS>
+fn lodgements_of(h: &Hour) -> ArrayVec<Execution, LODGEMENTS>
     requires { length h.now.offers.items + length h.now.executions.items ≤ 128 }
     ensures { executions_in result.items ≡ lodgements_of (hour_in h.now) }
 {
@@ -183,28 +184,28 @@ fn lodgements(h: &Hour) -> ArrayVec<Execution, LODGEMENTS>
 }
 
 // Whether no two of some lodgements are of one unit.
-fn of_many(lodgements: &[Execution]) -> bool
+fn units_differ(lodgements: &[Execution]) -> bool
     requires { length lodgements.now ≤ 128 }
     ensures { result ≡ eqb (length (last_ones same_unit (executions_in lodgements.now))) (length (executions_in lodgements.now)) }
 {
-    units_of(lodgements) == lodgements.len()
+    count_units(lodgements) == lodgements.len()
 }
 
-// Whether the units of some lodgements are such as a session has.
-#[tactic(auto, unfolding(crate::specs::Units::agree))]
-fn units_agree(capacities: &[Option<u32>; DIRECTIONS], lodgements: &[Execution]) -> bool
+// Whether a session can have the units of some lodgements.
+#[tactic(auto, unfolding(crate::specs::Units::lodgements_possible))]
+fn lodgements_possible(capacities: &[Option<u32>; DIRECTIONS], lodgements: &[Execution]) -> bool
     requires few { length lodgements.now ≤ 128 }
     requires in_range { All ExecutionInRange (executions_in lodgements.now) }
-    ensures { result ≡ agree (published_in capacities.now) (executions_in lodgements.now) }
+    ensures { result ≡ lodgements_possible (published_in capacities.now) (executions_in lodgements.now) }
 {
-    units_of(lodgements) <= UNITS && !any_clash(lodgements) && !any_over(capacities, lodgements)
+    count_units(lodgements) <= UNITS && !any_clash(lodgements) && !any_over(capacities, lodgements)
 }
 
-// Whether the units of an hour that is in its ranges are such as a session's hours have (`Ready` of specs/Ready.antt).
-#[tactic(auto, unfolding(crate::specs::Ready::are_units, crate::specs::View::hour_in))]
-pub fn units_ready(h: &Hour) -> bool
-    requires { InRange h.now }
-    ensures { result ≡ are_units h.now }
+// Whether a session can have the units of an hour that is in its ranges (`UnitsPossible` of specs/Ready.antt).
+#[tactic(auto, unfolding(crate::specs::Ready::units_possible, crate::specs::View::hour_in))]
+pub fn units_possible(h: &Hour) -> bool
+    requires { HourInRange h.now }
+    ensures { result ≡ units_possible h.now }
 {
-    of_many(&as_lodgements(&h.offers)) && units_agree(&h.capacities, &lodgements(h))
+    units_differ(&as_lodgements(&h.offers)) && lodgements_possible(&h.capacities, &lodgements_of(h))
 }

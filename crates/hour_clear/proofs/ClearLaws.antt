@@ -31,22 +31,22 @@ use Rattle.hour_cut.specs.Cuts.{Enough, Lowered}
 use Rattle.hour_market.specs.declared.Market.{Market}
 use Rattle.hour_market.specs.Parts.{MarketCleared}
 use Rattle.hour.specs.declared.Hour.{Hour}
-use Rattle.hour.specs.Ready.{InRange}
+use Rattle.hour.specs.Ready.{HourInRange}
 use Rattle.hour.specs.View.{hour_in, figures_in, figures_as, offer_as, execution_as}
-use Rattle.hour.proofs.ReadyLaws.{energy-of}
+use Rattle.hour.proofs.RangeLaws.{energy-of}
 use Rattle.hour.proofs.LaidLaws.{eight-at, figures-laid, figures-back}
 
--- a ready hour is one of the rules'
-pub hour-sound : {h : Hour} → InRange h → H.Sound (hour_in h)
+-- an hour in its ranges is one of the rules'
+pub hour-sound : {h : Hour} → HourInRange h → H.Sound (hour_in h)
 unfolding hour_in
 hour-sound {h} r = record { rising = r.offers-rise; once = published-once h.capacities }
 
-module _ {h : Hour} (ready : InRange h) (os : List Offer) {r : Market}
+module _ {h : Hour} (ranges : HourInRange h) (os : List Offer) {r : Market}
     (m : MarketCleared (hour_in h).offers h.capacities (executions_in h.executions.items) (offers_in os) r) where
   -- R ≤ G at every cut
   pub enough-said : All (Enough (offers_in os) (executions_in h.executions.items)) (published_in h.capacities)
   unfolding hour_in
-  enough-said = rw (← m.offers) (all_map (λ c q. q.enough) (H.hour-cleared (hour_in h) (hour-sound ready)).borders)
+  enough-said = rw (← m.offers) (all_map (λ c q. q.enough) (H.hour-cleared (hour_in h) (hour-sound ranges)).borders)
 
   -- the figures are the rules'
   cleared-said : (xs : List Execution) (b : List ℕ) → executions_in xs ≡ cut_all (offers_in os) (published_in h.capacities) (executions_in h.executions.items)
@@ -103,8 +103,8 @@ module _ (first : List M.Offer) (xs : List RuleExecution) (a : List (Option ℕ)
       (all_both (λ d t l. maximum-as d l t) (keep-passes (λ d. is_some (get_or a d None)) (from 0 8)) (all_keep (λ d. is_some (get_or a d None)) (from_all (λ d. d < 8) 0 8 (λ d h k. omega arith))))
       ∙ ap (map (directed (energies_of maxima))) (keep_same _ _ (from_all _ 0 8 (λ d h k. sym (ap (λ o. is_some o) (maximum-at d (omega arith)) ∙ made-some (maximum-on d) (get_or a d None))))))
 
--- the figures of a ready hour are read back
-pub figures-read : {h : Hour} → InRange h → figures_in (figures_as (C.clear_hour (hour_in h))) ≡ C.clear_hour (hour_in h)
+-- the figures of an hour in its ranges are read back
+pub figures-read : {h : Hour} → HourInRange h → figures_in (figures_as (C.clear_hour (hour_in h))) ≡ C.clear_hour (hour_in h)
 unfolding C.clear_hour hour_in
 figures-read {h} r = figures-back (C.clear_hour (hour_in h)) _ (maxima-published _ _ h.capacities)
 
@@ -114,8 +114,8 @@ each_all : {A B : Type 0} {R : A → B → Type 0} {P : A → Type 0} {Q : B →
 each_all f each0 none = none
 each_all f (each {x} {y} h t) (more k u) = more (f x y h k) (each_all f t u)
 
--- matched and executed energies of a ready hour are in range
-module _ {h : Hour} (r : InRange h) where
+-- so are its matched and executed energies
+module _ {h : Hour} (r : HourInRange h) where
   pub matched-small : All (λ (o : Offer). o.matched ≤ max_energy) (figures_as (C.clear_hour (hour_in h))).offers.items
   unfolding figures_as
   matched-small = all-mapped offer_as (each_all (λ o p f k. le_trans f.matched (le_trans f.offered k.energy.1)) (H.hour-cleared (hour_in h) (hour-sound r)).offers r.offers)

@@ -10,7 +10,7 @@ use Rattle.hour_offers.proofs.SoundLaws.{unmatched-of}
 use Rattle.hour.specs.View.{fresh_in, hour_in}
 use Rattle.hour.specs.Ready.{is_in_range, figures_in_range}
 use Rattle.std.specs.Prelude.{Some}
-use Rattle.hour.proofs.ReadyLaws.{range-holds, offers-sound, executions-in-range, capacities-small}
+use Rattle.hour.proofs.RangeLaws.{range-holds, offers-sound, executions-in-range, capacities-small}
 use Rattle.hour_clear.proofs.ClearLaws.{enough-said, figures-said, lowered-in-range, refilled}
 use Rattle.hour_clear.proofs.clear_in_range.Goals as goal
 
@@ -40,7 +40,7 @@ unfolding hour_in figures_in_range
 returns-then-in_range c =
     let h = c.args.h.now in
     let passed : is_in_range h ≡ true = sym c.in_range.ensures ∙ c.if-in_range.true in
-    let ready = range-holds h passed in
+    let ranges = range-holds h passed in
     let before = c.execution_flows-before in
     let os = c.clear-market.new.offers in
     let xs = c.cut.new.executions in
@@ -50,10 +50,10 @@ returns-then-in_range c =
     let m : MarketCleared (hour_in h).offers h.capacities (executions_in h.executions.items) (offers_in os) c.clear-market.result =
     subst (λ o. MarketCleared o h.capacities (executions_in h.executions.items) (offers_in os) c.clear-market.result) offers (c.clear-market.ensures.market_cleared (executions_in h.executions.items) flows) in
     let same : c.deref_mut-then-in_range.result.now ≡ h.executions.items = c.deref_mut-then-in_range.ensures.value ∙ own in
-    let cut = rw same at (c.cut.ensures.cut (offers_in os) c.clear-market.ensures.flows (rw same flows) (rw same (enough-said ready os m))) in
+    let cut = rw same at (c.cut.ensures.cut (offers_in os) c.clear-market.ensures.flows (rw same flows) (rw same (enough-said ranges os m))) in
     let z : c.deref-then-in_range-3.result.now ≡ xs = c.deref-then-in_range-3.ensures.0 ∙ refilled (length c.uncut.new.uncut.items) c.uncut.new.uncut.items xs (omega (arith, ap length c.deref_mut-then-in_range.ensures.value)) in
     rw passed (ap Some (rw (refilled (length c.fresh.new.fresh.items) c.fresh.new.fresh.items os (omega (arith, ap length c.deref_mut.ensures.value)), refilled (length c.uncut.new.uncut.items) c.uncut.new.uncut.items xs (omega (arith, ap length c.deref_mut-then-in_range.ensures.value)))
-    (figures-said ready os m xs c.execution_flows-bilateral.result cut (omega arith) (omega arith) c.clear-market.ensures.flows (omega arith)
+    (figures-said ranges os m xs c.execution_flows-bilateral.result cut (omega arith) (omega arith) c.clear-market.ensures.flows (omega arith)
     (subst (λ (l : List Execution). ExecutionFlows c.execution_flows-bilateral.result (executions_in l)) z c.execution_flows-bilateral.ensures.flows))))
 
 pub returns-else-in_range : goal.returns-else-in_range

@@ -1,7 +1,7 @@
 use Rattle.std.proofs.Common.{rules, nat_lt}
 use Rattle.std.proofs.lemmas.List.Sorted.{answers_always}
-use Rattle.hour.proofs.RangeLaws.{rises_answer}
-use Rattle.hour.proofs.readiness.rise.Goals as goal
+use Rattle.hour.proofs.RiseLaws.{rises_answer}
+use Rattle.hour.proofs.ranges.rise.Goals as goal
 
 pub returns : goal.returns
 returns g c =

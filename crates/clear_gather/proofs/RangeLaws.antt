@@ -1,4 +1,4 @@
--- An hour built from a session that stands for a sound book has every part in its range.
+-- An hour built from a session that stands for a sound book is in its ranges.
 use Prim.Native.Nat.{ℕ, zero, suc, ◌-◌, ◌≤◌, ◌<◌}
 use mathlib.Core.Path.{◌≡◌, refl, sym, ap, subst, ◌∙◌}
 use mathlib.Core.Bool.{Bool, true, false, not, ◌&&◌, ◌||◌, false≢true}
@@ -27,8 +27,8 @@ use Rattle.hour_offers.specs.View.{execution_in}
 use Rattle.hour.specs.declared.Hour.{Hour}
 use Rattle.hour_borders.specs.Directions.{directed, energies_of, published_in}
 use Rattle.hour.specs.View.{fresh_in, hour_in}
-use Rattle.hour.proofs.ReadyLaws.{energy-of}
-use Rattle.hour.specs.Ready.{Between, OfferReady, ExecutionReady, InRange}
+use Rattle.hour.proofs.RangeLaws.{energy-of}
+use Rattle.hour.specs.Ready.{Between, OfferWithin, ExecutionWithin, HourInRange}
 use Rattle.clear_gather.proofs.ListLaws.{all-within}
 use Rattle.session.specs.declared.Session.{Session}
 use Rattle.session.specs.Laid.{pad}
@@ -117,9 +117,9 @@ module _ (b : B.Book) (sound : S.Sound b) (h : ℕ) where
   abbrev day : R.Hour
   day = R.hour_of_day b (C.accepted_at b) h
 
-  offers-ready : All OfferReady day.offers
+  offers-within : All OfferWithin day.offers
   unfolding R.hour_of_day R.offer_at R.holder_of
-  offers-ready =
+  offers-within =
       all-mapped (R.offer_at b.units h)
       (all_keep (λ l. not l.key.execution) (all_map (λ l g. record {
         holder = record { number = g.0.number; unit = g.0.unit.number; border = (omega arith, g.0.unit.border); legacy = g.0.unit.legacy };
@@ -127,9 +127,9 @@ module _ (b : B.Book) (sound : S.Sound b) (h : ℕ) where
         energy = (g.1, g.0.energy);
       }) named-fits))
 
-  executions-ready : All ExecutionReady day.executions
+  executions-within : All ExecutionWithin day.executions
   unfolding R.hour_of_day R.execution_at R.holder_of
-  executions-ready =
+  executions-within =
       all-mapped (R.execution_at b.units h)
       (all_both (λ l t g. record {
         holder = record { number = g.0.number; unit = g.0.unit.number; border = (g.0.abroad t, g.0.unit.border); legacy = g.0.unit.legacy };
@@ -168,15 +168,15 @@ module _ (s : Session) (b : B.Book) (e : s ≡ I.image b) (sound : I.Sound b) (c
   unfolding published_in directed
   capacities-range = all-mapped (directed (energies_of h.capacities)) (all_keep (λ d. is_some (get_or h.capacities d None)) (from_all _ 0 8 (λ d l m. rw (energy-of h.capacities d) (capacity-range d (omega arith)))))
 
-  pub hour-in-range : InRange h
+  pub hour-in-range : HourInRange h
   unfolding hour_in R.hour_of_day R.offer_at R.execution_at R.holder_of C.accepted_at
   hour-in-range = record {
     offering = omega (arith, offers-count, few-offers b sound.ranges (λ l. ltb 0 (L.energy_at l (suc k))));
     room = omega (arith, offers-count, executions-count, all_room b sound.ranges (λ l. ltb 0 (L.energy_at l (suc k))));
-    offers = subst (λ x. All OfferReady x.offers) (sym same) (offers-ready b sound.ranges (suc k));
+    offers = subst (λ x. All OfferWithin x.offers) (sym same) (offers-within b sound.ranges (suc k));
     offers-rise = subst (λ x. Pairwise (λ o p. o.holder.number < p.holder.number) x.offers) (sym same)
         (pairwise_map (R.offer_at b.units (suc k)) (λ x y g. g) (pairwise-keep (λ l. not l.key.execution) (pairwise-keep (λ l. ltb 0 (L.energy_at l (suc k))) (pairwise-keep _ sound.ranges.standing.rising))));
-    executions = subst (λ x. All ExecutionReady x.executions) (sym same) (executions-ready b sound.ranges (suc k));
+    executions = subst (λ x. All ExecutionWithin x.executions) (sym same) (executions-within b sound.ranges (suc k));
     executions-rise = subst (λ x. Pairwise (λ o p. o.holder.number < p.holder.number) x.executions) (sym same)
         (pairwise_map (R.execution_at b.units (suc k)) (λ x y g. g) (pairwise-keep (λ l. l.key.execution) (pairwise-keep (λ l. ltb 0 (L.energy_at l (suc k))) (pairwise-keep _ sound.ranges.standing.rising))));
     capacities = capacities-range;

@@ -1,7 +1,7 @@
 use Rattle.std.proofs.Common.{◌≡◌, ◌+◌, length}
 use Rattle.hour_offers.specs.View.{executions_in}
 use Rattle.hour.specs.Units.{last_ones, same_unit}
-use Rattle.hour.proofs.units.units_of.Given as goal
+use Rattle.hour.proofs.units.count_units.Given as goal
 
 abbrev pub invariant-loop-x : goal.invariant-loop-x
 invariant-loop-x l =

@@ -2,7 +2,7 @@ use Rattle.std.proofs.Common.{arith, sym, ◌∙◌}
 use Rattle.hour_offers.specs.View.{execution_in}
 use Rattle.hour.specs.Units.{same_unit}
 use Rattle.hour.proofs.PairLaws.{last-later, last-here, last_end, few-last}
-use Rattle.hour.proofs.units.units_of.Goals as goal
+use Rattle.hour.proofs.units.count_units.Goals as goal
 
 pub overflow_add-count : goal.overflow_add-count
 overflow_add-count c = record { fits = omega (arith, c.loop-x.invariant, few-last execution_in same_unit c.args.lodgements.now) }
