@@ -1,13 +1,13 @@
 // Whether a session can have the units of an hour's lodgements. Both kinds stand in one list, offers first.
-ghost use Rattle.std.specs.Prelude.{◌≡◌, ◌≤◌, ◌+◌, ◌++◌, ◌<◌, cond, eqb, map, length};
-ghost use Rattle.std.specs.List.{list_any};
+ghost use Rattle.std.specs.Prelude.{◌≡◌, ◌≤◌, ◌+◌, ◌^◌, ◌++◌, ◌<◌, cond, eqb, map, length};
+ghost use Rattle.std.specs.List.{list_any, sum_by};
 ghost use Rattle.rules.specs.Lists.{All, any};
 ghost use Rattle.rules.specs.Units.{passes};
 ghost use Rattle.hour_offers.specs.View.{execution_in, executions_in};
 ghost use Rattle.hour_offers.specs.Sound.{ExecutionInRange};
 ghost use Rattle.hour_borders.specs.Directions.{published_in};
 ghost use Rattle.hour.specs.View.{energy_among, fresh_in, hour_in};
-ghost use Rattle.hour.specs.Units.{lodgement_of, lodgements_of, unit_energy, line_in, any_pair, last_ones, same_unit, clash, beyond, is_over, lodgements_possible};
+ghost use Rattle.hour.specs.Units.{lodgement_of, lodgements_of, line_in, any_pair, last_ones, same_unit, clash, beyond, is_over, lodgements_possible};
 ghost use Rattle.hour.specs.Ready.{HourInRange, units_possible};
 
 use crate::Hour;
@@ -100,41 +100,33 @@ fn count_units(lodgements: &[Execution]) -> usize
 
 // A lodgement's energy, if it is the unit's.
 fn own(x: &Execution, unit: u32) -> u32
-    ensures own { result ≡ cond (eqb x.now.holder.unit unit) x.now.energy 0 }
-    ensures within { result ≤ x.now.energy }
+    ensures { result ≡ cond (eqb x.now.holder.unit unit) x.now.energy 0 }
 {
     if x.holder.unit == unit { x.energy } else { 0 }
 }
 
-// A unit's energy among some lodgements. By a loop: `sum` asks that no partial sum wraps, which a closure's result alone does not tell.
+// A unit's energy among some lodgements. That it fits is asked, which a slice's type does not tell.
 fn energy_of(lodgements: &[Execution], unit: u32) -> u32
-    requires few { length lodgements.now ≤ 128 }
-    requires in_range { All ExecutionInRange (executions_in lodgements.now) }
-    ensures { result ≡ unit_energy (executions_in lodgements.now) unit }
+    requires { sum_by (λ x. cond (eqb x.holder.unit unit) x.energy 0) lodgements.now < 2 ^ 32 }
+    ensures { result ≡ sum_by (λ x. cond (eqb x.holder.unit unit) x.energy 0) lodgements.now }
 {
-    let mut sum = 0;
-    for x in lodgements {
-        sum += own(x, unit);
-    }
-    sum
+    lodgements.iter().map(|x| own(x, unit)).sum()
 }
 
-// A direction's capacity. Border 0 has no direction.
+// A direction's capacity. Only borders 1 to 4 have directions.
 fn capacity(capacities: &[Option<u32>; DIRECTIONS], border: u32, export: bool) -> Option<u32>
-    requires border { border < 5 }
     ensures { result ≡ energy_among (published_in capacities.now) border export }
 {
-    if border == 0 {
-        return None;
+    match border {
+        1..=4 => capacities[hour_borders::direction(border, export)],
+        _ => None,
     }
-    capacities[hour_borders::direction(border, export)]
 }
 
 // Whether an energy passes limit 12: "at a border with both directions published, the sum of the two capacities". What is left of it
 // above the one is compared with the other, since the type of an option in an array does not tell that two can be added.
 #[tactic(auto, unfolding(crate::specs::Units::line_in, crate::specs::Units::both_of, rules::specs::Units::passes), using(crate::proofs::LineLaws::sum_above))]
 fn passes_line(capacities: &[Option<u32>; DIRECTIONS], border: u32, energy: u32) -> bool
-    requires border { border < 5 }
     ensures { result ≡ passes energy (line_in (published_in capacities.now) border) }
 {
     let Some(export) = capacity(capacities, border, true) else {
@@ -147,29 +139,22 @@ fn passes_line(capacities: &[Option<u32>; DIRECTIONS], border: u32, energy: u32)
 }
 
 // Whether a lodgement's unit has more than any unit at its border can have.
-#[tactic(auto, unfolding(crate::specs::Units::is_over, crate::specs::Units::beyond))]
 fn is_over(capacities: &[Option<u32>; DIRECTIONS], lodgements: &[Execution], x: &Execution) -> bool
     requires few { length lodgements.now ≤ 128 }
     requires in_range { All ExecutionInRange (executions_in lodgements.now) }
-    requires border { x.now.holder.border < 5 }
     ensures { result ≡ is_over (published_in capacities.now) (executions_in lodgements.now) (execution_in x.now) }
 {
     let energy = energy_of(lodgements, x.holder.unit);
     MAX_ENERGY < energy || passes_line(capacities, x.holder.border, energy)
 }
 
-// Whether the unit of one of some lodgements has more than it can have. By a loop: a closure cannot carry what `is_over` requires.
+// Whether the unit of one of some lodgements has more than it can have.
 fn any_over(capacities: &[Option<u32>; DIRECTIONS], lodgements: &[Execution]) -> bool
     requires few { length lodgements.now ≤ 128 }
     requires in_range { All ExecutionInRange (executions_in lodgements.now) }
-    ensures { result ≡ any (is_over (published_in capacities.now) (executions_in lodgements.now)) (executions_in lodgements.now) }
+    ensures { result ≡ list_any (λ x. is_over (published_in capacities.now) (executions_in lodgements.now) (execution_in x)) lodgements.now }
 {
-    for x in lodgements {
-        if is_over(capacities, lodgements, x) {
-            return true;
-        }
-    }
-    false
+    lodgements.iter().any(|x| is_over(capacities, lodgements, x))
 }
 
 // The lodgements of an hour, offers first.
@@ -192,7 +177,7 @@ fn units_differ(lodgements: &[Execution]) -> bool
 }
 
 // Whether a session can have the units of some lodgements.
-#[tactic(auto, unfolding(crate::specs::Units::lodgements_possible))]
+#[tactic(auto, unfolding(crate::specs::Units::lodgements_possible), using(crate::proofs::LineLaws::over_each))]
 fn lodgements_possible(capacities: &[Option<u32>; DIRECTIONS], lodgements: &[Execution]) -> bool
     requires few { length lodgements.now ≤ 128 }
     requires in_range { All ExecutionInRange (executions_in lodgements.now) }
