@@ -2,14 +2,14 @@
 use Prim.Native.Nat.{ℕ, zero, suc, ◌+◌, ◌/◌, ◌%◌, ◌≤◌, ◌<◌}
 use mathlib.Core.Path.{◌≡◌, refl, sym, ap, ap₂, ◌∙◌}
 use mathlib.Core.Bool.{Bool, true, false, cond, not, ◌&&◌, beq, false≢true}
-use mathlib.Core.List.{List, [], ◌∷◌, map}
+use mathlib.Core.List.{List, [], ◌∷◌, map, map-id}
 use mathlib.Core.Option.{none as nothing}
 use native.Mathlib.Omega.{arith}
 use lib.Dec.{ltb, eqb}
 use lib.ListN.{get_or, length, replicate, length-map, length-replicate}
 use Rattle.std.specs.Prelude.{is_some, unwrap_or, Option, None, Some as Given}
 use borrow.Author.Tests.{eqb-true, eqb-false, eq-eqb, ne_eqb, lt-ltb, le-ltb, ltb-false}
-use Rattle.rules.specs.Lists.{All, none, more, Some, here, there, Pairwise, any, keep, sum, sum_of, from, hourly}
+use Rattle.rules.specs.Lists.{All, none, more, Some, here, there, Pairwise, any, keep, sum_of, from, hourly}
 use Rattle.rules.specs.Hours.{unfold_hours}
 use Rattle.rules.specs.Units as U
 use Rattle.rules.specs.Message as M
@@ -26,7 +26,7 @@ use Rattle.rules.specs.Demands.{Judgement, Passes, verdict_of, taken_before, acc
 use Rattle.rules.proofs.BoolLaws.{by_bool, not-both, of-not, both, of-neither, beq-true}
 use Rattle.rules.proofs.ListLaws.{all_map, all_append, all-mapped, all-parts, all-unkept, all_replicate, first_passes, of-any-false, hourly-suc, get_or-pad}
 use Rattle.rules.proofs.ElementLaws.{all_both, all-every, all-unmapped, any-true, pairwise_map, pairwise-weaken, some-map}
-use Rattle.rules.proofs.SumLaws.{sum-keep, sum-append, sum-some, sum-two}
+use Rattle.rules.proofs.SumLaws.{sum-append, sum-some, sum-two}
 use Rattle.rules.proofs.OrderLaws.{before-asym}
 use Rattle.rules.proofs.MessageLaws.{good, write_read, of-writes}
 use Rattle.rules.proofs.CeilingLaws.{over-ceiling}
@@ -48,7 +48,7 @@ use Rattle.clear_gather.specs.Holding.{Holding, unit_for, lodgement_for, offer_f
 use Rattle.clear_gather.proofs.ListLaws.{flat, kept-flat, eight}
 use Rattle.clear_gather.proofs.HourLaws.{hour-same}
 use Rattle.clear_gather.proofs.RangeLaws.{first_one}
-use Rattle.clear_gather.proofs.HourReadyLaws.{optional, both-as}
+use Rattle.clear_gather.proofs.HourReadyLaws.{energy-made, optional, both-as}
 use Rattle.clear_gather.proofs.InsertLaws.{all_inserted, length_inserted, pair-inserted, rise-inserted, keep_all, keep-inserted, keep-others, each-among, pairwise-parts, every_two, one_more}
 
 -- One lodgement
@@ -183,30 +183,10 @@ keys-differ k l f =
     let c = both (beq k.key.execution l.key.execution) (eqb k.key.unit l.key.unit) b.0 in
     f (beq-true _ _ c.0) (eqb-true _ _ c.1) (eqb-true _ _ b.1))
 
--- Energies
-
--- what a unit has of lodgements made from a list is what it has of the list's
-energy-made : {A : Type 0} (f : A → L.Lodgement) (g : A → Execution) (u : ℕ) → ((a : A) → (f a).key.unit ≡ (g a).holder.unit) → ((a : A) → L.energy_at (f a) 1 ≡ (g a).energy) → (zs : List A)
-    → energy_on u 1 (map f zs) ≡ unit_energy (map g zs) u
-unfolding unit_energy sum_of sum keep
-energy-made f g u p q [] = refl
-energy-made f g u p q (a ∷ zs) =
-    omega (
-      arith,
-      sum-keep (λ l. L.energy_at l 1) (λ l. eqb l.key.unit u) (f a) (map f zs),
-      sum-keep (λ (y : Execution). y.energy) (λ y. eqb y.holder.unit u) (g a) (map g zs),
-      ap₂ (λ n e. cond (eqb n u) e 0) (p a) (q a),
-      energy-made f g u p q zs,
-    )
-
 -- lists made and read again
 map_back : {A B : Type 0} (f : A → B) (g : B → A) {zs : List A} → All (λ a. g (f a) ≡ a) zs → map g (map f zs) ≡ zs
 map_back f g none = refl
 map_back f g (more h t) = ap₂ (λ x xs. x ∷ xs) h (map_back f g t)
-
-map-self : {A : Type 0} (zs : List A) → map (λ a. a) zs ≡ zs
-map-self [] = refl
-map-self (a ∷ zs) = ap (λ (l : List _). a ∷ l) (map-self zs)
 
 -- no normal lodgement is hidden
 hides-none : (a b : M.Key) → b.default ≡ false → L.hides a b ≡ false
@@ -474,9 +454,9 @@ module _ (h : Hour) (r : Ready h) where
         sum-two e p (λ l. l.key.execution) (insert_all os xs),
         ap (λ ks. sum_of e (keep p ks)) offers-kept,
         ap (λ ks. sum_of e (keep p ks)) executions-kept,
-        energy-made offer_for lodgement_of u (λ o. refl) (λ o. refl) (hour_in h).offers,
-        energy-made execution_for (λ y. y) u (λ y. refl) (λ y. refl) (hour_in h).executions,
-        ap (λ ys. sum_of (λ (y : Execution). y.energy) (keep (λ y. eqb y.holder.unit u) ys)) (map-self (hour_in h).executions),
+        energy-made offer_for lodgement_of u 1 (all-every (λ o. (refl, refl)) (hour_in h).offers),
+        energy-made execution_for (λ y. y) u 1 (all-every (λ y. (refl, refl)) (hour_in h).executions),
+        ap (λ ys. sum_of (λ (y : Execution). y.energy) (keep (λ y. eqb y.holder.unit u) ys)) (map-id (hour_in h).executions),
         sum-append (λ (y : Execution). y.energy) (λ y. eqb y.holder.unit u) (map lodgement_of (hour_in h).offers) (hour_in h).executions,
       )
 

@@ -1,8 +1,8 @@
 -- Every hour gathered from a session is ready: the units of a sound book's hour, their offers, and their energies within the ceiling.
 use Prim.Native.Nat.{ℕ, zero, suc, ◌-◌, ◌≤◌, ◌<◌}
-use mathlib.Core.Path.{◌≡◌, refl, sym, ap, subst, ◌∙◌}
-use mathlib.Core.Bool.{Bool, true, false, not}
-use mathlib.Core.List.{List, [], ◌∷◌, ◌++◌, map, map-map}
+use mathlib.Core.Path.{◌≡◌, refl, sym, ap, ap₂, subst, ◌∙◌}
+use mathlib.Core.Bool.{Bool, true, false, cond, not}
+use mathlib.Core.List.{List, [], ◌∷◌, ◌++◌, map, map-map, map-id}
 use mathlib.Core.Option.{some, none as nothing}
 use native.Mathlib.Omega.{arith}
 use lib.Dec.{leb, ltb, eqb}
@@ -17,9 +17,9 @@ use Rattle.rules.specs.Borders.{Execution}
 use Rattle.rules.specs.Clearing as R
 use Rattle.rules.specs.Sound as S
 use Rattle.rules.proofs.BoolLaws.{by_bool}
-use Rattle.rules.proofs.ListLaws.{all_map, all_append, all_keep, all-mapped, all_head, all_tail, any_false, keep-map, keep_same, get_or-pad, hourly-suc}
+use Rattle.rules.proofs.ListLaws.{all_map, all_append, all_keep, all-mapped, all_head, all_tail, any_false, get_or-pad, hourly-suc}
 use Rattle.rules.proofs.ElementLaws.{pairwise-keep, pairwise_append, pairwise-apart, pairwise_map, pairwise-weaken, pairwise-with}
-use Rattle.rules.proofs.SumLaws.{sum-append, sum-some, sum-two}
+use Rattle.rules.proofs.SumLaws.{sum-keep, sum-append, sum-some, sum-two}
 use Rattle.rules.proofs.CeilingLaws.{over-ceiling}
 use Rattle.rules.proofs.ClosingLaws.{energy_on, accepted-within}
 use Rattle.rules.proofs.DemandLaws.{unit-number}
@@ -54,6 +54,20 @@ sum-none f (more h t) = omega (arith, h, sum-none f t)
 map-parts : {A B : Type 0} (f : A → B) (xs ys : List A) → map f (xs ++ ys) ≡ map f xs ++ map f ys
 map-parts f [] ys = refl
 map-parts f (x ∷ xs) ys = ap (λ (l : List _). f x ∷ l) (map-parts f xs ys)
+
+-- what a unit has of lodgements made from a list is what it has of the executions made from it
+pub energy-made : {A : Type 0} (f : A → L.Lodgement) (g : A → Execution) (u h : ℕ) {zs : List A} → All (λ a. ((f a).key.unit ≡ (g a).holder.unit) × (L.energy_at (f a) h ≡ (g a).energy)) zs
+    → energy_on u h (map f zs) ≡ unit_energy (map g zs) u
+unfolding unit_energy sum_of sum keep
+energy-made f g u h none = refl
+energy-made f g u h (more {x = a} {xs = zs} r t) =
+    omega (
+      arith,
+      sum-keep (λ l. L.energy_at l h) (λ l. eqb l.key.unit u) (f a) (map f zs),
+      sum-keep (λ (y : Execution). y.energy) (λ y. eqb y.holder.unit u) (g a) (map g zs),
+      ap₂ (λ n e. cond (eqb n u) e 0) r.0 r.1,
+      energy-made f g u h t,
+    )
 
 module _ (b : B.Book) (sound : S.Sound b) (h : ℕ) (start : 1 ≤ h) where
   abbrev named : L.Lodgement → Bool
@@ -134,12 +148,9 @@ module _ (b : B.Book) (sound : S.Sound b) (h : ℕ) (start : 1 ≤ h) where
 
   -- Energies
 
-  energy-made : (u : ℕ) {ls : List L.Lodgement} → All Own ls → unit_energy (map (R.execution_at b.units h) ls) u ≡ energy_on u h ls
-  unfolding unit_energy R.execution_at R.holder_of sum_of
-  energy-made u {ls} a =
-      ap (λ (xs : List Execution). sum_of (λ x. x.energy) xs) (keep-map (R.execution_at b.units h) (λ x. eqb x.holder.unit u) ls)
-      ∙ (ap sum (map-map (λ (x : Execution). x.energy) (R.execution_at b.units h) (keep (λ l. eqb (U.unit_of b.units l.key.unit).unit.number u) ls))
-      ∙ ap (λ (xs : List L.Lodgement). sum (map (λ l. L.energy_at l h) xs)) (keep_same (λ l. eqb (U.unit_of b.units l.key.unit).unit.number u) (λ l. eqb l.key.unit u) (all_map (λ l p. ap (λ n. eqb n u) p.1) a)))
+  energy-own : (u : ℕ) → unit_energy (map (R.execution_at b.units h) taken) u ≡ energy_on u h taken
+  unfolding R.execution_at R.holder_of
+  energy-own u = sym (energy-made (λ l. l) (R.execution_at b.units h) u h (all_map (λ l p. (sym p.1, refl)) own)) ∙ ap (energy_on u h) (map-id taken)
 
   energy-taken : (u : ℕ) → energy_on u h taken ≤ energy_on u h (C.accepted_at b)
   energy-taken u =
@@ -178,7 +189,7 @@ module _ (b : B.Book) (sound : S.Sound b) (h : ℕ) (start : 1 ≤ h) where
 
     unit-within : (energy ≤ U.max_energy) × (U.passes energy (U.border_sum b.capacities unit.border h) ≡ false)
     unit-within =
-        let e : energy ≡ energy_on l.key.unit h taken = ap (unit_energy (map (R.execution_at b.units h) taken)) p.1 ∙ energy-made l.key.unit own in
+        let e : energy ≡ energy_on l.key.unit h taken = ap (unit_energy (map (R.execution_at b.units h) taken)) p.1 ∙ energy-own l.key.unit in
         let w = unpassed l.key.unit energy (omega (arith, e, energy-taken l.key.unit, within l.key.unit)) in
         (omega (arith, w.0, (unit-good b sound h l p.0).maximum), w.1)
 
