@@ -16,6 +16,7 @@ import time
 from collections import Counter
 
 import gate
+import held
 from gate import (BORDERS, DIRECTIONS, EXECUTION, EXPORT, IMPORT, OFFER, PURCHASE, SALE,
                   DayBook, Execution, Message, Offer, Refused)
 
@@ -859,6 +860,24 @@ def test_hours(rng):
     return seen
 
 
+def test_held(rng):
+    """An hour that a session can hold, by the sentences and by the calls."""
+    seen = Counter()
+    for turn in range(6000):
+        hour = held.at_random(rng, rng.choice((0, 1, 2, 3, 5, 8)), rng.choice(((1,), (1, 3), BORDERS)), rng.choice((20, 90, 60_000)))
+        same(held.why_not(*hour), set(), "hour", turn)
+        check(held.calls_hold(*hour), "hour", turn, "is not held", hour)
+        seen["held"] += 1
+        hour = held.spoilt(rng, *hour)
+        reasons = held.why_not(*hour)
+        same(held.calls_hold(*hour), not reasons, "spoilt hour", turn, reasons, hour)
+        seen["held" if not reasons else "not held"] += 1
+        seen.update(reasons)
+    needed(seen, ["lodging number", "unit number", "border", "legacy mark", "domestic execution", "energy", "price", "order",
+                  "one number twice", "two units of one number", "two offers", "maximum", "border sum", "capacity"], 20)
+    return seen
+
+
 def needed(seen, names, least):
     for name in names:
         check(seen[name] >= least, "the random material is too thin:", name, "only", seen[name])
@@ -1031,7 +1050,7 @@ def test_demand_3(rng):
 
 
 TESTS = (test_dates, test_twelve_figures, test_edges, test_full, test_messages, test_share, test_hours,
-         test_demand_3)
+         test_held, test_demand_3)
 
 
 def run(long=False):

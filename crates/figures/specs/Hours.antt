@@ -2,7 +2,7 @@
 use Rattle.std.specs.Prelude.{cond, ltb, eqb, [], ◌∷◌, ◌++◌, length, set, replicate, Option, Some, None}
 use Rattle.rules.specs.Units.{direction}
 use Rattle.hour.specs.declared.Hour.{Hour}
-use Rattle.hour.specs.Ready.{figures_in_range}
+use Rattle.hour.specs.Ready.{figures_of, figures_in_range}
 use Rattle.figures.specs.declared.hours.Cleared.{Cleared}
 use Rattle.figures.specs.declared.hours.Part.{Part}
 use Rattle.figures.specs.declared.hours.Part.TheVariants.{Offer, Execution, Capacity}
@@ -22,9 +22,16 @@ abbrev pub put_in : Part → Option Hour → Option Hour
 put_in part None = None
 put_in part (Some h) = with_part part h
 
--- an hour's figures beside its capacities, if its parts are in their ranges
+-- an hour's figures beside its capacities, if it is in its ranges
+abbrev pub in_range_of : Hour → Option Cleared
+in_range_of h = elim (figures_in_range h) [ None ↦ None | Some figures ↦ Some (record { capacities = h.capacities; figures = figures }) ]
+
+abbrev pub answer_in_range : Option Hour → Option Cleared
+answer_in_range = elim [ None ↦ None | Some h ↦ in_range_of h ]
+
+-- the same, if a session can hold it
 abbrev pub cleared_of : Hour → Option Cleared
-cleared_of h = elim (figures_in_range h) [ None ↦ None | Some figures ↦ Some (record { capacities = h.capacities; figures = figures }) ]
+cleared_of h = elim (figures_of h) [ None ↦ None | Some figures ↦ Some (record { capacities = h.capacities; figures = figures }) ]
 
 abbrev pub answer_of : Option Hour → Option Cleared
 answer_of = elim [ None ↦ None | Some h ↦ cleared_of h ]

@@ -1,7 +1,7 @@
 // An hour given line by line, cleared, and its figures shown.
 ghost use Rattle.std.specs.Prelude.{◌≡◌, ◌+◌, true, false, Some, None};
 ghost use Rattle.std.proofs.Math.IntN.{sub_ℕ};
-ghost use Rattle.figures.specs.Hours.{no_parts, with_part, put_in, cleared_of, answer_of};
+ghost use Rattle.figures.specs.Hours.{no_parts, with_part, put_in, in_range_of, cleared_of, answer_in_range, answer_of};
 
 use arrayvec::ArrayVec;
 use hour::{Figures, Hour};
@@ -71,7 +71,16 @@ impl NextHour {
         }
     }
 
-    // The hour cleared, and the next begins.
+    // The hour cleared if it is in its ranges, and the next begins.
+    pub(crate) fn clear_in_range(&mut self) -> Answer
+        ensures answer { result.0 ≡ answer_in_range self.old.0 }
+        ensures next { self.new.0 ≡ Some no_parts }
+    {
+        let NextHour(hour) = mem::replace(self, NextHour::new());
+        Answer(hour.and_then(|hour| Cleared::in_range(hour)))
+    }
+
+    // The hour cleared if a session can hold it, and the next begins.
     pub(crate) fn clear(&mut self) -> Answer
         ensures answer { result.0 ≡ answer_of self.old.0 }
         ensures next { self.new.0 ≡ Some no_parts }
@@ -81,7 +90,7 @@ impl NextHour {
     }
 }
 
-// What is written of an hour: its figures, or "not ready" where a part is out of its range. Its units are not compared.
+// What is written of an hour: its figures, or "not ready" where it is not cleared.
 #[derive(Drop)]
 pub(crate) struct Answer(Option<Cleared>);
 
@@ -102,10 +111,23 @@ struct Cleared {
 }
 
 impl Cleared {
+    // Of an hour in its ranges.
+    fn in_range(hour: Hour) -> Option<Cleared>
+        ensures { result ≡ in_range_of hour }
+    {
+        let figures = hour_clear::clear_in_range(&hour)?;
+        let capacities = hour.capacities;
+        Some(Cleared {
+            capacities,
+            figures,
+        })
+    }
+
+    // Of an hour that a session can hold.
     fn of(hour: Hour) -> Option<Cleared>
         ensures { result ≡ cleared_of hour }
     {
-        let figures = hour_clear::clear_in_range(&hour)?;
+        let figures = hour_clear::clear(&hour)?;
         let capacities = hour.capacities;
         Some(Cleared {
             capacities,

@@ -8,11 +8,15 @@
 //     w ROOM EXECUTION DEFAULT UNIT CONTRACT MAP, 25 energies, 25 prices
 //                                    a message written into ROOM bytes that all hold A5, and what they then hold
 //     o NUMBER BORDER PURCHASE LEGACY ENERGY PRICE
-//                                    an offer of the next hour
+//                                    an offer of the next hour, of a unit with the lodging number
 //     x NUMBER BORDER PURCHASE ENERGY
 //                                    an execution of it
+//     O NUMBER UNIT BORDER PURCHASE LEGACY ENERGY PRICE
+//     X NUMBER UNIT BORDER PURCHASE LEGACY ENERGY
+//                                    the same, of a unit with a number of its own
 //     k BORDER EXPORT ENERGY         a capacity of it
-//     h                              the hour so given, cleared; the next begins
+//     h                              the hour so given, cleared if it is in its ranges; the next begins
+//     H                              the same, if a session can hold it
 //
 // Any other line is written as it stands. tests/figures makes the input and, from the independent model, what is expected.
 #![tactic(auto)]
@@ -30,7 +34,7 @@ mod numbers;
 mod questions;
 
 // How many bytes of the input are read. A line that is cut there is a line.
-const INPUT: usize = 65_536;
+const INPUT: usize = 262_144;
 
 // A message written, if its room is not more than the buffer has.
 fn write<W: Write>(room: usize, fields: Fields, out: &mut W) -> io::Result<()> {
@@ -65,6 +69,7 @@ fn answer<W: Write>(question: Question, hour: &mut NextHour, out: &mut W) -> io:
             hour.put(part);
             Ok(())
         }
+        Question::ClearInRange => writeln!(out, "{}", hour.clear_in_range()),
         Question::Clear => writeln!(out, "{}", hour.clear()),
     }
 }

@@ -22,7 +22,9 @@ pub(crate) enum Question {
     Write(usize, Fields),
     // Of the next hour.
     Part(Part),
-    // The hour so given, cleared.
+    // The hour so given, cleared if it is in its ranges.
+    ClearInRange,
+    // The same, if a session can hold it.
     Clear,
 }
 
@@ -40,8 +42,11 @@ impl Question {
             b'w' => Some(write(numbers)),
             b'o' => Some(Question::Part(offer(numbers))),
             b'x' => Some(Question::Part(execution(numbers))),
+            b'O' => Some(Question::Part(offer_of_unit(numbers))),
+            b'X' => Some(Question::Part(execution_of_unit(numbers))),
             b'k' => Some(Question::Part(capacity(numbers))),
-            b'h' => Some(Question::Clear),
+            b'h' => Some(Question::ClearInRange),
+            b'H' => Some(Question::Clear),
             _ => None,
         }
     }
@@ -118,6 +123,17 @@ fn write(mut numbers: Numbers<'_>) -> Question {
 // Of a unit with the number of its lodgement.
 fn offer(mut numbers: Numbers<'_>) -> Part {
     let number = numbers.number();
+    offered(number, number, numbers)
+}
+
+// Of a unit with a number of its own.
+fn offer_of_unit(mut numbers: Numbers<'_>) -> Part {
+    let number = numbers.number();
+    let unit = numbers.number();
+    offered(number, unit, numbers)
+}
+
+fn offered(number: u32, unit: u32, mut numbers: Numbers<'_>) -> Part {
     let border = numbers.number();
     let purchase = numbers.mark();
     let legacy = numbers.mark();
@@ -125,7 +141,7 @@ fn offer(mut numbers: Numbers<'_>) -> Part {
     let price = numbers.number();
     let holder = Holder {
         number,
-        unit: number,
+        unit,
         border,
         purchase,
         legacy,
@@ -133,6 +149,7 @@ fn offer(mut numbers: Numbers<'_>) -> Part {
     Part::Offer(Offer::new(holder, price, energy))
 }
 
+// Of a unit with the number of its lodgement, not legacy.
 fn execution(mut numbers: Numbers<'_>) -> Part {
     let number = numbers.number();
     let border = numbers.number();
@@ -144,6 +161,24 @@ fn execution(mut numbers: Numbers<'_>) -> Part {
         border,
         purchase,
         legacy: false,
+    };
+    Part::Execution(Execution::new(holder, energy))
+}
+
+// Of a unit with a number and a legacy mark of its own.
+fn execution_of_unit(mut numbers: Numbers<'_>) -> Part {
+    let number = numbers.number();
+    let unit = numbers.number();
+    let border = numbers.number();
+    let purchase = numbers.mark();
+    let legacy = numbers.mark();
+    let energy = numbers.number();
+    let holder = Holder {
+        number,
+        unit,
+        border,
+        purchase,
+        legacy,
     };
     Part::Execution(Execution::new(holder, energy))
 }
