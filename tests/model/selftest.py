@@ -863,7 +863,7 @@ def test_hours(rng):
 def test_held(rng):
     """An hour that a session can hold, by the sentences and by the calls."""
     seen = Counter()
-    for turn in range(6000):
+    for turn in range(2500):
         hour = held.at_random(rng, rng.choice((0, 1, 2, 3, 5, 8)), rng.choice(((1,), (1, 3), BORDERS)), rng.choice((20, 90, 60_000)))
         same(held.why_not(*hour), set(), "hour", turn)
         check(held.calls_hold(*hour), "hour", turn, "is not held", hour)
@@ -874,7 +874,7 @@ def test_held(rng):
         seen["held" if not reasons else "not held"] += 1
         seen.update(reasons)
     needed(seen, ["lodging number", "unit number", "border", "legacy mark", "domestic execution", "energy", "price", "order",
-                  "one number twice", "two units of one number", "two offers", "maximum", "border sum", "capacity"], 20)
+                  "one number twice", "two units of one number", "two offers", "maximum", "border sum", "capacity"], 10)
     return seen
 
 
