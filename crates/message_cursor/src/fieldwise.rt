@@ -5,7 +5,9 @@ ghost use Rattle.message.specs.View.{fields_as, reading_as, reading_of};
 ghost use Rattle.message_cursor.specs.Taking.{SlotsTaken};
 
 use crate::Reader;
-use message::form::price_width;
+use message::form::{
+    ENERGY_WIDTH, FORM_WIDTH, KIND_WIDTH, MARK_WIDTH, NUMBER_WIDTH, price_width,
+};
 use message::hours::Hours;
 use message::judge::bad_fields;
 use message::{Fields, NO_FIELDS, Reading};
@@ -28,7 +30,7 @@ fn take_hours(reader: &mut Reader, m: &mut Fields)
     let energies = &mut m.energies;
     let prices = &mut m.prices;
     for h in hours {
-        energies[h] = reader.take(17);
+        energies[h] = reader.take(ENERGY_WIDTH);
         prices[h] = reader.take(price_width(execution));
     }
 }
@@ -38,11 +40,11 @@ fn fields_of(s: &[u8]) -> Fields
     ensures { result ≡ fields_as (message_of s.now) }
 {
     let mut reader = Reader::over(s);
-    let _form = reader.take(4);
-    let kind = reader.take(2);
-    let mark = reader.take(1);
-    let unit = reader.take(16);
-    let contract = reader.take(16);
+    let _form = reader.take(FORM_WIDTH);
+    let kind = reader.take(KIND_WIDTH);
+    let mark = reader.take(MARK_WIDTH);
+    let unit = reader.take(NUMBER_WIDTH);
+    let contract = reader.take(NUMBER_WIDTH);
     let map = reader.take(HOURS);
     let mut m = Fields {
         execution: kind == 1,

@@ -9,7 +9,7 @@ ghost use Rattle.message.specs.View.{fields_in, no_fields, outcome_of, reading_a
 ghost use Rattle.message_reader.specs.Slots.{ToFill, bad_hours, filled};
 
 use head::Head;
-use message::form::{price_width, slot_width};
+use message::form::{SLOTS_AT, price_width, slot_width};
 use message::hours::Hours;
 use message::{Fields, NO_FIELDS, Reading};
 use message_bits::slot_at;
@@ -47,7 +47,7 @@ fn fill<const EXECUTION: bool>(s: &[u8], m: &mut Fields) -> bool
     let width = slot_width(EXECUTION);
     let mask = (1u32 << price) - 1;
     // The bit of the next slot: the reader goes by slice and number, as document 01 names the form.
-    let mut at = 64;
+    let mut at = SLOTS_AT;
     let mut bad = false;
     for h in hours {
         let slot = slot_at(s, at, width);
