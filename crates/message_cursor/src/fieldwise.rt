@@ -1,6 +1,6 @@
 // A lodging message read field by field, by a reader set over it.
 ghost use Rattle.std.specs.Prelude.{◌≡◌, ◌^◌, ◌<◌, replicate};
-ghost use Rattle.rules.specs.Message.{form1, bits_of, hour_bits, message_of, read as reading};
+ghost use Rattle.rules.specs.Message.{form1, bits_of, hour_bits, map_width, message_of, read as reading};
 ghost use Rattle.message.specs.View.{fields_as, reading_as, reading_of};
 ghost use Rattle.message_cursor.specs.Taking.{SlotsTaken};
 
@@ -19,7 +19,7 @@ use rules::row::Row;
 // Fills in the energy and the price of each hour that the map names, "energy 17, and for an offer price 15", after the fields before the slots
 // were taken. The others stay 0.
 fn take_hours(reader: &mut Reader, m: &mut Fields)
-    requires map { m.old.map < 2 ^ 25 }
+    requires map { m.old.map < 2 ^ map_width }
     requires energies { m.old.energies ≡ replicate 25 0 }
     requires prices { m.old.prices ≡ replicate 25 0 }
     ensures taken { SlotsTaken (bits_of reader.old.message.now) form1.width m.old.execution (hour_bits m.old.map) reader.old.at m.new.energies m.new.prices reader.new.at }
