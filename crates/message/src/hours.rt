@@ -14,7 +14,6 @@ pub struct Hours {
 
 impl Model for Hours {
     ghost use Rattle.std.specs.Prelude.{ℕ, ◌^◌, ◌<◌};
-
     ghost use Rattle.rules.specs.Message.{map_width};
 
     ghost Value = { ℕ };

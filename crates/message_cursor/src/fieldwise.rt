@@ -5,9 +5,7 @@ ghost use Rattle.message.specs.View.{fields_as, reading_as, reading_of};
 ghost use Rattle.message_cursor.specs.Taking.{SlotsTaken};
 
 use crate::Reader;
-use message::form::{
-    ENERGY_WIDTH, FORM_WIDTH, KIND_WIDTH, MARK_WIDTH, NUMBER_WIDTH, price_width,
-};
+use message::form::{ENERGY_WIDTH, FORM_WIDTH, KIND_WIDTH, MARK_WIDTH, NUMBER_WIDTH, price_width};
 use message::hours::Hours;
 use message::judge::bad_fields;
 use message::{Fields, NO_FIELDS, Reading};

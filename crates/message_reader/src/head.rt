@@ -6,8 +6,8 @@ ghost use Rattle.message_reader.specs.Slots.{blank};
 
 use message::Fields;
 use message::form::{
-    CONTRACT_AT, FORM_WIDTH, KIND_AT, KIND_WIDTH, MAP_AT, MARK_AT, MARK_WIDTH, NUMBER_WIDTH, SLOTS_AT,
-    UNIT_AT, length_for, slots_end,
+    CONTRACT_AT, FORM_WIDTH, KIND_AT, KIND_WIDTH, MAP_AT, MARK_AT, MARK_WIDTH, NUMBER_WIDTH,
+    SLOTS_AT, UNIT_AT, length_for, slots_end,
 };
 use message_bits::{part, slot_at};
 use rules::HOURS;

@@ -13,8 +13,8 @@ ghost use Rattle.query_balance.specs.Parts.{BorderFits, bad_border, balance_quer
 use answer::Response;
 use hour_borders::direction;
 use query::{Query, judge_hour, reply};
-use rules::{DIRECTIONS, LAST_BORDER};
 use rules::row::Row;
+use rules::{DIRECTIONS, LAST_BORDER};
 use session::{HourFigures, Session};
 
 // Which of a border's balances is asked for.

@@ -11,8 +11,8 @@ ghost use Rattle.session.specs.Parts.{number_is};
 ghost use Rattle.register.specs.Registry.{beside_unit};
 
 use answer::Response;
-use rules::{LAST_BORDER, bad_number};
 use rules::row::Row;
+use rules::{LAST_BORDER, bad_number};
 use session::{Effect, Session, Unit, no_notice};
 use session_changes::{Call, RegistryChange, Step, run};
 
