@@ -111,14 +111,14 @@ module _ (b : Book) (s : R.Sound b) (response : Q.Query → Response) (said : (q
         )) executed-as
 
     module _ (border : ℕ) (export : Bool) (capacity : ℕ) where
-      abbrev way : Directed
-      way = record { border = border; export = export; energy = capacity }
+      abbrev direction : Directed
+      direction = record { border = border; export = export; energy = capacity }
 
-      cut-units : Some (IsCut b response h border export) b.units → Some (M.UnitCut b way h) b.units
-      cut-units cut = some-all (λ r w e. record { border = w.there; purchase = w.way; less = omega (arith, w.less, e) }) cut executed-as
+      cut-units : Some (IsCut b response h border export) b.units → Some (M.UnitCut b direction h) b.units
+      cut-units cut = some-all (λ r w e. record { border = w.there; purchase = w.direction; less = omega (arith, w.less, e) }) cut executed-as
 
-      units-cut : Some (M.UnitCut b way h) b.units → Some (IsCut b response h border export) b.units
-      units-cut cut = some-all (λ r w e. record { there = w.border; way = w.purchase; less = omega (arith, w.less, e) }) cut executed-as
+      units-cut : Some (M.UnitCut b direction h) b.units → Some (IsCut b response h border export) b.units
+      units-cut cut = some-all (λ r w e. record { there = w.border; direction = w.purchase; less = omega (arith, w.less, e) }) cut executed-as
 
     module _ (border : ℕ) (export : Bool) (capacity : ℕ) (first : 1 ≤ border) (last : border ≤ 4) where
       market-as : (response (Q.market border h)).value ≡ market_balance border (figures_at b h).offers
@@ -127,20 +127,20 @@ module _ (b : Book) (s : R.Sound b) (response : Q.Query → Response) (said : (q
       bilateral-as : (response (Q.bilateral border h)).value ≡ execution_balance border (figures_at b h).executions
       bilateral-as = number_of (response (Q.bilateral border h)) _ (said (Q.bilateral border h) ∙ ap shown (bilateral-given b h cleared low high border first last))
 
-      crossing-as : crossing_at b response h border export ≡ M.crossing (way border export capacity) (figures_at b h).offers (figures_at b h).executions
+      crossing-as : crossing_at b response h border export ≡ M.crossing (direction border export capacity) (figures_at b h).offers (figures_at b h).executions
       unfolding M.crossing
       crossing-as = ap₂ (λ m x. toward export (m +ℤ x)) market-as bilateral-as
 
-      uncut-as : uncut_at b response h border export ≡ M.crossing (way border export capacity) (figures_at b h).offers (M.executions_at b h)
+      uncut-as : uncut_at b response h border export ≡ M.crossing (direction border export capacity) (figures_at b h).offers (M.executions_at b h)
       unfolding M.crossing
       uncut-as = ap (λ m. toward export (m +ℤ execution_balance border (M.executions_at b h))) market-as
 
-      carried : M.Kept (way border export capacity) (figures_at b h).offers (M.executions_at b h) (figures_at b h).executions → Carried b response h border export capacity
+      carried : M.Kept (direction border export capacity) (figures_at b h).offers (M.executions_at b h) (figures_at b h).executions → Carried b response h border export capacity
       carried k = record {
         within = rw crossing-as k.within;
         cut = (
-          (λ w. rw uncut-as (k.cut.0 ((some-cut-units b s (way border export capacity) h).1 (cut-units border export capacity w)))),
-          (λ p. units-cut border export capacity ((some-cut-units b s (way border export capacity) h).0 (k.cut.1 (rw uncut-as at p)))),
+          (λ w. rw uncut-as (k.cut.0 ((some-cut-units b s (direction border export capacity) h).1 (cut-units border export capacity w)))),
+          (λ p. units-cut border export capacity ((some-cut-units b s (direction border export capacity) h).0 (k.cut.1 (rw uncut-as at p)))),
         );
         stands = λ p. crossing-as ∙ k.stands (rw uncut-as at p);
         share = k;
@@ -153,7 +153,7 @@ module _ (b : Book) (s : R.Sound b) (response : Q.Query → Response) (said : (q
       gains = gains-none;
       ceilings = ceilings-all;
       borders = λ border export es first last e. carried border export (hourly es h) first last (hour.borders border export es first last e);
-      uncut = λ border export e w. no_cut (hour.uncut border export e) ((some-cut-units b s (way border export 0) h).1 (cut-units border export 0 w));
+      uncut = λ border export e w. no_cut (hour.uncut border export e) ((some-cut-units b s (direction border export 0) h).1 (cut-units border export 0 w));
     }
 
 pub session-demand-3 : Demanded

@@ -72,7 +72,7 @@ agree b g e (then {c = c} {r = r} k ran) =
     let rest = agree (D.effect b c).book (effect-sound b c (called-typed k) g) m.session ran in
     record { sound = rest.sound; session = rest.session; answers = ap₂ (λ (a : Response) (l : List Response). a ∷ l) m.answer rest.answers }
 
--- what lists of calls start from: a book that the rules' lists start from, sound, and the session stands for it
+-- where lists of calls start: the rules' lists may start from that book, it is sound, and the session stands for it
 pub started : {s : Session} {b : B.Book} → Started s b → Begins b × Sound b × (s ≡ image b)
 started (opened d o p) = (M.opened d, opening-sound d, p.session)
 

@@ -63,7 +63,7 @@ module _ (b : Book) (response : Q.Query → Response) where
     -- "Some execution there in a direction is cut": a unit there and in that direction executes less than was accepted
     pub record IsCut (border : ℕ) (export : Bool) (r : Registered) : Type 0 where
       pub there : r.unit.border ≡ border
-      pub way : r.unit.purchase ≡ export
+      pub direction : r.unit.purchase ≡ export
       pub less : executed_of r < accepted_executed b r.unit.number h
 
     -- at a border in a direction with a capacity

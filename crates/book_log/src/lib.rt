@@ -14,6 +14,18 @@ use message_bits::{byte_at, word_at};
 use rules::{DIRECTIONS, HOURS};
 use session::{Key, Published, Unit};
 
+// The bytes of a record, by its kind: docs/LOG.md has each byte. A message may have any, closing and clearing have none.
+const UNIT_SIZE: usize = 18;
+
+const NOTICE_SIZE: usize = 108;
+
+const KEY_SIZE: usize = 10;
+
+// A capacity notice has eight directions.
+const DIRECTION_SIZE: usize = 105;
+
+const CAPACITY_SIZE: usize = DIRECTIONS * DIRECTION_SIZE;
+
 // What a record calls for. Its numbers are 1 to 7; queries have theirs from 101 on (crates/query_any).
 #[derive(Clone, Copy, Debug, PartialEq, Eq)]
 pub enum Kind {
@@ -64,11 +76,11 @@ impl Kind {
         ensures { result ≡ has_size self size }
     {
         match self {
-            Kind::Register => size == 18,
-            Kind::Capacity => size == 840,
-            Kind::Available => size == 108,
+            Kind::Register => size == UNIT_SIZE,
+            Kind::Capacity => size == CAPACITY_SIZE,
+            Kind::Available => size == NOTICE_SIZE,
             Kind::Lodge => true,
-            Kind::Annul => size == 10,
+            Kind::Annul => size == KEY_SIZE,
             Kind::Close | Kind::Clear => size == 0,
         }
     }
@@ -177,5 +189,5 @@ fn direction_at(p: &[u8], i: usize) -> Published
 pub fn directions_of(p: &[u8]) -> [Published; DIRECTIONS]
     ensures { capacities_in result ≡ directions_of p.now }
 {
-    std::array::from_fn(|k| direction_at(p, k * 105))
+    std::array::from_fn(|k| direction_at(p, k * DIRECTION_SIZE))
 }

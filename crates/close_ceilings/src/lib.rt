@@ -8,7 +8,7 @@ ghost use Rattle.close_ceilings.specs.Ceilings.{line_at, LinesOf, line_row, ceil
 
 use arrayvec::ArrayVec;
 use judge_limits::border_limit;
-use rules::{BORDERS, DIRECTIONS, HOURS, UNITS};
+use rules::{BORDERS, DIRECTIONS, HOURS, LAST_BORDER, UNITS};
 use session::{Notice, Unit};
 use std::array;
 
@@ -42,7 +42,7 @@ fn line_row(border: u32) -> usize
     ensures row { result ≡ line_row border }
     ensures among { result < 5 }
 {
-    if 4 < border {
+    if LAST_BORDER < border {
         return 0;
     }
     border as usize

@@ -25,7 +25,7 @@ use Rattle.session.proofs.IndexLaws.{get_or-map}
 use Rattle.close_judge.specs.Classes.{beyond, standing_at, verdict_at, class_at, is_taken, has_passed, Reached}
 use Rattle.close_judge.proofs.IndexLaws.{passed-before, by-past, by-taken, by_first, by_next, by_last}
 
--- blanks behind a list change no element
+-- blanks after a list change none of its elements
 get_or-blank : {A : Type 0} (d : A) (xs : List A) (n i : ℕ) → get_or (xs ++ replicate n d) i d ≡ get_or xs i d
 get_or-blank d [] zero i = refl
 get_or-blank d [] (suc n) zero = refl

@@ -37,7 +37,7 @@ module _ {A : Type 0} (number : A → ℕ) (d : A) where
   numbers-up-to : {ls : List A} → Pairwise (λ k l. number k < number l) ls → (i j : ℕ) → j ≤ i → i < length ls → number (get_or ls j d) ≤ number (get_or ls i d)
   numbers-up-to {ls} n i j h k = ⊎_elim (λ e. omega (arith, ap (λ x. number (get_or ls x d)) e)) (λ m. omega (arith, numbers-rise n j i m k)) (eq-or-lt_of_le h)
 
-  -- the indices behind one are those of later numbers
+  -- after an index stand those of later numbers
   later-indices : {ls : List A} → Pairwise (λ k l. number k < number l) ls → (i j : ℕ) → i < length ls → j < length ls → leb (i + 1) j ≡ ltb (number (get_or ls i d)) (number (get_or ls j d))
   later-indices n i j h k =
       by_bool (leb (i + 1) j) (λ e. e ∙ sym (lt-ltb _ _ (numbers-rise n i j (omega (arith, leb-true (i + 1) j e)) k)))

@@ -48,7 +48,7 @@ module _ {A : Type 0} (g : A → Amount) (d : ℕ) where
   unfolding sum_of sum
   left-end xs i h = rw (drop_of_length-le xs {i = i} h)
 
--- what gives each holder's amount gives one that can be counted, where these are
+-- a closure that gives the holders' amounts gives ones that can be counted, where these can be
 pub all-counted : {A : Type 0} {R : A → Amount → Type 0} (given : A → Amount) → ((x : A) (a : Amount) → R x a → a ≡ given x) → {xs : List A} → All (λ x. Countable (given x)) xs
     → All (λ x. (a : Amount) → R x a → Countable a) xs
 all-counted given r = all_map (λ x k a h. rw (r x a h) k)

@@ -21,9 +21,10 @@ ghost use Rattle.hour_borders.specs.Limits.{across_of, maximum_in, excess_over, 
 use hour_offers::{Execution, Holder, Offer};
 use hour_share::Amount;
 use hour_split::Flow;
-use rules::DIRECTIONS;
+use rules::{DIRECTIONS, LAST_BORDER};
 
-// A direction's index in an array of eight: export of border 1, import of border 1, export of border 2, ..
+// A direction's index in an array of eight: export of border 1, import of border 1, export of border 2, .. That the border is 1 to 4 is asked: a query
+// has refused every other one (row 5), and who has a border 0 says by itself what a domestic unit means there.
 #[tactic(auto, unfolding(rules::specs::Units::direction))]
 pub fn direction(border: u32, export: bool) -> usize
     requires border { (0 < border) × (border < 5) }
@@ -39,7 +40,7 @@ pub fn own_direction(holder: &Holder) -> Option<usize>
     ensures own { result ≡ own_direction holder.now.border holder.now.purchase }
     ensures within { (d : ℕ) → result ≡ Some d → d < 8 }
 {
-    if (1..=4).contains(&holder.border) {
+    if (1..=LAST_BORDER).contains(&holder.border) {
         Some(direction(holder.border, holder.purchase))
     } else {
         None

@@ -5,7 +5,7 @@ use Rattle.hour_offers.specs.declared.Offer.{Offer}
 use Rattle.hour_offers.specs.View.{offer_in, offers_in}
 use Rattle.hour_match.specs.Orders.{nth}
 
--- behind the code's offers
+-- read past the end of the code's offers
 abbrev pub blank : Offer
 blank = record { holder = record { number = 0; unit = 0; border = 0; purchase = false; legacy = false }; price = 0; offered = 0; matched = 0 }
 

@@ -7,7 +7,7 @@ use Rattle.hour_offers.specs.declared.Offer.{Offer}
 use Rattle.hour_offers.specs.View.{offer_in, offers_in}
 use Rattle.hour_offers.specs.Sound.{InRange, Sound, SoundUnmatched}
 
--- what holds of all that are read holds of the one at an index
+-- a fact about all that are read is one about the one at an index
 pub all-read : {A B : Type 0} {P : B → Type 0} (f : A → B) (xs : List A) (i : ℕ) (d : A) → All P (map f xs) → i < length xs → P (f (get_or xs i d))
 all-read f [] i d none h = absurd (omega arith)
 all-read f (x ∷ xs) zero d (more p t) h = p

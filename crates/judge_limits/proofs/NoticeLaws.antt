@@ -19,7 +19,7 @@ use Rattle.session.specs.declared.Notice.{Notice}
 use Rattle.judge_limits.specs.Limits.{notice_in, registered_in, lines_in, judged_in}
 use Rattle.judge_limits.proofs.RowLaws.{lowest-same, limit-same}
 
--- zeros behind change no hour
+-- zeros after the energies change no hour
 pub hourly-pad : (n : ℕ) (es : List ℕ) (h : ℕ) → hourly (pad n 0 es) h ≡ hourly es h
 unfolding hourly pad
 hourly-pad n es h = get_or-pad es (n - length es) (h - 1)

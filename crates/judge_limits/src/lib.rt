@@ -10,7 +10,7 @@ ghost use Rattle.judge_limits.specs.Limits.{notice_in, limits_for, first_passed,
 use answer::Refusal;
 use judge_loads::lowest_hour;
 use rules::row::Row;
-use rules::{DIRECTIONS, HOURS};
+use rules::{DIRECTIONS, HOURS, LAST_BORDER};
 use session::{Energies, Notice, Unit};
 use std::array;
 
@@ -44,7 +44,7 @@ fn together(exports: &[u32; HOURS], imports: &[u32; HOURS]) -> [u64; HOURS]
 pub fn border_limit(border: u32, capacities: &[Notice; DIRECTIONS]) -> Option<[u64; HOURS]>
     ensures { (h : ℕ) → limit_at result h ≡ border_sum (map notice_in capacities.now) border h }
 {
-    let 1..=4 = border else {
+    let 1..=LAST_BORDER = border else {
         return None;
     };
     let index = (border as usize - 1) * 2;

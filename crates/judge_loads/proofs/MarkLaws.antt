@@ -17,7 +17,7 @@ module _ {A : Type 0} where
   marked-keep p [] = refl
   marked-keep p (x ∷ xs) = rw (marked-keep p xs)
 
-  -- marks behind the list mark nothing
+  -- marks after the list's end mark nothing
   pub marked-front : (bs : List Bool) (xs : List A) → marked (take (length xs) bs) xs ≡ marked bs xs
   unfolding marked
   marked-front [] [] = refl

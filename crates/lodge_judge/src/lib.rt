@@ -1,8 +1,9 @@
 // What a message of the right form is refused for before its energy is judged: 4, 5, 6, 9.
 #![tactic(auto)]
 
-ghost use Rattle.std.specs.Prelude.{◌≡◌, ◌||◌, ◌≤◌, IfOk, OnOk};
-ghost use Rattle.rules.specs.Message.{bad_map};
+ghost use Rattle.std.specs.Prelude.{◌≡◌, ◌||◌, ◌≤◌, ℕ, IfOk, OnOk};
+ghost use Rattle.rules.specs.Message.{bad_map, bad_fields};
+ghost use Rattle.message.specs.View.{fields_in};
 ghost use Rattle.rules.specs.Lodging.{names_beyond};
 ghost use Rattle.session.specs.Parts.{Within};
 ghost use Rattle.lodge_keys.specs.Keys.{key_for, key_index};
@@ -11,7 +12,6 @@ ghost use Rattle.lodge_judge.specs.Judging.{full_at, GivesRow, Room};
 
 use lodge_keys::{holder_for, key_of};
 use message::Fields;
-use message::judge::bad_fields;
 use message_ranges::bad_map;
 use rules::LONG_DAY;
 use rules::row::Row;
@@ -41,23 +41,23 @@ fn is_full(n: usize, last: u32, at: Option<usize>) -> bool
     Session::MAX_LODGEMENTS <= n && at.is_none() || Session::MAX_NUMBER <= last
 }
 
-// The unit of a message, or the row that refuses its fields, in the table's order. What it replaces has the index `replaces`.
-// (`Within`: `Session::sound` says why no type has it.)
+// The unit of a message, or the row that refuses its fields, in the table's order. Who read it knows whether a value is out of range. What it
+// replaces has the index `replaces`. (`Within`: `Session::sound` says why no type has it.)
 pub fn judge_fields(
     s: &Session,
     m: &Fields,
-    top: u32,
+    out_of_range: bool,
     replaces: Option<usize>,
 ) -> Result<Holder, Row>
     requires { Within s.now × (replaces ≡ key_index s.now (key_for m.now)) }
-    ensures rows { GivesRow s.now top m.now result }
+    ensures rows { (top : ℕ) → out_of_range ≡ bad_fields top (fields_in m.now) → GivesRow s.now top m.now result }
     ensures held { IfOk result (λ h. Holding s.now (key_for m.now) h) }
     ensures room { OnOk result (Room s.now (key_for m.now)) }
 {
     if bad_hours(s.hours, m.map) {
         return Err(Row::Hour);
     }
-    if bad_fields(m, top) {
+    if out_of_range {
         return Err(Row::Range);
     }
     let holder = holder_for(s, key_of(m))?;

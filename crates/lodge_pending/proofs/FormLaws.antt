@@ -1,6 +1,6 @@
 -- A message that is read, by its form and its fields: each way out.
 use Prim.Native.Nat.{ℕ}
-use mathlib.Core.Path.{◌≡◌, refl, sym, ap, ap₂, subst, ◌∙◌}
+use mathlib.Core.Path.{◌≡◌, refl, sym, ap, subst, ◌∙◌}
 use mathlib.Core.Bool.{Bool, true, false}
 use mathlib.Core.List.{List, ◌∷◌}
 use mathlib.Core.Option.{some}
@@ -9,7 +9,7 @@ use Rattle.std.specs.declared.result.Result.{Result}
 use Rattle.rules.specs.declared.row.Row as Code
 use Rattle.rules.specs.declared.row.Row.TheVariants.{Gate, Form}
 use Rattle.rules.specs.Refusals.{Row, row, first_row}
-use Rattle.rules.specs.Message.{form_of, message_of, wrong_form, wrong_range}
+use Rattle.rules.specs.Message.{form_of, message_of, wrong_form, bad_fields, wrong_range}
 use Rattle.rules.specs.Book.{Book}
 use Rattle.rules.specs.DayBook as D
 use Rattle.answer.specs.declared.Refusal.{Refusal}
@@ -30,6 +30,11 @@ use Rattle.lodge_pending.specs.declared.Pending.{Pending}
 past : (t u : Bool) (rows : List Row) → t ≡ false → u ≡ false → first_row (row 2 t ∷ row 3 u ∷ rows) ≡ first_row rows
 unfolding row first_row
 past t u rows h k = rw (h, k)
+
+-- a range judged of the message is one judged of its fields
+pub ranges-as : (bytes : List ℕ) (m : Fields) {r : Bool} → fields_in m ≡ message_of bytes → r ≡ wrong_range bytes → r ≡ bad_fields (form_of bytes).top (fields_in m)
+unfolding wrong_range
+ranges-as bytes m said r = r ∙ ap (bad_fields (form_of bytes).top) (sym said)
 
 module _ (s : Session) (bytes : List ℕ) where
   abbrev Refuses : Code.Row → Type 0
@@ -57,13 +62,16 @@ module _ (s : Session) (bytes : List ℕ) where
   pends-3 h f = refused Form (lodge-3 h f)
 
   -- read
-  module _ (m : Fields) (top : ℕ) (o : s.closed ≡ false) (f : wrong_form bytes ≡ false) (said : fields_in m ≡ message_of bytes) (most : top ≡ (form_of bytes).top) where
+  module _ (m : Fields) (o : s.closed ≡ false) (f : wrong_form bytes ≡ false) (said : fields_in m ≡ message_of bytes) where
+    abbrev top : ℕ
+    top = (form_of bytes).top
+
     -- its rows are those of its fields
     rows_as : (b : Book) → s ≡ image b → first_row (D.rows_of b (D.lodge bytes)) ≡ first_row (field_rows b top (fields_in m) (last_rows b (fields_in m)))
     unfolding D.rows_of D.gate_row D.call_rows D.lodge_rows D.change_row field_rows last_rows wrong_range
     rows_as b e =
-        past b.closed (wrong_form bytes) (field_rows b (form_of bytes).top (message_of bytes) (last_rows b (message_of bytes))) (closed-as s b e ∙ o) f
-        ∙ ap₂ (λ t n. first_row (field_rows b t n (last_rows b n))) (sym most) (sym said)
+        past b.closed (wrong_form bytes) (field_rows b top (message_of bytes) (last_rows b (message_of bytes))) (closed-as s b e ∙ o) f
+        ∙ ap (λ n. first_row (field_rows b top n (last_rows b n))) (sym said)
 
     given : (r : Code.Row) → GivesRow {A = Pending} s top m (Err r) → Refuses r
     unfolding row given_by

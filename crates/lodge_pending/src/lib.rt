@@ -1,7 +1,9 @@
 // A message that is read, before its energy is judged: the row that refuses it, or what its judgement by the limits looks at.
 #![tactic(auto)]
 
-ghost use Rattle.std.specs.Prelude.{IfOk};
+ghost use Rattle.std.specs.Prelude.{◌≡◌, ℕ, IfOk};
+ghost use Rattle.rules.specs.Message.{bad_fields};
+ghost use Rattle.message.specs.View.{fields_in};
 ghost use Rattle.session.specs.Parts.{Within};
 ghost use Rattle.lodge_judge.specs.Judging.{GivesRow};
 ghost use Rattle.lodge_pending.specs.Awaiting.{Found, Pends};
@@ -11,7 +13,7 @@ use lodge_judge::judge_fields;
 use lodge_keys::beside::beside_of;
 use lodge_keys::{key_index, key_of};
 use message::Fields;
-use message_reader::{formed, top_of};
+use message_reader::{InForm, in_form};
 use rules::LODGEMENTS;
 use rules::row::Row;
 use session::{Holder, Session};
@@ -26,18 +28,18 @@ pub struct Pending {
 }
 
 // What is found for a message of the right form, or the row from 4 to 9 that refuses it. (`Within`: `Session::sound` says why no type has it.)
-fn found(s: &Session, m: Fields, top: u32) -> Result<Pending, Row>
+fn found(s: &Session, m: InForm) -> Result<Pending, Row>
     requires { Within s.now }
-    ensures rows { GivesRow s.now top m result }
-    ensures found { IfOk result (Found s.now m) }
+    ensures rows { (top : ℕ) → m.out_of_range ≡ bad_fields top (fields_in m.fields) → GivesRow s.now top m.fields result }
+    ensures found { IfOk result (Found s.now m.fields) }
 {
-    let key = key_of(&m);
+    let key = key_of(&m.fields);
     let standing = &s.lodgements[..s.standing];
     let replaces = key_index(standing, key);
-    let holder = judge_fields(s, &m, top, replaces)?;
+    let holder = judge_fields(s, &m.fields, m.out_of_range, replaces)?;
     let beside = beside_of(standing, key);
     Ok(Pending {
-        fields: m,
+        fields: m.fields,
         replaces,
         holder,
         beside,
@@ -54,6 +56,6 @@ pub fn pend(s: &Session, message: &[u8]) -> Result<Pending, Row>
     if s.closed {
         return Err(Row::Gate);
     }
-    let m = formed(message).ok_or(Row::Form)?;
-    found(s, m, top_of(message))
+    let m = in_form(message).ok_or(Row::Form)?;
+    found(s, m)
 }

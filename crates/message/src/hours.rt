@@ -1,6 +1,7 @@
 // The hours that a map names.
 ghost use Rattle.std.specs.Prelude.{◌≡◌, ◌^◌, ◌<◌, MatchOption};
 ghost use Rattle.std.specs.Iterator.{at_most};
+ghost use Rattle.rules.specs.Message.{map_width};
 ghost use Rattle.message.specs.Hours.{FirstHour};
 
 use std::marker::Model;
@@ -13,17 +14,18 @@ pub struct Hours {
 
 impl Model for Hours {
     ghost use Rattle.std.specs.Prelude.{ℕ, ◌^◌, ◌<◌};
+    ghost use Rattle.rules.specs.Message.{map_width};
 
     ghost Value = { ℕ };
 
     ghost view = { λ h. h.left };
 
-    ghost invariant = { λ h. h.left < 2 ^ 25 };
+    ghost invariant = { λ h. h.left < 2 ^ map_width };
 }
 
 impl Hours {
     pub fn of(map: u32) -> Self
-        requires { map < 2 ^ 25 }
+        requires { map < 2 ^ map_width }
         ensures { result ≡ map }
     {
         Hours { left: map }

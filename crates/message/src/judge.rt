@@ -1,7 +1,7 @@
 // What a message's fields are refused for: 5 of the table.
 ghost use Rattle.std.specs.Prelude.{◌≡◌, ◌≤◌};
 ghost use Rattle.rules.specs.Lists.{any, from};
-ghost use Rattle.rules.specs.Message.{bad_hour, bad_fields, names};
+ghost use Rattle.rules.specs.Message.{bad_hour, bad_fields, map_width, names};
 ghost use Rattle.message.specs.View.{fields_in};
 
 use super::Fields;
@@ -30,7 +30,7 @@ fn bad_hour(m: &Fields, h: usize, top: u32) -> bool
 
 // An energy or a price of one of the 25 hours is outside its range.
 fn bad_hours(m: &Fields, top: u32) -> bool
-    ensures { result ≡ any (bad_hour top (fields_in m.now)) (from 1 25) }
+    ensures { result ≡ any (bad_hour top (fields_in m.now)) (from 1 map_width) }
 {
     (1..HOURS + 1).any(|h| bad_hour(m, h, top))
 }

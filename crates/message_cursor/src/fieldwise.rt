@@ -1,11 +1,11 @@
 // A lodging message read field by field, by a reader set over it.
 ghost use Rattle.std.specs.Prelude.{◌≡◌, ◌^◌, ◌<◌, replicate};
-ghost use Rattle.rules.specs.Message.{form1, bits_of, hour_bits, message_of, read as reading};
+ghost use Rattle.rules.specs.Message.{form1, bits_of, hour_bits, map_width, message_of, read as reading};
 ghost use Rattle.message.specs.View.{fields_as, reading_as, reading_of};
 ghost use Rattle.message_cursor.specs.Taking.{SlotsTaken};
 
 use crate::Reader;
-use message::form::price_width;
+use message::form::{ENERGY_WIDTH, FORM_WIDTH, KIND_WIDTH, MARK_WIDTH, NUMBER_WIDTH, price_width};
 use message::hours::Hours;
 use message::judge::bad_fields;
 use message::{Fields, NO_FIELDS, Reading};
@@ -17,7 +17,7 @@ use rules::row::Row;
 // Fills in the energy and the price of each hour that the map names, "energy 17, and for an offer price 15", after the fields before the slots
 // were taken. The others stay 0.
 fn take_hours(reader: &mut Reader, m: &mut Fields)
-    requires map { m.old.map < 2 ^ 25 }
+    requires map { m.old.map < 2 ^ map_width }
     requires energies { m.old.energies ≡ replicate 25 0 }
     requires prices { m.old.prices ≡ replicate 25 0 }
     ensures taken { SlotsTaken (bits_of reader.old.message.now) form1.width m.old.execution (hour_bits m.old.map) reader.old.at m.new.energies m.new.prices reader.new.at }
@@ -28,7 +28,7 @@ fn take_hours(reader: &mut Reader, m: &mut Fields)
     let energies = &mut m.energies;
     let prices = &mut m.prices;
     for h in hours {
-        energies[h] = reader.take(17);
+        energies[h] = reader.take(ENERGY_WIDTH);
         prices[h] = reader.take(price_width(execution));
     }
 }
@@ -38,11 +38,11 @@ fn fields_of(s: &[u8]) -> Fields
     ensures { result ≡ fields_as (message_of s.now) }
 {
     let mut reader = Reader::over(s);
-    let _form = reader.take(4);
-    let kind = reader.take(2);
-    let mark = reader.take(1);
-    let unit = reader.take(16);
-    let contract = reader.take(16);
+    let _form = reader.take(FORM_WIDTH);
+    let kind = reader.take(KIND_WIDTH);
+    let mark = reader.take(MARK_WIDTH);
+    let unit = reader.take(NUMBER_WIDTH);
+    let contract = reader.take(NUMBER_WIDTH);
     let map = reader.take(HOURS);
     let mut m = Fields {
         execution: kind == 1,

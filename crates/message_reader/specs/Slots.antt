@@ -1,6 +1,6 @@
 -- The head of a message, and what its slots are refused for.
 use Rattle.std.specs.Prelude.{ℕ, zero, suc, ◌*◌, ◌^◌, ◌≤◌, ◌<◌, ◌≡◌, Bool, true, false, ◌||◌, List, [], ◌∷◌, eqb, length, drop, replicate}
-use Rattle.rules.specs.Message.{Form, bits_of, field, price_width, head_width, slot_width, slots_end, set_bits, hour_bits, read_slots, is_execution, map_of}
+use Rattle.rules.specs.Message.{Form, bits_of, field, price_width, head_width, slot_width, slots_end, set_bits, map_width, hour_bits, read_slots, is_execution, map_of}
 use Rattle.message_ranges.specs.Slots.{bad_slot}
 use Rattle.message.specs.declared.Fields.{Fields}
 
@@ -27,7 +27,7 @@ bad_slots w top x (suc b ∷ map) bs =
 
 -- fields whose hours are to be filled in from a message: the bits of the slots are there, and the hours are blank
 pub record ToFill (f : Form) (bytes : List ℕ) (m : Fields) : Type 0 where
-  pub map : m.map < 2 ^ 25
+  pub map : m.map < 2 ^ map_width
   pub there : slots_end f m.execution (set_bits m.map) ≤ 8 * length bytes
   pub energies : m.energies ≡ replicate 25 0
   pub prices : m.prices ≡ replicate 25 0

@@ -5,7 +5,10 @@ ghost use Rattle.message.specs.View.{no_fields};
 ghost use Rattle.message_reader.specs.Slots.{blank};
 
 use message::Fields;
-use message::form::{length_for, slots_end};
+use message::form::{
+    CONTRACT_AT, FORM_WIDTH, KIND_AT, KIND_WIDTH, MAP_AT, MARK_AT, MARK_WIDTH, NUMBER_WIDTH,
+    SLOTS_AT, UNIT_AT, length_for, slots_end,
+};
 use message_bits::{part, slot_at};
 use rules::HOURS;
 
@@ -38,7 +41,7 @@ impl<'a> Head<'a> {
         requires within { at + width ≤ 64 }
         ensures { result ≡ field at width (bits_of self.entry.bytes.now) }
     {
-        part(self.word, 64 - (at + width), width)
+        part(self.word, SLOTS_AT - (at + width), width)
     }
 
     // Whether a bit after the last slot is set, in an execution of the right length. An offer ends with a byte and has none.
@@ -55,11 +58,11 @@ impl<'a> Head<'a> {
     pub fn bad_form(self) -> bool
         ensures { result ≡ wrong_form self.entry.bytes.now }
     {
-        let kind = self.field(4, 2);
-        let map = self.field(39, HOURS);
+        let kind = self.field(KIND_AT, KIND_WIDTH);
+        let map = self.field(MAP_AT, HOURS);
         // All three are looked at: with `||` each would be a branch by itself, to run and to prove.
         let wrong = (self.bytes.len() != length_for(kind == 1, map))
-            | (self.field(0, 4) != 1)
+            | (self.field(0, FORM_WIDTH) != 1)
             | (1 < kind);
         wrong || kind == 1 && self.bad_filling(map)
     }
@@ -70,10 +73,10 @@ impl<'a> Head<'a> {
         requires { m.old ≡ no_fields }
         ensures { m.new ≡ blank (bits_of self.entry.bytes.now) }
     {
-        m.execution = self.field(4, 2) == 1;
-        m.default = self.field(6, 1) == 1;
-        m.unit = self.field(7, 16);
-        m.contract = self.field(23, 16);
-        m.map = self.field(39, HOURS);
+        m.execution = self.field(KIND_AT, KIND_WIDTH) == 1;
+        m.default = self.field(MARK_AT, MARK_WIDTH) == 1;
+        m.unit = self.field(UNIT_AT, NUMBER_WIDTH);
+        m.contract = self.field(CONTRACT_AT, NUMBER_WIDTH);
+        m.map = self.field(MAP_AT, HOURS);
     }
 }

@@ -4,12 +4,12 @@
 mod head;
 
 ghost use Rattle.std.specs.Prelude.{◌≡◌, true, false, MatchOption, OnOk};
-ghost use Rattle.rules.specs.Message.{form1, form_of, message_of, wrong_form, read as reading};
+ghost use Rattle.rules.specs.Message.{form1, form_of, message_of, wrong_form, wrong_range, read as reading};
 ghost use Rattle.message.specs.View.{fields_in, no_fields, outcome_of, reading_as};
 ghost use Rattle.message_reader.specs.Slots.{ToFill, bad_hours, filled};
 
 use head::Head;
-use message::form::{price_width, slot_width};
+use message::form::{SLOTS_AT, price_width, slot_width};
 use message::hours::Hours;
 use message::{Fields, NO_FIELDS, Reading};
 use message_bits::slot_at;
@@ -47,7 +47,7 @@ fn fill<const EXECUTION: bool>(s: &[u8], m: &mut Fields) -> bool
     let width = slot_width(EXECUTION);
     let mask = (1u32 << price) - 1;
     // The bit of the next slot: the reader goes by slice and number, as document 01 names the form.
-    let mut at = 64;
+    let mut at = SLOTS_AT;
     let mut bad = false;
     for h in hours {
         let slot = slot_at(s, at, width);
@@ -74,22 +74,42 @@ fn fill_by_kind(s: &[u8], m: &mut Fields) -> bool
     }
 }
 
+// A message of the right form: its fields, and whether a value is outside its range (row 5), which is found while they are read.
+#[derive(Clone, Copy)]
+pub struct InForm {
+    pub fields: Fields,
+    pub out_of_range: bool,
+}
+
 // What a message of the right form says.
-fn said(head: Head) -> Fields
+fn said(head: Head) -> InForm
     requires { wrong_form head.bytes.now ≡ false }
-    ensures { fields_in result ≡ message_of head.entry.bytes.now }
+    ensures fields { fields_in result.fields ≡ message_of head.entry.bytes.now }
+    ensures judged { result.out_of_range ≡ wrong_range head.entry.bytes.now }
 {
     let mut m = NO_FIELDS;
     head.put(&mut m);
-    let _bad = fill_by_kind(head.bytes, &mut m);
-    m
+    let key_out = bad_key(m.execution, m.unit, m.contract);
+    let hours_out = fill_by_kind(head.bytes, &mut m);
+    InForm {
+        fields: m,
+        out_of_range: key_out | hours_out,
+    }
 }
 
 // What a message says, or nothing where its form is wrong.
+pub fn in_form(s: &[u8]) -> Option<InForm>
+    ensures { MatchOption result (wrong_form s.now ≡ true)
+        (λ m. (wrong_form s.now ≡ false) × (fields_in m.fields ≡ message_of s.now) × (m.out_of_range ≡ wrong_range s.now)) }
+{
+    Some(said(right_head(s)?))
+}
+
+// Its fields alone.
 pub fn formed(s: &[u8]) -> Option<Fields>
     ensures { MatchOption result (wrong_form s.now ≡ true) (λ m. (wrong_form s.now ≡ false) × (fields_in m ≡ message_of s.now)) }
 {
-    Some(said(right_head(s)?))
+    Some(in_form(s)?.fields)
 }
 
 // What a message says, after its form was found right. It stands since a public function stays: `formed` is the form to use.
@@ -97,7 +117,7 @@ pub fn fields_of(s: &[u8]) -> Fields
     requires { wrong_form s.now ≡ false }
     ensures { fields_in result ≡ message_of s.now }
 {
-    said(right_head(s).unwrap())
+    said(right_head(s).unwrap()).fields
 }
 
 // The largest energy that a message's form may say.

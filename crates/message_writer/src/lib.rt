@@ -7,7 +7,7 @@ ghost use Rattle.rules.specs.Message.{buffer_after};
 ghost use Rattle.message.specs.View.{fields_in, written_as, written_of};
 ghost use Rattle.message_pen.specs.Pens.{Appended, InRanges, Room, slots_of};
 
-use message::form::{length_for, slot_width};
+use message::form::{MAP_AT, length_for, slot_width};
 use message::hours::Hours;
 use message::judge::bad_fields;
 use message::{Fields, Written};
@@ -23,7 +23,7 @@ fn put_head(m: &Fields, pen: &mut Pen<'_>)
     requires room { Room pen.old 64 }
     ensures { Appended pen.old (head_bits form1 (fields_in m.now)) pen.new }
 {
-    pen.put_bits(head_word(m), 39);
+    pen.put_bits(head_word(m), MAP_AT);
     pen.put_bits(u64::from(m.map), HOURS);
 }
 

@@ -13,8 +13,8 @@ ghost use Rattle.query_balance.specs.Parts.{BorderFits, bad_border, balance_quer
 use answer::Response;
 use hour_borders::direction;
 use query::{Query, judge_hour, reply};
-use rules::DIRECTIONS;
 use rules::row::Row;
+use rules::{DIRECTIONS, LAST_BORDER};
 use session::{HourFigures, Session};
 
 // Which of a border's balances is asked for.
@@ -40,7 +40,7 @@ impl Balance {
 fn bad_border(border: u32) -> bool
     ensures { result ≡ bad_border border }
 {
-    !(1..=4).contains(&border)
+    !(1..=LAST_BORDER).contains(&border)
 }
 
 // The index of an hour's figures for a border 1 to 4, or the row that refuses them: 2, 4, 5.

@@ -11,8 +11,8 @@ ghost use Rattle.session.specs.Parts.{number_is};
 ghost use Rattle.register.specs.Registry.{beside_unit};
 
 use answer::Response;
-use rules::bad_number;
 use rules::row::Row;
+use rules::{LAST_BORDER, bad_number};
 use session::{Effect, Session, Unit, no_notice};
 use session_changes::{Call, RegistryChange, Step, run};
 
@@ -23,7 +23,7 @@ fn bad_unit(u: Unit) -> bool
 {
     bad_number(u.number)
         || bad_number(u.agent)
-        || 4 < u.border
+        || LAST_BORDER < u.border
         || Session::MAX_ENERGY < u.maximum
         || u.legacy && u.border == 0
 }

@@ -16,6 +16,7 @@ use crate::telling::Said;
 use answer::Response;
 use calendar::{Date, FIRST};
 use message::Fields;
+use message::form::LONGEST;
 use rehearse_words::calls::Call;
 use rehearse_words::lines::Line;
 use session::{Effect, Session};
@@ -62,7 +63,7 @@ fn run_call(session: &mut Session, call: Call) -> Response
 fn lodge_message(session: &mut Session, fields: Fields) -> Response
     ensures { Lodges session.old (M.write 108 (fields_in fields)) session.new result }
 {
-    let mut message = [0u8; 108];
+    let mut message = [0u8; LONGEST];
     match message_writer::write_fields(&fields, &mut message) {
         Ok(count) => {
             let effect = lodge::lodge(*session, &message[..count]);

@@ -17,7 +17,7 @@ use Rattle.rehearse_words.specs.Words.{word_start, from_word, first_word}
 abbrev is_part : ℕ → Bool
 is_part b = not (is_blank b)
 
--- what stands before the first that passes does not
+-- an element before the first that passes does not pass
 passed : (p : ℕ → Bool) (xs : List ℕ) (k d : ℕ) → k < position_or_len p xs → p (get_or xs k d) ≡ false
 passed p [] k d h = absurd (omega arith)
 passed p (x ∷ xs) zero d h = by_bool (p x) (λ e. let z : 0 < 0 = rw e at h in absurd (omega arith)) (λ e. e)

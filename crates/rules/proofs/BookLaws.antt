@@ -418,7 +418,7 @@ directions-after {b} g w = calls-directions b w (begins-directions g)
 abbrev thawed : Frozen → Book
 thawed f = record { date = f.date; units = f.units; capacities = f.capacities; standing = f.standing; last = f.last; closed = false; cleared = false }
 
--- what a book shares with the open one is the same of all books that have what it froze
+-- a value that thawing leaves is the same for all books that froze the same
 of-frozen : {A : Type 0} (f : Book → A) → ((b : Book) → f (thawed (frozen b)) ≡ f b) → (a b : Book) → frozen a ≡ frozen b → f a ≡ f b
 of-frozen f same a b e = sym (same a) ∙ (ap (λ (z : Frozen). f (thawed z)) e ∙ same b)
 
@@ -510,12 +510,12 @@ after-closed b [] h = refl
 after-closed b (c ∷ cs) h = after-closed (effect b c).book cs ((effect-stays b c).0 h) ∙ effect-closed b c h
 
 -- so every verdict is that of the book at closing, whatever is called afterwards
-pub verdicts-kept : (b : Book) (cs : List Call) → b.closed ≡ true → judgements (after b cs) ≡ judgements b
-verdicts-kept b cs h = frozen-judgements (after b cs) b (after-closed b cs h)
+pub verdicts-stay : (b : Book) (cs : List Call) → b.closed ≡ true → judgements (after b cs) ≡ judgements b
+verdicts-stay b cs h = frozen-judgements (after b cs) b (after-closed b cs h)
 
 -- and so is every figure
-pub figures-kept : (b : Book) (cs : List Call) (h : ℕ) → b.closed ≡ true → figures_at (after b cs) h ≡ figures_at b h
-figures-kept b cs h e = frozen-figures (after b cs) b h (after-closed b cs e)
+pub figures-stay : (b : Book) (cs : List Call) (h : ℕ) → b.closed ≡ true → figures_at (after b cs) h ≡ figures_at b h
+figures-stay b cs h e = frozen-figures (after b cs) b h (after-closed b cs e)
 
 -- The call that closed it
 
@@ -641,7 +641,7 @@ cleared-got b [] h k = not-both k h
 cleared-got b (c ∷ cs) h k =
     ⊎_elim (λ e. (day_steps b, got-now e.0 e.1)) (λ e. let g = cleared-got (effect b c).book cs (e ∙ h) k in (g.0, next g.1)) (effect-clears b c)
 
--- what the answers say of the stage of a book that was open, and not cleared
+-- the stage that the answers tell, from a book open and not cleared
 pub staged : (b : Book) (cs : List Call) → b.closed ≡ false → b.cleared ≡ false → Staged (after b cs) cs (answers b cs)
 staged b cs h k =
     record {

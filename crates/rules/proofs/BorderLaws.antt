@@ -36,7 +36,7 @@ among cs x = any (λ c. runs c.border c.export x.holder) cs
 abbrev counted : Execution → ℕ
 counted x = at_border x.holder x.energy
 
--- what is left of it when k of that is taken
+-- the energy left when k of what counts is taken
 abbrev left : Execution → ℕ → ℕ
 left x k = keeps x.holder x.energy k
 
@@ -71,7 +71,7 @@ module _ (q : Execution → Bool) where
       (λ e. rw e (omega (arith, within x h, kept_at x.holder x.energy k, less-flow border export xs t)))
       (λ e. rw e (omega (arith, less-flow border export xs t)))
 
-  -- what is deducted in a direction is that direction's part of the deductions
+  -- the energy deducted in a direction is the part that passes it
   deducted-passing : (c : Directed) {ls : List ℕ} (xs : List Execution) → Under ls (masked q counted xs) → deducted c xs (less_each ls xs) ≡ passing (on c) ls xs
   unfolding deducted less_each passing
   deducted-passing c [] under0 = refl
@@ -136,7 +136,7 @@ module _ (os : List Offer) (xs : List Execution) where
   all-cuts-under (ahead {x = c} {xs = cs} a t) (more f fs) =
       under-add counted (on c) (among cs) (runs_none (λ x. x.holder) on (λ d x h. h) a) xs (cuts-under c f) (all-cuts-under t fs)
 
-  -- in a direction each loses what Share takes there: directions that stand behind take nothing there
+  -- in a direction each loses what Share takes there: later directions take nothing from it
   own-cuts : (c : Directed) {cs : List Directed} → All (λ d. same_direction c d ≡ false) cs → Once cs → Fits os xs c → All (Fits os xs) cs
       → passing (on c) (add_each (cuts os xs c) (all_cuts os xs cs)) xs ≡ cuts os xs c
   own-cuts c {cs} a t f fs =

@@ -1,4 +1,4 @@
--- What an energy counts for at its border, and what is left of it when some of that is taken. The laws of flows, steps and cuts
+-- How much an energy counts for at its border, and how much is left when some is taken. The laws of flows, steps and cuts
 -- rest on the facts here: of this crate only this file opens `at_border` and `keeps`.
 use Prim.Native.Nat.{ℕ, zero, suc, ◌+◌, ◌-◌, ◌≤◌, ◌<◌}
 use mathlib.Core.Path.{◌≡◌, refl}

@@ -112,10 +112,10 @@ module _ {P : Directed → Type 0} (cs : Capacities) (h : ℕ) where
 
 module _ (cs : Capacities) (h border : ℕ) (export : Bool) (absent : capacity_of cs border export ≡ nothing) where
   -- a direction that is published is another one
-  published-other : (k : ℕ) (way : Bool) (p : Published) → capacity_of cs k way ≡ p → All (λ d. (d.border ≡ border) × (d.export ≡ export) → ⊥) (published h k way p)
+  published-other : (k : ℕ) (out : Bool) (p : Published) → capacity_of cs k out ≡ p → All (λ d. (d.border ≡ border) × (d.export ≡ export) → ⊥) (published h k out p)
   unfolding published
-  published-other k way nothing e = none
-  published-other k way (some es) e =
+  published-other k out nothing e = none
+  published-other k out (some es) e =
       more (λ q. let f : some es ≡ nothing = sym e ∙ (ap₂ (λ i w. capacity_of cs i w) q.0 q.1 ∙ absent) in let z : ◌≡◌ {A = ℕ} 0 1 = cc in omega arith) none
 
   border-other : (k : ℕ) → All (λ d. (d.border ≡ border) × (d.export ≡ export) → ⊥) (border_capacities cs h k)

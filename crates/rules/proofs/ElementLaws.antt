@@ -7,7 +7,7 @@ pub use Rattle.rules.specs.Lists.{Some, here, there, Pairwise, empty, ahead, Eac
 use Rattle.rules.proofs.BoolLaws.{by_bool}
 use Rattle.rules.proofs.ListLaws.{all_map, all_append, all_keep, all-mapped}
 
--- what follows from two things that hold of each
+-- two things that hold of each give a third
 pub all_both : {A : Type 0} {P Q R : A → Type 0} {xs : List A} → ((x : A) → P x → Q x → R x) → All P xs → All Q xs → All R xs
 all_both f none none = none
 all_both f (more {x} h t) (more k u) = more (f x h k) (all_both f t u)

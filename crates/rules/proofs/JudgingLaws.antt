@@ -64,7 +64,7 @@ module _ {A : Type 0} (number : A → ℕ) (judge : List A → A → Verdict) wh
         and-cond true b n = refl
         and-cond false b n = refl
 
-    -- one that stands behind the first has it before
+    -- the first is ahead of every later one
     ahead_step : (n : ℕ) → (number x ≡ n → ⊥) → ahead_of number n (x ∷ xs) ≡ x ∷ ahead_of number n xs
     unfolding ahead_of
     ahead_step n d = rw (ne_eqb (number x) n d)

@@ -67,7 +67,7 @@ module _ {A : Type 0} {P : A → Type 0} where
   all-cond true h k = h
   all-cond false h k = k
 
-  -- what holds of all holds of those that pass a test
+  -- a fact about all is one about those that pass a test
   pub all_keep : (p : A → Bool) {xs : List A} → All P xs → All P (keep p xs)
   unfolding keep
   all_keep p none = none
@@ -214,7 +214,7 @@ module _ {A : Type 0} {P : A → Type 0} where
   all-parts [] h = (none, h)
   all-parts (x ∷ xs) (more h t) = let k = all-parts xs t in (more h k.0, k.1)
 
-  -- what holds of those that pass a test holds of each, if it passes
+  -- a fact about those that pass a test is one about each that passes
   pub all-unkept : (p : A → Bool) (xs : List A) → All P (keep p xs) → All (λ x. p x ≡ true → P x) xs
   unfolding keep
   all-unkept p [] h = none

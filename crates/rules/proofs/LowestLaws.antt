@@ -10,7 +10,7 @@ use borrow.Author.Tests.{eqb-true, eqb-false}
 use Rattle.rules.specs.Lists.{first, from, lowest}
 use Rattle.rules.proofs.BoolLaws.{by_bool}
 
--- what holds of the first of n numbers from i on that passes a test
+-- the first number that passes a test, among n from i on
 module _ (p : ℕ → Bool) where
   pub first-is : (i n h : ℕ) → i ≤ h → h < i + n → p h ≡ true → ((k : ℕ) → i ≤ k → k < h → p k ≡ false) → first p 0 (from i n) ≡ h
   unfolding first from

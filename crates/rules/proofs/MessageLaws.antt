@@ -324,7 +324,7 @@ good-hour false e p t top h =
     let z : p ≡ 0 = eqb-true _ _ (not-false _ a.1) in
     record { energy-le = omega arith; price-le = omega arith; named_by = rw y; unnamed = λ n. z }
 
--- fields within their ranges, energies up to `top`: what a message that is read or written has
+-- fields within their ranges, energies up to `top`: every message read or written has such
 pub record Good (top : ℕ) (m : Fields) : Type 0 where
   pub unit-pos : 1 ≤ m.key.unit
   pub unit-le : m.key.unit ≤ 65535
@@ -454,7 +454,7 @@ message-lengths bytes = decode-lengths (form_of bytes) bytes
 
 -- The forms that there are: what reading and writing ask of them
 
--- what the form that fields are written in may say fits its widths
+-- the largest values of the form for writing fit its widths
 pub form-wide : (m : Fields) → Wide (form_for m)
 unfolding form_for
 form-wide m = record { number = lit< tt; top = lit< tt }

@@ -125,7 +125,7 @@ module _ {A : Type 0} (number : A → ℕ) (classes : List (A → Bool)) (shown 
       all_map (λ l f e. f (ap not e)) (all-unkept (λ l. not (shown l)) ls
       (all_map (λ l f. all-classes classes (all-reversed (all_map (λ k g. other l k g) f) none)) (pairwise-apart other (λ l. not (shown l)) shown (λ l e. not-true (shown l) e) d)))
 
-  -- in the order some sum to what they do in the list, if none that is not shown is among them
+  -- those that pass a test sum to the same in the order as in the list, if all of them are shown
   pub sum-ordered : (f : A → ℕ) (p : A → Bool) {ls : List A} → All (λ l. shown l ≡ false → p l ≡ false) ls → sum_where f p (order_of ls) ≡ sum_where f p ls
   unfolding keep sum_of sum
   sum-ordered f p {ls} a = omega (arith, sum-classes f p classes (reverse (keep shown ls)), sum-reversed f p (keep shown ls) [], sum-without f p shown a)

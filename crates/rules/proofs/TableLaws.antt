@@ -88,7 +88,7 @@ query-ordered b (price h) = rise-ordered 0 _ refl
 
 -- The row that is given
 
--- those behind a row follow it in the table
+-- those after a row follow it in the table
 behind : {r : Row} {rows : List Row} → Ordered (r ∷ rows) → All (λ q. place_of r < place_of q) rows × Ordered rows
 behind {r} {rows} o = go o.known o.rising
   where

@@ -27,7 +27,7 @@ use Rattle.rules.proofs.DemandLaws.{unit-number}
 
 -- Elements
 
--- what follows from each element that it may be
+-- a conclusion that each possible element has
 some_out : {A : Type 0} {P : A → Type 0} {C : Type 0} {xs : List A} → ((x : A) → P x → C) → Some P xs → C
 some_out f (here {x} h) = f x h
 some_out f (there s) = some_out f s
@@ -221,7 +221,7 @@ module _ (b : Book) (s : Sound b) where
       each_all (λ x y k u. subst (HeldIn b.units) (sym k.holder) u) (figures-cleared b h s.standing.rising).offers
       (all-mapped (offer_at b.units h) (all_keep (λ l. not l.key.execution) (all_keep (λ l. ltb 0 (energy_at l h)) accepted-held)))
 
-  -- over the units that pass a test some energies sum to what they do over the holders that pass it: a unit passes where its holder does
+  -- energies of the units that pass a test sum to those of the holders that pass it, where a unit passes just as its holders do
   sum-held : {A : Type 0} (holder : A → Holder) (energy : A → ℕ) (p : Registered → Bool) (q : Holder → Bool)
       → ((r : Registered) (x : Holder) → Held r x → p r ≡ q x) → {xs : List A} → All (λ x. HeldIn b.units (holder x)) xs
       → sum_of (λ r. sum_of energy (keep (λ x. eqb (holder x).unit r.unit.number) xs)) (keep p b.units) ≡ sum_of energy (keep (λ x. q (holder x)) xs)

@@ -139,7 +139,7 @@ unfoldable pub is_execution : List ℕ → Bool
 is_execution bs = eqb (field 4 2 bs) 1
 
 unfoldable pub map_of : List ℕ → ℕ
-map_of bs = field 39 25 bs
+map_of bs = field 39 map_width bs
 
 -- what the bits of a message say
 unfoldable pub fields_of : Form → List ℕ → Fields

@@ -26,7 +26,7 @@ first_row (r ∷ rs) = cond r.applies (some r) (first_row rs)
 unfoldable pub table_order : List ℕ
 table_order = 1 ∷ 2 ∷ 3 ∷ 4 ∷ 5 ∷ 6 ∷ 7 ∷ 8 ∷ 9 ∷ 10 ∷ 11 ∷ 12 ∷ 13 ∷ 14 ∷ []
 
--- the place of a number in an order, counted from 1; behind all for one that is not there
+-- the place of a number in an order, counted from 1; after the last for one that is not there
 unfoldable pub place_in : List ℕ → ℕ → ℕ
 place_in [] n = 1
 place_in (m ∷ ms) n = cond (eqb m n) 1 (suc (place_in ms n))

@@ -11,7 +11,7 @@ use Rattle.rules.specs.Book.{Book}
 use Rattle.rules.specs.Queries.{Query, query_rows, query}
 use Rattle.rules.specs.DayBook.{Call, refusal, rows_of, effect, opening}
 
--- rows in the table's order: each is one of the table's, and stands there behind those that it follows here
+-- rows in the table's order: each is one of the table's, and stands there after those that it follows here
 pub record Ordered (rows : List Row) : Type 0 where
   pub known : All (λ r. place_of r ≤ length table_order) rows
   pub rising : Pairwise (λ q r. place_of q < place_of r) rows
@@ -25,7 +25,7 @@ pub record RefusedBy (rows : List Row) (n h : ℕ) : Type 0 where
   pub applies : given.applies ≡ true
   pub lowest : All (λ r. r.applies ≡ true → place_of given ≤ place_of r) rows
 
--- what is asked, with the rows that it can be refused by and what its being refused by a number and an hour is
+-- a call or query with its rows; `Refused n h` says that it is refused by number n and hour h
 pub record Refuses (rows : List Row) (Refused : ℕ → ℕ → Type 0) : Type 0 where
   pub ordered : Ordered rows
   pub lowest : (n h : ℕ) → Refused n h → RefusedBy rows n h

@@ -23,6 +23,9 @@ pub const LONG_DAY: u32 = 25;
 // Borders beside 0, the domestic one.
 pub const BORDERS: usize = 4;
 
+// A unit's border is 0 to 4, and the border of a notice or a balance 1 to 4.
+pub const LAST_BORDER: u32 = 4;
+
 // "A capacity notice covers the 4 borders in 2 directions"
 pub const DIRECTIONS: usize = 8;
 

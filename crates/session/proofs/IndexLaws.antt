@@ -31,7 +31,7 @@ module _ {A : Type 0} (p : A → Bool) where
   unindexed [] h = refl
   unindexed (x ∷ xs) h = by_bool (p x) (λ e. absurd (false≢true (sym (rw e at h)))) (λ e. rw e (ap suc (unindexed xs (rw e at h))))
 
-  -- what stands there is the first that passes
+  -- the element there is the first that passes
   pub index-first : (d : A) (xs : List A) → first p d xs ≡ get_or xs (index_of p xs) d
   unfolding index_of first
   index-first d [] = refl

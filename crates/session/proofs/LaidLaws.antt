@@ -82,7 +82,7 @@ any-behind p d [] zero h = refl
 any-behind p d [] (suc k) h = rw h (any-behind p d [] k h)
 any-behind p d (x ∷ l) k h = ap (λ t. p x || t) (any-behind p d l k h)
 
--- what 0 does not pass, none behind the array passes
+-- a test that 0 does not pass is passed by no padding
 pub any-counted : (p : ℕ → Bool) (n : ℕ) (l : List ℕ) → p 0 ≡ false → any p (counted n l) ≡ any p (take n l)
 unfolding counted pad
 any-counted p n l h = any-behind p 0 (take n l) (n - length (take n l)) h
@@ -93,7 +93,7 @@ join-replicate d [] (suc j) k zero h = absurd (omega arith)
 join-replicate d [] (suc j) k (suc m) h = ap (λ (t : List _). d ∷ t) (join-replicate d [] j k m (omega arith))
 join-replicate d (x ∷ l) j k m h = ap (λ (t : List _). x ∷ t) (join-replicate d l j k m h)
 
--- blanks behind zeros
+-- padded twice with zeros
 pub pad-counted : (m n : ℕ) (l : List ℕ) → n ≤ m → pad m 0 (counted n l) ≡ pad m 0 (take n l)
 unfolding counted pad
 pad-counted m n l h =

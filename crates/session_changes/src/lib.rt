@@ -56,7 +56,7 @@ impl Change for RegistryChange {
     }
 }
 
-// Standing lodgements: those behind index `from`, up to index `to`, move to the index before theirs; then one is put at an index.
+// Standing lodgements: those after index `from`, up to index `to`, move to the index before theirs; then one is put at an index.
 #[derive(Clone, Copy)]
 pub struct StandingChange {
     pub from: usize,
