@@ -24,7 +24,7 @@ use Rattle.rules.specs.DayBook.{entry}
 use Rattle.rules.specs.Sound as S
 use Rattle.rules.specs.Demands.{Judgement, Passes, verdict_of, taken_before, accepted_before, energy_with}
 use Rattle.rules.proofs.BoolLaws.{by_bool, not-both, of-not, both, of-neither, beq-true}
-use Rattle.rules.proofs.ListLaws.{all_map, all_append, all-mapped, all-parts, all-unkept, all_replicate, first_passes, of-any-false, hourly-suc, get_or-pad}
+use Rattle.rules.proofs.ListLaws.{all_map, all_append, all-mapped, all-parts, all_replicate, first_passes, of-any-false, hourly-suc, get_or-pad}
 use Rattle.rules.proofs.ElementLaws.{all_both, all-every, all-unmapped, any-true, pairwise_map, pairwise-weaken, some-map}
 use Rattle.rules.proofs.SumLaws.{sum-append, sum-some, sum-two}
 use Rattle.rules.proofs.OrderLaws.{before-asym}
@@ -39,7 +39,7 @@ use Rattle.hour.specs.declared.Hour.{Hour}
 use Rattle.hour.specs.View.{fresh_in, energy_among, hour_in}
 use Rattle.hour.specs.Units.{lodgement_of, lodgements_of, unit_energy, both_of, line_in, last_ones, same_unit}
 use Rattle.hour.specs.Ready.{Between, HolderWithin, SameUnit, Ready}
-use Rattle.hour.proofs.RangeLaws.{energy-of}
+use Rattle.hour.proofs.RangeLaws.{energy-of, capacity-small}
 use Rattle.hour.proofs.PairLaws.{all-last-ones, last_apart}
 use Rattle.hour.proofs.LineLaws.{capacity-abroad, capacity-home}
 use Rattle.session.proofs.LaidLaws.{any-map}
@@ -338,11 +338,8 @@ module _ (h : Hour) (r : Ready h) where
   -- Capacities
 
   notices-sound : All (S.OfDay 24) (map (notice_for h.capacities) (from 0 8))
-  unfolding notice_for hour_in published_in directed
-  notices-sound =
-      all-mapped (notice_for h.capacities)
-      (all_map (λ d (f : is_some (get_or h.capacities d None) ≡ true → get_or (energies_of h.capacities) d 0 ≤ U.max_energy). published-sound (get_or h.capacities d None) (λ t. omega (arith, energy-of h.capacities d, f t)))
-      (all-unkept (λ d. is_some (get_or h.capacities d None)) (from 0 8) (all-unmapped (directed (energies_of h.capacities)) _ r.ranges.capacities)))
+  unfolding notice_for
+  notices-sound = all-mapped (notice_for h.capacities) (from_all _ 0 8 (λ d l m. published-sound (get_or h.capacities d None) (λ t. capacity-small r.ranges.capacities d)))
 
   hours-day : B.hours (book_of h) ≡ 24
   unfolding B.hours book_of unfold_hours

@@ -21,20 +21,18 @@ use Rattle.rules.proofs.ListLaws.{all_map, all-mapped, all_keep, keep-passes, ge
 use Rattle.rules.proofs.ListLaws as RL
 use Rattle.rules.proofs.ElementLaws.{all_both, pairwise-keep, pairwise_map}
 use Rattle.rules.proofs.IndexLaws.{from_all}
-use Rattle.std.specs.Prelude.{is_some, unwrap_or, None}
+use Rattle.std.specs.Prelude.{unwrap_or}
 use Rattle.hour_offers.specs.declared.Holder.{Holder as Own}
 use Rattle.hour_offers.specs.View.{execution_in}
 use Rattle.hour.specs.declared.Hour.{Hour}
-use Rattle.hour_borders.specs.Directions.{directed, energies_of, published_in}
 use Rattle.hour.specs.View.{fresh_in, hour_in}
-use Rattle.hour.proofs.RangeLaws.{energy-of}
 use Rattle.hour.specs.Ready.{Between, OfferWithin, ExecutionWithin, HourInRange}
 use Rattle.clear_gather.proofs.ListLaws.{all-within}
 use Rattle.session.specs.declared.Session.{Session}
 use Rattle.session.specs.Laid.{pad}
 use Rattle.session.specs.Image as I
-use Rattle.clear_gather.specs.Built.{Holders, Built}
-use Rattle.clear_gather.proofs.HourLaws.{given_at, capacity-as, capacity-of, hour-as}
+use Rattle.clear_gather.specs.Built.{capacity_on, Holders, Built}
+use Rattle.clear_gather.proofs.HourLaws.{given_at, capacity-as, hour-as}
 use Rattle.clear_gather.proofs.OfferLaws.{few-offers, all_room}
 
 -- What a sound book gives
@@ -159,14 +157,11 @@ module _ (s : Session) (b : B.Book) (e : s ≡ I.image b) (sound : I.Sound b) (c
       sym (length-map h.executions.items execution_in) ∙ ap (λ x. length x.executions) same
       ∙ length-map (keep (λ l. l.key.execution) (keep (λ l. ltb 0 (L.energy_at l (suc k))) (C.accepted_at b))) (R.execution_at b.units (suc k))
 
-  capacity-range : (d : ℕ) → d < 8 → unwrap_or (get_or h.capacities d None) 0 ≤ U.max_energy
-  capacity-range d l =
-      rw (capacity-of s b e sound.directions k h.capacities t.capacities d l, capacity-as s b e sound.directions k d l)
-      (capacity-small (B.hours b) k (get_or b.capacities d nothing) (RL.all-at d nothing sound.ranges.capacities (omega (arith, sound.directions))))
-
-  capacities-range : All (λ c. c.energy ≤ U.max_energy) (published_in h.capacities)
-  unfolding published_in directed
-  capacities-range = all-mapped (directed (energies_of h.capacities)) (all_keep (λ d. is_some (get_or h.capacities d None)) (from_all _ 0 8 (λ d l m. rw (energy-of h.capacities d) (capacity-range d (omega arith)))))
+  capacities-range : All (λ c. unwrap_or c 0 ≤ U.max_energy) h.capacities
+  capacities-range =
+      rw t.capacities
+      (all-mapped (capacity_on s.capacities k) (from_all _ 0 8 (λ d l m. rw (capacity-as s b e sound.directions k d (omega arith))
+      (capacity-small (B.hours b) k (get_or b.capacities d nothing) (RL.all-at d nothing sound.ranges.capacities (omega (arith, sound.directions)))))))
 
   pub hour-in-range : HourInRange h
   unfolding hour_in R.hour_of_day R.offer_at R.execution_at R.holder_of C.accepted_at

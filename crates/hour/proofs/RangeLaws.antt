@@ -3,30 +3,27 @@ use Prim.Native.Nat.{ℕ, zero, suc, ◌+◌, ◌≤◌, ◌<◌}
 use mathlib.Core.Path.{◌≡◌, refl}
 use mathlib.Core.Bool.{Bool, true, not}
 use mathlib.Core.List.{List, [], ◌∷◌, map}
-use mathlib.Core.Logic.{⊎_elim}
-use native.Mathlib.Nat.{lt_trans, eq-or-lt_of_le}
+use native.Mathlib.Nat.{lt_trans}
 use native.Mathlib.Omega.{arith}
 use lib.Dec.{ltb, eqb}
-use lib.ListN.{get_or, length, take, length-take, length-map}
-use lib.Seq.{get_or-take}
+use lib.ListN.{get_or, length, length-map}
 use borrow.Author.Tests.{leb-true, le-leb, lt-ltb, ltb-true, ltb-false, le-ltb, eqb-false, ne_eqb, not-true}
-use Rattle.std.specs.Prelude.{is_some, unwrap_or, Option, Some, None}
+use Rattle.std.specs.Prelude.{unwrap_or, Option, Some, None}
 use Rattle.std.specs.List.{list_all}
-use Rattle.rules.specs.Lists.{All, none, more, Pairwise, empty, ahead, from}
+use Rattle.rules.specs.Lists.{All, none, more, Pairwise, empty, ahead}
 use Rattle.rules.specs.Units.{max_energy, max_price, bad_number}
 use Rattle.rules.specs.Match as M
 use Rattle.rules.specs.Borders as B
 use Rattle.rules.proofs.BoolLaws.{by_bool, both, neither}
-use Rattle.rules.proofs.ListLaws.{all_map, all_append, all-mapped, all_keep, all-unkept, keep-passes}
-use Rattle.rules.proofs.ElementLaws.{all_both, all-unmapped, pairwise_map}
-use Rattle.rules.proofs.IndexLaws.{from_all}
+use Rattle.rules.proofs.ListLaws.{all_map, all_append, all-mapped}
+use Rattle.rules.proofs.ElementLaws.{all-unmapped, pairwise_map}
 use Rattle.hour_offers.specs.View.{offer_in, execution_in, executions_in}
 use Rattle.hour_offers.specs.Sound.{Sound, ExecutionInRange}
 use Rattle.hour.specs.Ranges.{within, holder_within, offer_within, execution_within, rises, capacity_within, lodged_within, offer_number, execution_number, capacities_within}
 use Rattle.hour.specs.declared.Hour.{Hour}
 use Rattle.hour.specs.View.{fresh_in, hour_in}
 use Rattle.hour.specs.Units.{lodgement_of, lodgements_of}
-use Rattle.hour_borders.specs.Directions.{directed, energies_of, published_in}
+use Rattle.hour_borders.specs.Directions.{energies_of}
 use Rattle.hour.specs.Ready.{Between, HolderWithin, OfferWithin, ExecutionWithin, HourInRange, is_in_range}
 
 -- Lists
@@ -39,15 +36,6 @@ module _ {A : Type 0} (p : A → Bool) where
   all-told : {xs : List A} → All (λ x. p x ≡ true) xs → list_all p xs ≡ true
   all-told none = refl
   all-told (more h t) = rw h (all-told t)
-
-  all-at-index : (d : A) → p d ≡ true → (xs : List A) → list_all p xs ≡ true → (i : ℕ) → p (get_or xs i d) ≡ true
-  all-at-index d e [] h i = e
-  all-at-index d e (x ∷ xs) h zero = (both _ _ h).0
-  all-at-index d e (x ∷ xs) h (suc i) = all-at-index d e xs (both _ _ h).1 i
-
-  all-from-indices : (d : A) (xs : List A) → ((i : ℕ) → i < length xs → p (get_or xs i d) ≡ true) → list_all p xs ≡ true
-  all-from-indices d [] f = refl
-  all-from-indices d (x ∷ xs) f = rw (f 0 (omega arith)) (all-from-indices d xs (λ i l. f (suc i) (omega arith)))
 
 module _ {A : Type 0} (number : A → ℕ) where
   rise-holds : (xs : List A) → rises (map number xs) ≡ true → Pairwise (λ x y. number x < number y) xs
@@ -68,12 +56,6 @@ module _ {A : Type 0} (number : A → ℕ) where
 pub pairwise-unmapped : {A B : Type 0} {S : B → B → Type 0} (f : A → B) (xs : List A) → Pairwise S (map f xs) → Pairwise (λ x y. S (f x) (f y)) xs
 pairwise-unmapped f [] empty = empty
 pairwise-unmapped f (x ∷ xs) (ahead h t) = ahead (all-unmapped f xs h) (pairwise-unmapped f xs t)
-
--- what holds of each of some numbers holds of the one
-all-from : {P : ℕ → Type 0} (a d : ℕ) → All P (from a d) → (i : ℕ) → a ≤ i → i < a + d → P i
-unfolding from
-all-from a zero h i l k = absurd (omega arith)
-all-from a (suc d) (more h t) i l k = ⊎_elim (λ q. rw (← q) h) (λ z. all-from (suc a) d t i z (omega arith)) (eq-or-lt_of_le l)
 
 -- What an element's test stands for
 
@@ -137,15 +119,20 @@ execution-told x r = rw (holder-told 1 x.holder r.holder, within-told 1 max_ener
 
 -- Capacities
 
-capacity-holds : (c : Option ℕ) → capacity_within c ≡ true → is_some c ≡ true → unwrap_or c 0 ≤ max_energy
+capacity-holds : (c : Option ℕ) → capacity_within c ≡ true → unwrap_or c 0 ≤ max_energy
 unfolding capacity_within
-capacity-holds None e s = omega arith
-capacity-holds (Some x) e s = leb-true _ _ e
+capacity-holds None e = omega arith
+capacity-holds (Some x) e = leb-true _ _ e
 
-capacity-told : (c : Option ℕ) → (is_some c ≡ true → unwrap_or c 0 ≤ max_energy) → capacity_within c ≡ true
+capacity-told : (c : Option ℕ) → unwrap_or c 0 ≤ max_energy → capacity_within c ≡ true
 unfolding capacity_within
-capacity-told None f = refl
-capacity-told (Some x) f = le-leb x max_energy (f refl)
+capacity-told None l = refl
+capacity-told (Some x) l = le-leb x max_energy l
+
+pub capacity-small : {cs : List (Option ℕ)} → All (λ c. unwrap_or c 0 ≤ max_energy) cs → (d : ℕ) → unwrap_or (get_or cs d None) 0 ≤ max_energy
+capacity-small none d = omega arith
+capacity-small (more h t) zero = h
+capacity-small (more h t) (suc d) = capacity-small t d
 
 -- what stands at an index, 0 where nothing does
 pub energy-of : (cs : List (Option ℕ)) (w : ℕ) → get_or (energies_of cs) w 0 ≡ unwrap_or (get_or cs w None) 0
@@ -153,22 +140,6 @@ unfolding energies_of
 energy-of [] w = refl
 energy-of (c ∷ cs) zero = refl
 energy-of (c ∷ cs) (suc w) = energy-of cs w
-
-module _ (cs : List (Option ℕ)) where
-  capacities-hold : list_all capacity_within (take 8 cs) ≡ true → All (λ c. c.energy ≤ max_energy) (published_in cs)
-  unfolding published_in directed capacity_within
-  capacities-hold e =
-      all-mapped _
-      (all_both (λ d s k. rw (energy-of cs d) (capacity-holds (get_or cs d None) (rw (get_or-take 8 cs d None k) at (all-at-index capacity_within None refl (take 8 cs) e d)) s))
-      (keep-passes (λ d. is_some (get_or cs d None)) (from 0 8)) (all_keep (λ d. is_some (get_or cs d None)) (from_all (λ d. d < 8) 0 8 (λ d a b. omega arith))))
-
-  capacities-told : All (λ (c : B.Directed). c.energy ≤ max_energy) (published_in cs) → list_all capacity_within (take 8 cs) ≡ true
-  unfolding published_in directed
-  capacities-told r =
-      let a = all-unkept (λ d. is_some (get_or cs d None)) (from 0 8) (all-unmapped _ _ r) in
-      all-from-indices capacity_within None (take 8 cs) (λ d l.
-      let k : d < 8 = omega (arith, length-take 8 cs) in
-      rw (get_or-take 8 cs d None k) (capacity-told (get_or cs d None) (λ t. rw (energy-of cs d) at (all-from 0 8 a d (omega arith) k t))))
 
 -- The test of an hour
 
@@ -191,7 +162,7 @@ range-holds h e =
       offers-rise = pairwise_map fresh_in (λ o p l. l) (rise-holds offer_number os o.1);
       executions = all-mapped execution_in (all_map (λ x e. execution-holds (execution_in x) e) (all-hold (λ x. execution_within (execution_in x)) xs x.0));
       executions-rise = pairwise_map execution_in (λ x y l. l) (rise-holds execution_number xs x.1);
-      capacities = capacities-hold h.capacities d.1;
+      capacities = all_map (λ c e. capacity-holds c e) (all-hold capacity_within h.capacities d.1);
     }
 
 -- an hour that is in them passes it
@@ -207,15 +178,10 @@ range-told h r =
       rise-told offer_number (pairwise-unmapped fresh_in os r.offers-rise),
       all-told (λ x. execution_within (execution_in x)) (all_map (λ x e. execution-told (execution_in x) e) (all-unmapped execution_in xs r.executions)),
       rise-told execution_number (pairwise-unmapped execution_in xs r.executions-rise),
-      capacities-told h.capacities r.capacities,
+      all-told capacity_within (all_map (λ c l. capacity-told c l) r.capacities),
     )
 
 -- What it says of its parts
-
-capacity-small : (c : Option ℕ) → capacity_within c ≡ true → unwrap_or c 0 ≤ max_energy
-unfolding capacity_within
-capacity-small None e = omega arith
-capacity-small (Some x) e = leb-true _ _ e
 
 module _ {h : Hour} (r : HourInRange h) where
   -- its offers and executions are such as are cleared
@@ -242,8 +208,5 @@ module _ {h : Hour} (r : HourInRange h) where
       (all_map (λ x g. record { border = omega (arith, g.holder.border.1); energy = g.energy.1 }) r.executions)
 
   -- its capacities are in their range, and 0 stands where there is none
-  pub capacities-small : (d : ℕ) → d < 8 → get_or (energies_of h.capacities) d 0 ≤ max_energy
-  unfolding hour_in capacity_within
-  capacities-small d l =
-      rw (energy-of h.capacities d)
-      (capacity-small (get_or h.capacities d None) (rw (get_or-take 8 h.capacities d None l) at (all-at-index capacity_within None refl (take 8 h.capacities) (capacities-told h.capacities r.capacities) d)))
+  pub capacities-small : (d : ℕ) → get_or (energies_of h.capacities) d 0 ≤ max_energy
+  capacities-small d = rw (energy-of h.capacities d) (capacity-small r.capacities d)

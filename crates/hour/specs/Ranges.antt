@@ -1,5 +1,5 @@
 -- The tests of an hour's parts.
-use Rattle.std.specs.Prelude.{ℕ, Bool, true, not, ◌&&◌, List, [], ◌∷◌, ltb, leb, eqb, map, take, Option, Some, None}
+use Rattle.std.specs.Prelude.{ℕ, Bool, true, not, ◌&&◌, List, [], ◌∷◌, ltb, leb, eqb, map, Option, Some, None}
 use Rattle.std.specs.List.{list_all}
 use Rattle.rules.specs.Units.{max_energy, max_price, bad_number}
 use Rattle.rules.specs.Match as R
@@ -52,4 +52,4 @@ executions_within xs = lodged_within (λ x. execution_within (execution_in x)) e
 
 -- each published capacity is within its range
 unfoldable pub capacities_within : List (Option ℕ) → Bool
-capacities_within cs = list_all capacity_within (take 8 cs)
+capacities_within cs = list_all capacity_within cs

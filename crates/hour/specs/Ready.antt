@@ -1,5 +1,5 @@
 -- An hour that a session can hold, the test for it, and what clearing it gives.
-use Rattle.std.specs.Prelude.{ℕ, ◌+◌, ◌≤◌, ◌<◌, ◌≡◌, Bool, true, false, cond, ◌&&◌, map, length, leb, eqb, Option, Some, None}
+use Rattle.std.specs.Prelude.{ℕ, ◌+◌, ◌≤◌, ◌<◌, ◌≡◌, Bool, true, false, cond, ◌&&◌, map, length, leb, eqb, unwrap_or, Option, Some, None}
 use Rattle.rules.specs.Lists.{All, Pairwise}
 use Rattle.rules.specs.Units.{max_energy, max_price, passes}
 use Rattle.rules.specs.Match.{Holder, Offer}
@@ -48,7 +48,8 @@ pub record HourInRange (h : Hour) : Type 0 where
   pub offers-rise : Pairwise (λ o p. o.holder.number < p.holder.number) (hour_in h).offers
   pub executions : All ExecutionWithin (hour_in h).executions
   pub executions-rise : Pairwise (λ x y. x.holder.number < y.holder.number) (hour_in h).executions
-  pub capacities : All (λ c. c.energy ≤ max_energy) (hour_in h).capacities
+  -- "each is absent, or H energies": 0 stands for none
+  pub capacities : All (λ c. unwrap_or c 0 ≤ max_energy) h.capacities
 
 -- `HourInRange` as a test (`range-holds` and `range-told` of proofs/RangeLaws.antt)
 unfoldable pub is_in_range : Hour → Bool

@@ -154,7 +154,9 @@ fn any_over(capacities: &[Option<u32>; DIRECTIONS], lodgements: &[Execution]) ->
     requires in_range { All ExecutionInRange (executions_in lodgements.now) }
     ensures { result ≡ list_any (λ x. is_over (published_in capacities.now) (executions_in lodgements.now) (execution_in x)) lodgements.now }
 {
-    lodgements.iter().any(|x| is_over(capacities, lodgements, x))
+    lodgements
+        .iter()
+        .any(|x| is_over(capacities, lodgements, x))
 }
 
 // The lodgements of an hour, offers first.

@@ -24,7 +24,7 @@ clear-market-requires-clause-sound c =
     rw (c.deref_mut.ensures.value, c.fresh.ensures, c.deref.ensures.0) (unmatched-of (offers-sound (range-holds c.args.h.now (sym c.in_range.ensures ∙ c.if-in_range.true))))
 
 pub clear-market-requires-clause-capacities_small : goal.clear-market-requires-clause-capacities_small
-clear-market-requires-clause-capacities_small c w l = omega (arith, capacities-small (range-holds c.args.h.now (sym c.in_range.ensures ∙ c.if-in_range.true)) w l)
+clear-market-requires-clause-capacities_small c w l = omega (arith, capacities-small (range-holds c.args.h.now (sym c.in_range.ensures ∙ c.if-in_range.true)) w)
 
 pub cut-requires-clause-in_range : goal.cut-requires-clause-in_range
 cut-requires-clause-in_range c =
