@@ -11,6 +11,8 @@ pub enum Call<'a> {
     Available(u32, &'a Energies),
     /// A capacity notice.
     Capacity(&'a Capacities),
+    /// A rights notice of an agent, for its purchases (else its sales).
+    Rights(u32, bool, &'a Energies),
     /// Lodges a message.
     Lodge(&'a [u8]),
     /// Annuls the lodgement of a key.
@@ -32,7 +34,7 @@ pub enum Accepted {
     Steps(Steps),
 }
 
-/// A session of one delivery day, with every call and query of document 01.
+/// A session of one delivery day, with every call and query of document 01 and those of document 02 that have landed.
 pub trait Exchange: Sized {
     /// A fresh session of the date. Beside a refused date stands the fresh session of 2002-01-01.
     fn opened(date: Date) -> (Result<(), Refusal>, Self);
@@ -59,6 +61,7 @@ pub trait Exchange: Sized {
             Call::Register(unit) => self.register(unit).map(done),
             Call::Available(unit, energies) => self.unavailability(unit, energies).map(done),
             Call::Capacity(capacities) => self.capacity(capacities).map(done),
+            Call::Rights(agent, purchase, energies) => self.rights(agent, purchase, energies).map(done),
             Call::Lodge(message) => self.lodge(message).map(Accepted::Number),
             Call::Annul(key) => self.annul(key).map(done),
             Call::Close => self.close().map(done),
@@ -74,6 +77,10 @@ pub trait Exchange: Sized {
 
     /// A capacity notice; it replaces the one before it, whole.
     fn capacity(&mut self, capacities: &Capacities) -> Result<(), Refusal>;
+
+    /// A rights notice: the rights of an agent's French units that buy (else of those that sell); it replaces the earlier one for
+    /// the two.
+    fn rights(&mut self, agent: u32, purchase: bool, energies: &Energies) -> Result<(), Refusal>;
 
     /// Lodges a message.
     fn lodge(&mut self, message: &[u8]) -> Result<LodgingNumber, Refusal>;

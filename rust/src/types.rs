@@ -77,6 +77,8 @@ pub struct Unit {
     pub maximum: u32,
     /// A contract older than Law 54/97, at borders 1 to 4 only.
     pub legacy: bool,
+    /// Marked "with rights", at border 1 only: beside the agent's unit of that side without them.
+    pub rights: bool,
 }
 
 /// What tells lodgements apart.
@@ -226,8 +228,10 @@ pub enum Limit {
     Maximum,
     /// 11, its available energy.
     Available,
-    /// 12, the sum of its border's two capacities.
+    /// 12, the sum of its border's two capacities; of a French unit without rights less its agent's rights on its side.
     Border,
+    /// 15, its agent's rights on its side, of a unit with rights.
+    Rights,
 }
 
 impl Limit {
@@ -237,6 +241,7 @@ impl Limit {
             Limit::Maximum => 10,
             Limit::Available => 11,
             Limit::Border => 12,
+            Limit::Rights => 15,
         }
     }
 
@@ -246,6 +251,7 @@ impl Limit {
             Limit::Maximum => "maximum",
             Limit::Available => "available",
             Limit::Border => "border",
+            Limit::Rights => "rights",
         }
     }
 }
@@ -278,7 +284,8 @@ impl fmt::Display for Verdict {
     }
 }
 
-/// Why a call was refused: the rows of document 01's table "When the gate says no".
+/// Why a call was refused: the rows of document 01's table "When the gate says no". The first row that applies is given: they
+/// stand in the order of their numbers, but 15 after 12.
 #[derive(Clone, Copy, Debug, PartialEq, Eq, Hash)]
 pub enum Refusal {
     /// 1: not a date in the range.
@@ -289,23 +296,25 @@ pub enum Refusal {
     Form,
     /// 4: empty map, hour outside 1 to H, clock name the day lacks, or a notice not of H hours.
     Hour,
-    /// 5: a value outside its range, or a legacy mark on a domestic unit.
+    /// 5: a value outside its range, a legacy mark on a domestic unit, or a mark "with rights" on one that is not French.
     Range,
-    /// 6: unregistered, or domestic for an execution.
+    /// 6: unregistered, or domestic for an execution; no French unit of that agent and side for a rights notice.
     Unit,
     /// 7: unit number registered.
     Taken,
-    /// 8: agent has that border (1 to 4) and side.
+    /// 8: agent has that border (1 to 4) and side; of France once with rights and once without.
     Second,
     /// 9: 64 units; 128 lodgements and none of this key; 65,535 accepted.
     Full,
-    /// 10 to 12: a limit passed.
+    /// 10 to 12 and 15: a limit passed.
     Limit {
         /// The limit.
         limit: Limit,
         /// The lowest hour in which it is passed.
         hour: u32,
     },
+    /// 15, of registering: a unit with rights whose agent has none without them on that side.
+    Partner,
     /// 13: no such key, or lodging number (0 too) not standing at closing.
     Absent,
     /// 14: writer's buffer too small.
@@ -326,6 +335,7 @@ impl Refusal {
             Refusal::Second => 8,
             Refusal::Full => 9,
             Refusal::Limit { limit, .. } => limit.number(),
+            Refusal::Partner => 15,
             Refusal::Absent => 13,
             Refusal::Short => 14,
         }
@@ -344,12 +354,13 @@ impl Refusal {
             Refusal::Second => "second",
             Refusal::Full => "full",
             Refusal::Limit { limit, .. } => limit.word(),
+            Refusal::Partner => "rights",
             Refusal::Absent => "absent",
             Refusal::Short => "short",
         }
     }
 
-    /// The lowest hour in which a limit is passed; 0 for every refusal but 10 to 12.
+    /// The lowest hour in which a limit is passed; 0 for every other refusal.
     pub fn hour(self) -> u32 {
         match self {
             Refusal::Limit { hour, .. } => hour,

@@ -6,7 +6,7 @@
  */
 #define _POSIX_C_SOURCE 200809L /* pthread_attr_setstack */
 
-#include "gate.h"
+#include "calls.h"
 
 #include <pthread.h>
 #include <stdio.h>
@@ -75,8 +75,21 @@ static void open_day(GateDate date) {
 }
 
 static GateUnit unit_of(uint32_t number, uint32_t agent, uint32_t border, bool purchase, uint32_t maximum, bool legacy) {
-    const GateUnit u = {number, agent, border, maximum, purchase, legacy, fill};
+    const GateUnit u = {number, agent, border, maximum, purchase, legacy, false, fill};
     return u;
+}
+
+/* A unit's mark "with rights" set. */
+static GateUnit marked(GateUnit u) {
+    u.rights = true;
+    return u;
+}
+
+/* A rights notice of so many energies, each hour's one more than the hour's before. */
+static GateRights rights_of(uint32_t agent, bool purchase, size_t count, uint32_t energy) {
+    GateRights n = {agent, purchase, fill, fill, count, {0}, fill};
+    for (uint32_t h = 0; h < GATE_HOURS; h++) n.energies[h] = energy + h;
+    return n;
 }
 
 static GateKey key_of(bool execution, bool is_default, uint32_t unit, uint32_t contract) {
@@ -116,7 +129,7 @@ static GateResponse lodge(GateFields m) {
     GateReading r = gate_read(bytes, w.count);
     m.reserved = 0;
     CHECK(r.row == 0 && memcmp(&r.fields, &m, sizeof m) == 0);
-    return gate_lodge(s, bytes, w.count);
+    return call_lodge(s, bytes, w.count);
 }
 
 static GatePublished published(uint32_t energy) {
@@ -231,24 +244,24 @@ static void full_day(void) {
 
     for (uint32_t i = 0; i < GATE_UNITS; i++) {
         const GateUnit u = unit_of(1000 + i, 2000 + i, i % 5, i % 2 == 1, 90000 + i, i % 5 != 0 && i % 3 == 0);
-        CHECK(accepted(gate_register(s, u)));
+        CHECK(accepted(call_register(s, u)));
         CHECK(s->enrolled == i + 1 && kept(s->units[i], u));
     }
-    CHECK(refused(gate_register(s, unit_of(1, 1, 0, false, 1, false)), GATE_REFUSED_FULL, 0));
+    CHECK(refused(call_register(s, unit_of(1, 1, 0, false, 1, false)), GATE_REFUSED_FULL, 0));
     for (uint32_t i = 0; i < GATE_UNITS; i++) {
         GateUnavailability n = {25, 1000 + i, {0}};
         for (uint32_t h = 0; h < 25; h++) n.energies[h] = 80000 + 100 * i + h;
-        CHECK(accepted(gate_unavailability(s, n)));
+        CHECK(accepted(call_unavailability(s, n)));
         CHECK(s->notices[i].given && same32(s->notices[i].energies, n.energies, 25));
         n.count = 24;
-        CHECK(refused(gate_unavailability(s, n), GATE_REFUSED_HOUR, 0));
+        CHECK(refused(call_unavailability(s, n), GATE_REFUSED_HOUR, 0));
         n.count = SIZE_MAX;
-        CHECK(refused(gate_unavailability(s, n), GATE_REFUSED_HOUR, 0));
+        CHECK(refused(call_unavailability(s, n), GATE_REFUSED_HOUR, 0));
     }
     GateCapacities c;
     memset(&c, 0, sizeof c);
     for (size_t d = 0; d < GATE_DIRECTIONS; d++) c.directions[d] = published(30000 + 1000 * (uint32_t)d);
-    CHECK(accepted(gate_capacity(s, c)));
+    CHECK(accepted(call_capacity(s, c)));
     for (size_t d = 0; d < GATE_DIRECTIONS; d++) CHECK(s->capacities[d].given && same32(s->capacities[d].energies, c.directions[d].energies, 25));
 
     for (uint32_t i = 0; i < GATE_LODGEMENTS; i++) {
@@ -261,29 +274,84 @@ static void full_day(void) {
     }
     CHECK(refused(lodge(every_hour(true, false, 1001, 7, 10, 0)), GATE_REFUSED_FULL, 0));
     const GateKey key = key_of(false, false, 1063, 0);
-    CHECK(accepted(gate_annul(s, key)));
+    CHECK(accepted(call_annul(s, key)));
     CHECK(s->standing == 127 && s->last == 128 && s->lodgements[63].number == 65);
-    CHECK(refused(gate_annul(s, key), GATE_REFUSED_ABSENT, 0));
+    CHECK(refused(call_annul(s, key), GATE_REFUSED_ABSENT, 0));
     CHECK(numbered(lodge(every_hour(true, false, 1001, 65535, 10, 0)), 129));
     CHECK(s->lodgements[127].key.execution && s->lodgements[127].key.contract == 65535 && s->lodgements[127].number == 129);
     CHECK(canaries());
 
     CHECK(refused(gate_verdict(s, 1), GATE_REFUSED_GATE, 0));
-    CHECK(refused(gate_clear(s), GATE_REFUSED_GATE, 0));
-    CHECK(accepted(gate_close(s)));
+    CHECK(refused(call_clear(s), GATE_REFUSED_GATE, 0));
+    CHECK(accepted(call_close(s)));
     CHECK(s->closed && !s->cleared);
     verdicts_agree();
     CHECK(accepted(gate_verdict(s, 1)) && is(gate_verdict(s, 65), GATE_HIDDEN, 0, 0, 0, 0) && accepted(gate_verdict(s, 128)));
     CHECK(refused(gate_verdict(s, 64), GATE_REFUSED_ABSENT, 0) && refused(gate_verdict(s, 0), GATE_REFUSED_ABSENT, 0));
     CHECK(refused(gate_price(s, 1), GATE_REFUSED_GATE, 0));
-    GateResponse r = gate_clear(s);
+    GateResponse r = call_clear(s);
     CHECK(r.kind == GATE_STEPS && r.row == 0 && r.hour == 0 && r.value == 0);
     CHECK(s->closed && s->cleared);
     figures_agree();
     CHECK(canaries());
     static GateSession copy;
     copy = *s;
-    CHECK(refused(gate_clear(&copy), GATE_REFUSED_GATE, 0) && same_session(&copy, s) && !same_session(&fresh, s));
+    CHECK(refused(call_clear(&copy), GATE_REFUSED_GATE, 0) && same_session(&copy, s) && !same_session(&fresh, s));
+}
+
+/* Whether the session has no rights for the unit at an index. */
+static bool no_rights(size_t index) {
+    const uint32_t none[GATE_HOURS] = {0};
+    return !s->rights[index].given && same32(s->rights[index].energies, none, GATE_HOURS);
+}
+
+/* K1: units with rights at the last indices, the rights of an agent and side at each of its French units, and limit 15. */
+static void rights(void) {
+    open_day(LONG_DAY);
+    for (uint32_t i = 0; i < GATE_UNITS - 2; i++) CHECK(accepted(call_register(s, unit_of(1000 + i, 2000 + i, i % 5, true, 90000, false))));
+    const GateUnit sale = unit_of(7, 2001, GATE_FRANCE, false, 500, true);
+    const GateUnit with = marked(unit_of(8, 2001, GATE_FRANCE, true, 500, true));
+    CHECK(refused(call_register(s, marked(unit_of(8, 2001, GATE_FRANCE, false, 500, false))), GATE_REFUSED_RIGHTS, 0));
+    CHECK(refused(call_register(s, marked(unit_of(8, 2002, GATE_ANDORRA, true, 500, false))), GATE_REFUSED_RANGE, 0));
+    CHECK(refused(call_register(s, marked(unit_of(8, 2000, GATE_DOMESTIC, true, 500, false))), GATE_REFUSED_RANGE, 0));
+    for (size_t i = 0; i < GATE_UNITS; i++) CHECK(no_rights(i));
+
+    /* France's purchase of agent 2001 stands at index 1: its rights before the unit with rights is there. */
+    GateRights n = rights_of(2001, true, 25, 300);
+    CHECK(accepted(call_rights(s, n)));
+    CHECK(s->rights[1].given && same32(s->rights[1].energies, n.energies, 25));
+    CHECK(accepted(call_register(s, sale)) && accepted(call_register(s, with)));
+    CHECK(s->enrolled == GATE_UNITS && kept(s->units[62], sale) && kept(s->units[63], with) && !s->units[62].rights && s->units[63].rights);
+    CHECK(no_rights(62) && s->rights[63].given && same32(s->rights[63].energies, n.energies, 25));
+    CHECK(refused(call_register(s, marked(unit_of(9, 2001, GATE_FRANCE, true, 500, false))), GATE_REFUSED_SECOND, 0));
+
+    /* A later notice, of both units of the side; refused ones change nothing. */
+    static GateSession before;
+    n = rights_of(2001, true, 25, 200);
+    CHECK(accepted(call_rights(s, n)));
+    before = *s;
+    CHECK(refused(call_rights(s, rights_of(2001, true, 24, 1)), GATE_REFUSED_HOUR, 0));
+    CHECK(refused(call_rights(s, rights_of(0, true, SIZE_MAX, 100000)), GATE_REFUSED_HOUR, 0));
+    CHECK(refused(call_rights(s, rights_of(0, true, 25, 1)), GATE_REFUSED_RANGE, 0));
+    CHECK(refused(call_rights(s, rights_of(65536, true, 25, 1)), GATE_REFUSED_RANGE, 0));
+    CHECK(refused(call_rights(s, rights_of(2001, true, 25, 99976)), GATE_REFUSED_RANGE, 0));
+    CHECK(refused(call_rights(s, rights_of(2002, true, 25, 1)), GATE_REFUSED_UNIT, 0));
+    CHECK(refused(call_rights(s, rights_of(2006, false, 25, 1)), GATE_REFUSED_UNIT, 0));
+    CHECK(same_session(&before, s));
+    for (size_t i = 0; i < GATE_UNITS; i++) CHECK(i == 1 || i == 63 ? s->rights[i].given && same32(s->rights[i].energies, n.energies, 25) : no_rights(i));
+    GateRights sold = rights_of(2001, false, 25, 0);
+    CHECK(accepted(call_rights(s, sold)));
+    CHECK(s->rights[62].given && same32(s->rights[62].energies, sold.energies, 25) && same32(s->rights[1].energies, n.energies, 25));
+
+    /* Limit 15 is 200 in hour 1 and one more in each hour that follows. */
+    CHECK(numbered(lodge(every_hour(false, false, 8, 0, 199, 3000)), 1));
+    CHECK(refused(lodge(every_hour(false, false, 8, 0, 200, 3000)), GATE_REFUSED_RIGHTS, 1));
+    CHECK(accepted(call_rights(s, rights_of(2001, true, 25, 199))));
+    CHECK(accepted(call_close(s)));
+    verdicts_agree();
+    CHECK(is(gate_verdict(s, 1), GATE_LIMIT, GATE_REFUSED_RIGHTS, 1, 0, 0));
+    CHECK(refused(call_rights(s, n), GATE_REFUSED_GATE, 0));
+    CHECK(canaries());
 }
 
 /* Document 01's case 12 in every hour of the short day, and below zero: the market exports more than the capacity, since executions import. */
@@ -295,7 +363,7 @@ static void cuts(void) {
         unit_of(3, 3, GATE_FRANCE, true, 99999, false),    unit_of(4, 4, GATE_FRANCE, true, 99999, false),
         unit_of(5, 5, GATE_MOROCCO, true, 99999, false),   unit_of(6, 6, GATE_MOROCCO, false, 99999, false),
     };
-    for (size_t i = 0; i < 6; i++) CHECK(accepted(gate_register(s, units[i])));
+    for (size_t i = 0; i < 6; i++) CHECK(accepted(call_register(s, units[i])));
     GateCapacities c;
     memset(&c, 0, sizeof c);
     c.directions[gate_direction(GATE_FRANCE, true)] = published(100);
@@ -304,7 +372,7 @@ static void cuts(void) {
         c.directions[gate_direction(GATE_FRANCE, true)].energies[i] = 100;
         c.directions[gate_direction(GATE_MOROCCO, true)].energies[i] = 10;
     }
-    CHECK(accepted(gate_capacity(s, c)));
+    CHECK(accepted(call_capacity(s, c)));
     GateFields m;
     memset(&m, 0, sizeof m);
     struct {
@@ -329,10 +397,10 @@ static void cuts(void) {
     m.energies[0] = 0;
     CHECK(numbered(lodge(m), 7));
     const GateKey key = key_of(true, false, 6, 14);
-    CHECK(accepted(gate_annul(s, key)));
-    CHECK(accepted(gate_close(s)));
+    CHECK(accepted(call_annul(s, key)));
+    CHECK(accepted(call_close(s)));
     verdicts_agree();
-    CHECK(is(gate_clear(s), GATE_STEPS, 0, 0, 0, 23));
+    CHECK(is(call_clear(s), GATE_STEPS, 0, 0, 0, 23));
     for (uint32_t h = 1; h <= 23; h++) {
         CHECK(figure(gate_market_maximum(s, GATE_FRANCE, true, h), 71));
         CHECK(figure(gate_matched(s, 3, h), 71));
@@ -355,12 +423,12 @@ static void each_bit(void) {
     uint8_t bytes[GATE_MESSAGE];
     CHECK(gate_write(every_hour(false, false, 7, 0, 200, 18000), bytes, sizeof bytes).count == GATE_MESSAGE);
     static GateSession scratch;
-    unsigned rows[15] = {0};
+    unsigned rows[16] = {0};
     for (size_t bit = 0; bit < 8 * GATE_MESSAGE; bit++) {
         scratch = *s;
         bytes[bit / 8] ^= (uint8_t)(0x80 >> bit % 8);
         GateReading r = gate_read(bytes, sizeof bytes);
-        GateResponse a = gate_lodge(&scratch, bytes, sizeof bytes);
+        GateResponse a = call_lodge(&scratch, bytes, sizeof bytes);
         bytes[bit / 8] ^= (uint8_t)(0x80 >> bit % 8);
         if (a.kind == GATE_REFUSED) CHECK(same_session(&scratch, s) && (r.row == 0 ? a.row >= GATE_REFUSED_UNIT : is(a, GATE_REFUSED, r.row, 0, 0, 0)));
         else CHECK(numbered(a, 1) && r.row == 0 && scratch.standing == 1);
@@ -373,14 +441,14 @@ static void each_bit(void) {
 static void any_bytes(void) {
     open_day(LONG_DAY);
     const GateUnit u = unit_of(7, 7, GATE_FRANCE, true, 300, false);
-    CHECK(accepted(gate_register(s, u)));
+    CHECK(accepted(call_register(s, u)));
     const GateUnit bad[] = {
         unit_of(0, 1, 0, false, 1, false),      unit_of(8, 70000, 0, false, 1, false), unit_of(8, 8, 5, false, 1, false),
         unit_of(8, 8, 0, false, 100000, false), unit_of(8, 8, 0, false, 1, true),
     };
-    for (size_t i = 0; i < 5; i++) CHECK(refused(gate_register(s, bad[i]), GATE_REFUSED_RANGE, 0));
-    CHECK(refused(gate_register(s, u), GATE_REFUSED_TAKEN, 0));
-    CHECK(refused(gate_register(s, unit_of(8, 7, GATE_FRANCE, true, 300, true)), GATE_REFUSED_SECOND, 0));
+    for (size_t i = 0; i < 5; i++) CHECK(refused(call_register(s, bad[i]), GATE_REFUSED_RANGE, 0));
+    CHECK(refused(call_register(s, u), GATE_REFUSED_TAKEN, 0));
+    CHECK(refused(call_register(s, unit_of(8, 7, GATE_FRANCE, true, 300, true)), GATE_REFUSED_SECOND, 0));
     static GateSession before;
     before = *s;
     uint64_t seed = 1;
@@ -393,7 +461,7 @@ static void any_bytes(void) {
         }
         bytes[0] = i % 2 == 0 ? bytes[0] : (uint8_t)(0x10 | (bytes[0] & 0x06));
         GateReading r = gate_read(bytes, i % sizeof bytes);
-        GateResponse a = gate_lodge(s, bytes, i % sizeof bytes);
+        GateResponse a = call_lodge(s, bytes, i % sizeof bytes);
         refusals += a.kind == GATE_REFUSED && (r.row == 0 ? a.row >= 6 : a.row == r.row);
     }
     CHECK(refusals == 20000);
@@ -428,6 +496,12 @@ static void *all_days(void *unused) {
     first = *s;
     fill = 0x00;
     full_day();
+    CHECK(same_session(&first, s));
+    fill = 0xFF;
+    rights();
+    first = *s;
+    fill = 0x00;
+    rights();
     CHECK(same_session(&first, s));
     cuts();
     any_bytes();

@@ -6,7 +6,7 @@
  */
 #define _GNU_SOURCE /* MAP_ANONYMOUS */
 
-#include "gate.h"
+#include "calls.h"
 
 #include <setjmp.h>
 #include <signal.h>
@@ -94,6 +94,18 @@ static GateUnavailability availability(uint32_t number, size_t count, uint32_t e
     for (size_t i = 0; i < GATE_HOURS; i++) a.energies[i] = energy;
     return a;
 }
+static GateUnit marked(GateUnit u) {
+    u.rights = true;
+    return u;
+}
+static GateRights rights(uint32_t agent, bool purchase, size_t count, uint32_t energy) {
+    GateRights n = {0};
+    n.agent = agent;
+    n.purchase = purchase;
+    n.count = count;
+    for (size_t i = 0; i < GATE_HOURS; i++) n.energies[i] = energy;
+    return n;
+}
 static GateCapacities capacities(size_t count, uint32_t energy) {
     GateCapacities c = {0};
     for (size_t d = 0; d < GATE_DIRECTIONS; d++) {
@@ -129,38 +141,41 @@ static size_t put(GateKey k, uint32_t hour, uint32_t energy) {
     return n;
 }
 static GateResponse lodge(GateKey k, uint32_t hour, uint32_t energy) {
-    return gate_lodge(s, message, put(k, hour, energy));
+    return call_lodge(s, message, put(k, hour, energy));
 }
 #define REFUSED_LODGING(k, hour, energy, row, at)               \
     do {                                                        \
         size_t length = put((k), (hour), (energy));             \
-        REFUSED(gate_lodge(s, message, length), (row), (at));   \
+        REFUSED(call_lodge(s, message, length), (row), (at));   \
     } while (0)
 
 /* ---- what every stage refuses */
 
 static void messages_that_are_none(uint32_t row) {
-    REFUSED(gate_lodge(s, message, 0), row, 0);
-    REFUSED(gate_lodge(s, message, 7), row, 0);
+    REFUSED(call_lodge(s, message, 0), row, 0);
+    REFUSED(call_lodge(s, message, 7), row, 0);
     size_t n = put(key(false, 1, 0), 3, 10);
-    REFUSED(gate_lodge(s, message, n - 1), row, 0);
+    REFUSED(call_lodge(s, message, n - 1), row, 0);
     message[0] ^= 0xF0;
-    REFUSED(gate_lodge(s, message, n), row, 0);
+    REFUSED(call_lodge(s, message, n), row, 0);
 }
 
 /* After closing every change is refused as 2, whatever it brings. */
 static void changes_too_late(void) {
-    REFUSED(gate_register(s, unit(900, 900, 0, false)), GATE_REFUSED_GATE, 0);
-    REFUSED(gate_register(s, unit(0, 0, 9, false)), GATE_REFUSED_GATE, 0);
-    REFUSED(gate_unavailability(s, availability(1, 24, 5)), GATE_REFUSED_GATE, 0);
-    REFUSED(gate_unavailability(s, availability(0, 3, 100000)), GATE_REFUSED_GATE, 0);
-    REFUSED(gate_capacity(s, capacities(24, 5)), GATE_REFUSED_GATE, 0);
-    REFUSED(gate_capacity(s, capacities(26, 100000)), GATE_REFUSED_GATE, 0);
+    REFUSED(call_register(s, unit(900, 900, 0, false)), GATE_REFUSED_GATE, 0);
+    REFUSED(call_register(s, unit(0, 0, 9, false)), GATE_REFUSED_GATE, 0);
+    REFUSED(call_unavailability(s, availability(1, 24, 5)), GATE_REFUSED_GATE, 0);
+    REFUSED(call_unavailability(s, availability(0, 3, 100000)), GATE_REFUSED_GATE, 0);
+    REFUSED(call_register(s, marked(unit(900, 900, GATE_FRANCE, true))), GATE_REFUSED_GATE, 0);
+    REFUSED(call_rights(s, rights(2, true, 24, 5)), GATE_REFUSED_GATE, 0);
+    REFUSED(call_rights(s, rights(0, false, 3, 100000)), GATE_REFUSED_GATE, 0);
+    REFUSED(call_capacity(s, capacities(24, 5)), GATE_REFUSED_GATE, 0);
+    REFUSED(call_capacity(s, capacities(26, 100000)), GATE_REFUSED_GATE, 0);
     REFUSED_LODGING(key(false, 1, 0), 1, 10, GATE_REFUSED_GATE, 0);
     messages_that_are_none(GATE_REFUSED_GATE);
-    REFUSED(gate_annul(s, key(false, 1, 0)), GATE_REFUSED_GATE, 0);
-    REFUSED(gate_annul(s, key(true, 0, 0)), GATE_REFUSED_GATE, 0);
-    REFUSED(gate_close(s), GATE_REFUSED_GATE, 0);
+    REFUSED(call_annul(s, key(false, 1, 0)), GATE_REFUSED_GATE, 0);
+    REFUSED(call_annul(s, key(true, 0, 0)), GATE_REFUSED_GATE, 0);
+    REFUSED(call_close(s), GATE_REFUSED_GATE, 0);
 }
 
 /* A counter that lives over TRY's jump back is volatile. */
@@ -176,36 +191,45 @@ static void figures_too_early(void) {
     }
 }
 
-/* What an open session of 24 hours refuses whatever stands in it: unit 1 is a domestic sale, unit 2 France's purchase of agent 2. */
+/* What an open session of 24 hours refuses whatever stands in it: unit 1 is a domestic sale, unit 2 France's purchase of agent 2, unit 3
+ * the same with rights. */
 static void open_refusals(bool registered) {
-    REFUSED(gate_register(s, unit(0, 1, 0, false)), GATE_REFUSED_RANGE, 0);
-    REFUSED(gate_register(s, unit(900, 65536, 0, false)), GATE_REFUSED_RANGE, 0);
-    REFUSED(gate_register(s, unit(900, 1, 5, false)), GATE_REFUSED_RANGE, 0);
+    REFUSED(call_register(s, unit(0, 1, 0, false)), GATE_REFUSED_RANGE, 0);
+    REFUSED(call_register(s, unit(900, 65536, 0, false)), GATE_REFUSED_RANGE, 0);
+    REFUSED(call_register(s, unit(900, 1, 5, false)), GATE_REFUSED_RANGE, 0);
     GateUnit legacy = unit(900, 1, 0, false);
     legacy.legacy = true;
-    REFUSED(gate_register(s, legacy), GATE_REFUSED_RANGE, 0);
-    REFUSED(gate_unavailability(s, availability(1, 23, 5)), GATE_REFUSED_HOUR, 0);
-    REFUSED(gate_unavailability(s, availability(1, 24, 100000)), GATE_REFUSED_RANGE, 0);
-    REFUSED(gate_unavailability(s, availability(901, 24, 5)), GATE_REFUSED_UNIT, 0);
-    REFUSED(gate_capacity(s, capacities(25, 5)), GATE_REFUSED_HOUR, 0);
-    REFUSED(gate_capacity(s, capacities(24, 100000)), GATE_REFUSED_RANGE, 0);
+    REFUSED(call_register(s, legacy), GATE_REFUSED_RANGE, 0);
+    REFUSED(call_register(s, marked(unit(900, 2, GATE_DOMESTIC, true))), GATE_REFUSED_RANGE, 0);
+    REFUSED(call_register(s, marked(unit(900, 2, GATE_MOROCCO, true))), GATE_REFUSED_RANGE, 0);
+    REFUSED(call_rights(s, rights(2, true, 23, 5)), GATE_REFUSED_HOUR, 0);
+    REFUSED(call_rights(s, rights(0, true, 24, 5)), GATE_REFUSED_RANGE, 0);
+    REFUSED(call_rights(s, rights(2, true, 24, 100000)), GATE_REFUSED_RANGE, 0);
+    REFUSED(call_rights(s, rights(2, false, 24, 5)), GATE_REFUSED_UNIT, 0);
+    REFUSED(call_rights(s, rights(901, true, 24, 5)), GATE_REFUSED_UNIT, 0);
+    REFUSED(call_unavailability(s, availability(1, 23, 5)), GATE_REFUSED_HOUR, 0);
+    REFUSED(call_unavailability(s, availability(1, 24, 100000)), GATE_REFUSED_RANGE, 0);
+    REFUSED(call_unavailability(s, availability(901, 24, 5)), GATE_REFUSED_UNIT, 0);
+    REFUSED(call_capacity(s, capacities(25, 5)), GATE_REFUSED_HOUR, 0);
+    REFUSED(call_capacity(s, capacities(24, 100000)), GATE_REFUSED_RANGE, 0);
     messages_that_are_none(GATE_REFUSED_FORM);
     REFUSED_LODGING(key(false, 1, 0), 25, 10, GATE_REFUSED_HOUR, 0);
     size_t n = put(key(false, 1, 0), 1, 10);
     memset(message + 8, 0, 4);
-    REFUSED(gate_lodge(s, message, n), GATE_REFUSED_RANGE, 0);
+    REFUSED(call_lodge(s, message, n), GATE_REFUSED_RANGE, 0);
     REFUSED_LODGING(key(false, 901, 0), 1, 10, GATE_REFUSED_UNIT, 0);
-    REFUSED(gate_annul(s, key(false, 0, 0)), GATE_REFUSED_RANGE, 0);
-    REFUSED(gate_annul(s, key(false, 1, 7)), GATE_REFUSED_RANGE, 0);
-    REFUSED(gate_annul(s, key(false, 901, 0)), GATE_REFUSED_UNIT, 0);
+    REFUSED(call_annul(s, key(false, 0, 0)), GATE_REFUSED_RANGE, 0);
+    REFUSED(call_annul(s, key(false, 1, 7)), GATE_REFUSED_RANGE, 0);
+    REFUSED(call_annul(s, key(false, 901, 0)), GATE_REFUSED_UNIT, 0);
     if (registered) {
-        REFUSED(gate_register(s, unit(1, 900, 0, false)), GATE_REFUSED_TAKEN, 0);
-        REFUSED(gate_register(s, unit(900, 2, GATE_FRANCE, true)), GATE_REFUSED_SECOND, 0);
+        REFUSED(call_register(s, unit(1, 900, 0, false)), GATE_REFUSED_TAKEN, 0);
+        REFUSED(call_register(s, unit(900, 2, GATE_FRANCE, true)), GATE_REFUSED_SECOND, 0);
+        REFUSED(call_register(s, marked(unit(900, 2, GATE_FRANCE, true))), GATE_REFUSED_SECOND, 0);
         REFUSED_LODGING(key(true, 1, 4), 1, 10, GATE_REFUSED_UNIT, 0);
-        REFUSED(gate_annul(s, key(true, 1, 4)), GATE_REFUSED_UNIT, 0);
-        REFUSED(gate_annul(s, key(true, 2, 60000)), GATE_REFUSED_ABSENT, 0);
+        REFUSED(call_annul(s, key(true, 1, 4)), GATE_REFUSED_UNIT, 0);
+        REFUSED(call_annul(s, key(true, 2, 60000)), GATE_REFUSED_ABSENT, 0);
     }
-    REFUSED(gate_clear(s), GATE_REFUSED_GATE, 0);
+    REFUSED(call_clear(s), GATE_REFUSED_GATE, 0);
     REFUSED(gate_verdict(s, 0), GATE_REFUSED_GATE, 0);
     REFUSED(gate_verdict(s, 1), GATE_REFUSED_GATE, 0);
     figures_too_early();
@@ -222,28 +246,38 @@ static void open_session(const char *name) {
 }
 
 static void fill(void) {
-    ACCEPTED(gate_register(s, unit(1, 1, 0, false)));
-    ACCEPTED(gate_register(s, unit(2, 2, GATE_FRANCE, true)));
-    ACCEPTED(gate_capacity(s, capacities(24, 100)));
-    ACCEPTED(gate_unavailability(s, availability(1, 24, 700)));
+    ACCEPTED(call_register(s, unit(1, 1, 0, false)));
+    ACCEPTED(call_register(s, unit(2, 2, GATE_FRANCE, true)));
+    REFUSED(call_register(s, marked(unit(3, 2, GATE_FRANCE, false))), GATE_REFUSED_RIGHTS, 0);
+    REFUSED(call_register(s, marked(unit(3, 1, GATE_FRANCE, true))), GATE_REFUSED_RIGHTS, 0);
+    ACCEPTED(call_register(s, marked(unit(3, 2, GATE_FRANCE, true))));
+    ACCEPTED(call_rights(s, rights(2, true, 24, 40)));
+    ACCEPTED(call_capacity(s, capacities(24, 100)));
+    ACCEPTED(call_unavailability(s, availability(1, 24, 700)));
     NUMBERED(lodge(key(false, 1, 0), 1, 500));
     NUMBERED(lodge(key(false, 2, 0), 1, 50));
     NUMBERED(lodge(key(true, 2, 1), 1, 90));
     GateKey kept = key(true, 2, 1);
     kept.is_default = true;
     NUMBERED(lodge(kept, 1, 90));
+    NUMBERED(lodge(key(false, 3, 0), 1, 30));
+    NUMBERED(lodge(key(true, 3, 1), 1, 10));
 }
 
 static void limits_passed(void) {
     REFUSED_LODGING(key(false, 1, 0), 7, 1001, GATE_REFUSED_MAXIMUM, 7);
     REFUSED_LODGING(key(false, 1, 0), 8, 701, GATE_REFUSED_AVAILABLE, 8);
-    REFUSED_LODGING(key(false, 2, 0), 9, 201, GATE_REFUSED_BORDER, 9);
-    REFUSED_LODGING(key(true, 2, 1), 1, 151, GATE_REFUSED_BORDER, 1);
+    REFUSED_LODGING(key(false, 2, 0), 9, 161, GATE_REFUSED_BORDER, 9);
+    REFUSED_LODGING(key(true, 2, 1), 1, 111, GATE_REFUSED_BORDER, 1);
+    REFUSED_LODGING(key(false, 3, 0), 9, 201, GATE_REFUSED_BORDER, 9);
+    REFUSED_LODGING(key(false, 3, 0), 9, 41, GATE_REFUSED_RIGHTS, 9);
+    REFUSED_LODGING(key(true, 3, 1), 1, 11, GATE_REFUSED_RIGHTS, 1);
 }
 
 static void full(void) {
-    for (uint32_t n = 3; n <= GATE_UNITS; n++) ACCEPTED(gate_register(s, unit(n, n, n % 5, n % 2 == 0)));
-    REFUSED(gate_register(s, unit(900, 900, 0, false)), GATE_REFUSED_FULL, 0);
+    for (uint32_t n = 4; n <= GATE_UNITS; n++) ACCEPTED(call_register(s, unit(n, n, n % 5, n % 2 == 0)));
+    REFUSED(call_register(s, unit(900, 900, 0, false)), GATE_REFUSED_FULL, 0);
+    REFUSED(call_register(s, marked(unit(900, 900, GATE_FRANCE, true))), GATE_REFUSED_FULL, 0);
     for (uint32_t c = 2; s->standing < GATE_LODGEMENTS; c++) NUMBERED(lodge(key(true, 2, c), 1 + c % 24, 1));
     REFUSED_LODGING(key(true, 2, 60000), 1, 1, GATE_REFUSED_FULL, 0);
 }
@@ -266,7 +300,7 @@ static void closed(void) {
 
 static void cleared(void) {
     changes_too_late();
-    REFUSED(gate_clear(s), GATE_REFUSED_GATE, 0);
+    REFUSED(call_clear(s), GATE_REFUSED_GATE, 0);
     REFUSED(gate_verdict(s, 0), GATE_REFUSED_ABSENT, 0);
     TRY(gate_verdict(s, s->lodgements[0].number), GATE_ACCEPTED, 0, 0);
     static const uint32_t hours[] = {0, 25, 4294967295u};
@@ -400,20 +434,20 @@ int main(void) {
     used_up();
     open_refusals(true);
     stage = "closed";
-    ACCEPTED(gate_close(s));
+    ACCEPTED(call_close(s));
     closed();
     stage = "cleared";
-    done(gate_clear(s), GATE_STEPS, __LINE__);
+    done(call_clear(s), GATE_STEPS, __LINE__);
     cleared();
 
     open_session("closed with nothing lodged");
-    ACCEPTED(gate_close(s));
+    ACCEPTED(call_close(s));
     changes_too_late();
     figures_too_early();
     stage = "cleared with nothing lodged";
-    done(gate_clear(s), GATE_STEPS, __LINE__);
+    done(call_clear(s), GATE_STEPS, __LINE__);
     changes_too_late();
-    REFUSED(gate_clear(s), GATE_REFUSED_GATE, 0);
+    REFUSED(call_clear(s), GATE_REFUSED_GATE, 0);
 
     printf("refused: %lu checks, %lu failed\n", checks, failed);
     return failed ? 1 : 0;

@@ -1,5 +1,5 @@
 #!/usr/bin/env python3
-"""A reference model of the day-ahead gate, from document 01 alone.
+"""A reference model of the day-ahead gate, from document 01 alone, with K1 of document 02 (capacity rights).
 
     gate.py rehearse FILE    read a rehearsal day, print every answer
     gate.py selftest         see that the model agrees with itself and the paper
@@ -26,19 +26,23 @@ SALE, PURCHASE = "sale", "purchase"
 EXPORT, IMPORT = "export", "import"
 OFFER, EXECUTION = 0, 1         # as in the message
 BORDERS = (1, 2, 3, 4)          # France, Andorra, Portugal, Morocco; 0 is domestic
+FRANCE = 1
 DIRECTIONS = (EXPORT, IMPORT)
 
 DATE, GATE, FORM, HOUR, RANGE, UNIT, TAKEN, SECOND, FULL = 1, 2, 3, 4, 5, 6, 7, 8, 9
-MAXIMUM, AVAILABLE, BORDER, ABSENT, SHORT = 10, 11, 12, 13, 14
+MAXIMUM, AVAILABLE, BORDER, ABSENT, SHORT, RIGHTS = 10, 11, 12, 13, 14, 15
 WORDS = {
     DATE: "date", GATE: "gate", FORM: "form", HOUR: "hour", RANGE: "range", UNIT: "unit",
     TAKEN: "taken", SECOND: "second", FULL: "full", MAXIMUM: "maximum",
-    AVAILABLE: "available", BORDER: "border", ABSENT: "absent", SHORT: "short",
+    AVAILABLE: "available", BORDER: "border", ABSENT: "absent", SHORT: "short", RIGHTS: "rights",
 }
 
 
 class Refused(Exception):
-    """A refusal of the table: its number, and for 10 to 12 an hour."""
+    """A refusal of the table: its number, and for a passed limit (10 to 12, 15) an hour.
+
+    A call raises the first that applies, in the order of the table's places: 15 stands after 12.
+    """
 
     def __init__(self, number, hour=0):
         super().__init__(f"{number} {WORDS[number]} hour {hour}")
@@ -197,9 +201,11 @@ def write_message(message, buffer):
 
 # ---------------------------------------------------------------- Units, notices, lodgements
 
-Unit = namedtuple("Unit", "number agent border side maximum legacy")
+# rights: marked "with rights"
+Unit = namedtuple("Unit", "number agent border side maximum legacy rights")
 Lodgement = namedtuple("Lodgement", "number message")
-Limits = namedtuple("Limits", "maximum available border")    # border None: not published
+# border None: not published; rights None: not a unit with rights
+Limits = namedtuple("Limits", "maximum available border rights")
 
 
 def direction_of(unit):
@@ -216,11 +222,11 @@ def energy_at(lodgement, hour):
 
 
 def first_limit_passed(hours, energy, limits):
-    """(limit, hour): the lowest limit passed, and the lowest hour in which it is; or None.
+    """(limit, hour): the first limit of the table that is passed, and the lowest hour in which it is; or None.
 
     energy and limits are functions of the hour; a limit of None is never passed.
     """
-    for number, place in ((MAXIMUM, 0), (AVAILABLE, 1), (BORDER, 2)):
+    for number, place in ((MAXIMUM, 0), (AVAILABLE, 1), (BORDER, 2), (RIGHTS, 3)):
         for h in hours:
             most = limits(h)[place]
             if most is not None and energy(h) > most:
@@ -436,6 +442,7 @@ class DayBook:
         self.units = {}                 # number -> Unit
         self.capacities = {}            # (border, direction) -> H energies; the rest are absent
         self.availables = {}            # unit number -> H energies
+        self.rights = {}                # (agent, side) -> H energies
         self.standing = {}              # key -> Lodgement
         self.last_number = 0
         self.verdicts = None            # number -> verdict, once closed
@@ -466,8 +473,20 @@ class DayBook:
         energies = self.capacities.get((border, direction))
         return None if energies is None else energies[hour - 1]
 
+    def rights_at(self, agent, side, hour):
+        """Without a notice they are 0."""
+        energies = self.rights.get((agent, side))
+        return 0 if energies is None else energies[hour - 1]
+
+    def french_units(self, agent, side):
+        return [u for u in self.units.values() if (u.agent, u.border, u.side) == (agent, FRANCE, side)]
+
     def limits(self, number, hour):
-        """Limits 10, 11 and 12 of a unit in an hour; its ceiling is their least."""
+        """Limits 10, 11, 12 and 15 of a unit in an hour; its ceiling is their least.
+
+        The agent's rights of the unit's side are limit 15 of a French unit with rights, and come off the border sum
+        of one without. Where the sum is no limit, nothing comes off.
+        """
         unit = self.units[number]
         available = unit.maximum
         if number in self.availables:
@@ -475,20 +494,27 @@ class DayBook:
         out = self.capacity_at(unit.border, EXPORT, hour)
         into = self.capacity_at(unit.border, IMPORT, hour)
         both = None if out is None or into is None else out + into
-        return Limits(unit.maximum, available, both)
+        rights = None
+        if unit.rights:
+            rights = self.rights_at(unit.agent, unit.side, hour)
+        elif unit.border == FRANCE and both is not None:
+            both = max(both - self.rights_at(unit.agent, unit.side, hour), 0)
+        return Limits(unit.maximum, available, both, rights)
 
     # -- calls: units and notices
 
-    def register(self, number, agent, border, side, maximum, legacy):
+    def register(self, number, agent, border, side, maximum, legacy, rights=False):
         self.refuse_a_change_after_closing()
         refuse_if(not 1 <= number <= NUMBER_MOST or not 1 <= agent <= NUMBER_MOST, RANGE)
         refuse_if(not 0 <= border <= 4 or not 0 <= maximum <= ENERGY_MOST, RANGE)
         refuse_if(legacy and border == 0, RANGE)
+        refuse_if(rights and border != FRANCE, RANGE)
         refuse_if(number in self.units, TAKEN)
-        refuse_if(border != 0 and any((u.agent, u.border, u.side) == (agent, border, side)
+        refuse_if(border != 0 and any((u.agent, u.border, u.side, u.rights) == (agent, border, side, rights)
                                       for u in self.units.values()), SECOND)
         refuse_if(len(self.units) >= UNITS_MOST, FULL)
-        self.units[number] = Unit(number, agent, border, side, maximum, legacy)
+        refuse_if(rights and all(u.rights for u in self.french_units(agent, side)), RIGHTS)
+        self.units[number] = Unit(number, agent, border, side, maximum, legacy, rights)
 
     def capacity_notice(self, notice):
         """notice: (border, direction) -> energies; a direction left out is absent."""
@@ -503,6 +529,14 @@ class DayBook:
         refuse_if(any(not 0 <= e <= ENERGY_MOST for e in energies), RANGE)
         self.refuse_unregistered(unit)
         self.availables[unit] = tuple(energies)
+
+    def rights_notice(self, agent, side, energies):
+        self.refuse_a_change_after_closing()
+        refuse_if(len(energies) != self.hours, HOUR)
+        refuse_if(not 1 <= agent <= NUMBER_MOST, RANGE)
+        refuse_if(any(not 0 <= e <= ENERGY_MOST for e in energies), RANGE)
+        refuse_if(not self.french_units(agent, side), UNIT)
+        self.rights[agent, side] = tuple(energies)
 
     # -- calls: lodging and annulling
 
@@ -521,7 +555,7 @@ class DayBook:
         passed = first_limit_passed(
             named_hours(message.hour_map),
             lambda h: message.energies[h - 1] + sum(energy_at(l, h) for l in beside),
-            lambda h: (self.units[message.unit].maximum, None, None) if message.default
+            lambda h: Limits(self.units[message.unit].maximum, None, None, None) if message.default
             else self.limits(message.unit, h))
         if passed:
             raise Refused(*passed)
@@ -634,7 +668,7 @@ class DayBook:
 # A call of a list as a value: its name, then its arguments.
 CALLS = {
     "register": DayBook.register, "capacity": DayBook.capacity_notice, "available": DayBook.unavailability_notice,
-    "lodge": DayBook.lodge, "annul": DayBook.annul, "close": DayBook.close, "clear": DayBook.clear,
+    "rights": DayBook.rights_notice, "lodge": DayBook.lodge, "annul": DayBook.annul, "close": DayBook.close, "clear": DayBook.clear,
 }
 
 
@@ -788,8 +822,9 @@ class Rehearsal:
             words.expect("max")
             maximum = words.number()
             legacy = words.optional("legacy")
+            rights = words.optional("rights")
             words.end()
-            return self.plain("register", number, agent, border, side, maximum, legacy)
+            return self.plain("register", number, agent, border, side, maximum, legacy, rights)
         if name == "capacity":
             notice = capacity_of_line(words)
             return self.plain("capacity", notice)
@@ -797,6 +832,12 @@ class Rehearsal:
             unit, energies = words.number(), energy_list(words.next())
             words.end()
             return self.plain("available", unit, energies)
+        if name == "rights":
+            agent = words.number()
+            side = words.one_of(SALE, PURCHASE)
+            energies = energy_list(words.next())
+            words.end()
+            return self.plain("rights", agent, side, energies)
         if name in ("offer", "execution"):
             message = message_of_line(words, OFFER if name == "offer" else EXECUTION)
             return lambda: self.write_and_lodge(message)

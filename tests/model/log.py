@@ -1,12 +1,14 @@
 """The call log (docs/LOG.md): a call as a record's bytes, and a log's calls made on a day book.
 
-Written from that description, without looking at the program. A call is a tuple, as gate.make takes it.
+Written from that description, without looking at the program. A call is a tuple, as gate.make takes it. A unit "with rights" (K1
+of document 02) is registered by a record of a kind of its own, laid out as that of a unit without them.
 """
 
 import gate
 
-REGISTER, CAPACITY, AVAILABLE, LODGE, ANNUL, CLOSE, CLEAR = range(1, 8)
-SIZES = {REGISTER: 18, CAPACITY: 840, AVAILABLE: 108, ANNUL: 10, CLOSE: 0, CLEAR: 0}    # a message has any size
+REGISTER, CAPACITY, AVAILABLE, LODGE, ANNUL, CLOSE, CLEAR, RIGHTS, REGISTER_MARKED = range(1, 10)
+# a message has any size
+SIZES = {REGISTER: 18, CAPACITY: 840, AVAILABLE: 108, ANNUL: 10, CLOSE: 0, CLEAR: 0, RIGHTS: 109, REGISTER_MARKED: 18}
 HEAD = 3
 
 
@@ -28,15 +30,18 @@ def direction(energies):
 def bytes_of(name, *arguments):
     """(kind, the bytes behind the head)"""
     if name == "register":
-        unit, agent, border, side, maximum, legacy = arguments
-        return REGISTER, (number(unit) + number(agent) + number(border) + bytes([side == gate.PURCHASE])
-                          + number(maximum) + bytes([legacy]))
+        unit, agent, border, side, maximum, legacy, *rights = arguments
+        return (REGISTER_MARKED if any(rights) else REGISTER,
+                number(unit) + number(agent) + number(border) + bytes([side == gate.PURCHASE]) + number(maximum) + bytes([legacy]))
     if name == "capacity":
         notice, = arguments
         return CAPACITY, b"".join(direction(notice.get((b, d))) for b in gate.BORDERS for d in gate.DIRECTIONS)
     if name == "available":
         unit, energies = arguments
         return AVAILABLE, number(unit) + numbers(energies)
+    if name == "rights":
+        agent, side, energies = arguments
+        return RIGHTS, number(agent) + bytes([side == gate.PURCHASE]) + numbers(energies)
     if name == "lodge":
         return LODGE, arguments[0]
     if name == "annul":
@@ -70,6 +75,9 @@ class Reader:
     def mark(self):
         return self.take(1) != b"\0"
 
+    def side(self):
+        return gate.PURCHASE if self.mark() else gate.SALE
+
     def numbers(self):
         """A list that is not of a day's hours stays one: of 26 where it says more than 25."""
         count = self.number()
@@ -78,18 +86,18 @@ class Reader:
 
 def call_of(kind, data):
     """The call of a record, or None where it is none's."""
-    if SIZES.get(kind, len(data) if kind == LODGE else None) != len(data):
+    if kind != LODGE and len(data) != SIZES.get(kind):
         return None
     r = Reader(data)
-    if kind == REGISTER:
-        unit, agent, border = r.number(), r.number(), r.number()
-        side = gate.PURCHASE if r.mark() else gate.SALE
-        return "register", unit, agent, border, side, r.number(), r.mark()
+    if kind in (REGISTER, REGISTER_MARKED):
+        return "register", r.number(), r.number(), r.number(), r.side(), r.number(), r.mark(), kind == REGISTER_MARKED
     if kind == CAPACITY:
         given = {(b, d): (r.mark(), r.numbers()) for b in gate.BORDERS for d in gate.DIRECTIONS}
         return "capacity", {place: energies for place, (published, energies) in given.items() if published}
     if kind == AVAILABLE:
         return "available", r.number(), r.numbers()
+    if kind == RIGHTS:
+        return "rights", r.number(), r.side(), r.numbers()
     if kind == LODGE:
         return "lodge", data
     if kind == ANNUL:

@@ -2,8 +2,8 @@
 
 A second, slow telling of the rules stands here (SlowBook). It keeps only the
 list of accepted calls, tells every fact anew from it, gathers all refusals that
-apply and takes the least, reads bits as text, and lays energy out place by
-place. The model must agree with it. Besides: the paper's twelve figures, the
+apply and takes the first of the table, reads bits as text, and lays energy out
+place by place. The model must agree with it. Besides: the paper's twelve figures, the
 clauses of demand 3 stated by themselves, message round trips, hour numbering.
 """
 
@@ -22,6 +22,7 @@ from gate import (BORDERS, DIRECTIONS, EXECUTION, EXPORT, IMPORT, OFFER, PURCHAS
 
 SEED = 20061029
 LISTS = 2000
+TABLE = (1, 2, 3, 4, 5, 6, 7, 8, 9, 10, 11, 12, 15, 13, 14)     # "Places, not numbers, now give the order."
 
 
 class Wrong(Exception):
@@ -46,6 +47,11 @@ def answer_of(call, *arguments):
 
 
 # ---------------------------------------------------------------- the slow telling
+
+def first_of(no):
+    """Of refusals (number, hour) the one whose row stands first, in its lowest hour."""
+    return min(no, key=lambda refusal: (TABLE.index(refusal[0]), refusal[1]))
+
 
 def slow_share(r, amounts):
     """amounts: list of (lodging number, m). Losses by number."""
@@ -249,7 +255,7 @@ class SlowBook:
 
     @told_anew
     def units(self):
-        return {c[1]: dict(zip(("agent", "border", "side", "maximum", "legacy"), c[2:]))
+        return {c[1]: dict(zip(("agent", "border", "side", "maximum", "legacy", "rights"), c[2:] + (False,)))
                 for c in self.past if c[0] == "register"}
 
     @told_anew
@@ -272,12 +278,31 @@ class SlowBook:
         return self.units()[unit]["maximum"]
 
     @told_anew
+    def rights(self, agent, side, hour):
+        for c in reversed(self.past):
+            if c[:3] == ("rights", agent, side):
+                return c[3][hour - 1]
+        return 0
+
+    @told_anew
     def limits(self, unit, hour):
-        border = self.units()[unit]["border"]
-        limits = {10: self.units()[unit]["maximum"], 11: self.available(unit, hour)}
+        u = self.units()[unit]
+        border = u["border"]
+        limits = {10: u["maximum"], 11: self.available(unit, hour)}
         if border and None not in [self.capacity(border, d, hour) for d in DIRECTIONS]:
             limits[12] = sum(self.capacity(border, d, hour) for d in DIRECTIONS)
+        if border == 1:
+            held = self.rights(u["agent"], u["side"], hour)
+            if u["rights"]:
+                limits[15] = held
+            elif 12 in limits:
+                limits[12] = 0 if held > limits[12] else limits[12] - held
         return limits
+
+    def french(self, agent, side):
+        """The marks of the agent's French units of the side."""
+        return {u["rights"] for u in self.units().values()
+                if u["agent"] == agent and u["border"] == 1 and u["side"] == side}
 
     def numbers_used(self):
         return sum(1 for c in self.past if c[0] == "lodge")
@@ -318,19 +343,25 @@ class SlowBook:
             no.add((2, 0))
         units = self.units()
         if name == "register":
-            _, number, agent, border, side, maximum, legacy = call
+            _, number, agent, border, side, maximum, legacy, rights = call if len(call) == 8 else call + (False,)
             if not (0 < number < 65536 and 0 < agent < 65536 and border in range(5)
                     and maximum in range(100000)) or (legacy and border == 0):
                 no.add((5, 0))
+            if rights and border != 1:
+                no.add((5, 0))
             if number in units:
                 no.add((7, 0))
-            if border in (1, 2, 3, 4) and [1 for u in units.values() if u["agent"] == agent
-                                           and u["border"] == border and u["side"] == side]:
+            if border in (2, 3, 4) and [1 for u in units.values() if u["agent"] == agent
+                                        and u["border"] == border and u["side"] == side]:
+                no.add((8, 0))
+            if border == 1 and rights in self.french(agent, side):
                 no.add((8, 0))
             if len(units) == 64:
                 no.add((9, 0))
-        elif name in ("capacity", "available"):
-            lists = list(call[1].values()) if name == "capacity" else [call[2]]
+            if rights and False not in self.french(agent, side):
+                no.add((15, 0))
+        elif name in ("capacity", "available", "rights"):
+            lists = list(call[1].values()) if name == "capacity" else [call[-1]]
             if [1 for energies in lists if len(energies) != self.hours]:
                 no.add((4, 0))
             if [1 for energies in lists for e in energies if e not in range(100000)]:
@@ -339,6 +370,11 @@ class SlowBook:
                 if call[1] not in range(1, 65536):
                     no.add((5, 0))
                 if call[1] not in units:
+                    no.add((6, 0))
+            if name == "rights":
+                if call[1] not in range(1, 65536):
+                    no.add((5, 0))
+                if not self.french(*call[1:3]):
                     no.add((6, 0))
         elif name == "annul":
             _, kind, default, unit, contract = call
@@ -378,7 +414,7 @@ class SlowBook:
     def call(self, call):
         no = self.refusals(call)
         if no:
-            return ("refused",) + min(no)
+            return ("refused",) + first_of(no)
         self.past.append(call)
         if call[0] == "lodge":
             return self.numbers_used()
@@ -403,7 +439,7 @@ class SlowBook:
                     energy += sum(standing[x]["energies"].get(h, 0) for x, v in verdicts.items()
                                   if v == ("accepted",) and standing[x]["unit"] == f["unit"])
                     no |= {(k, h) for k, most in self.limits(f["unit"], h).items() if energy > most}
-                verdicts[n] = ("limit",) + min(no) if no else ("accepted",)
+                verdicts[n] = ("limit",) + first_of(no) if no else ("accepted",)
         return verdicts
 
     @told_anew
@@ -494,6 +530,12 @@ def random_list(rng, most=40):
         units.append((rng.choice([7, 8, 300 + i, 300 + i, 300 + i, 65535 - i]), 100 + rng.randint(0, 9),
                       border, rng.choice([SALE, PURCHASE]),
                       rng.choice([most, 2 * most, 2 * most, most // 2]), border > 0 and rng.random() < 0.35))
+    for i, (number, agent, border, side, maximum, legacy) in enumerate(units[:]):
+        if border == 1 and rng.random() < 0.6:      # a second one with rights, now and then before the first
+            marked = (rng.choice([number, 400 + i, 400 + i, 400 + i, 400 + i]), agent, 1,
+                      side if rng.random() < 0.95 else rng.choice([SALE, PURCHASE]),
+                      rng.choice([most, 2 * most]), rng.random() < 0.2, True)
+            units.insert(len(units) if rng.random() < 0.9 else rng.randint(0, len(units)), marked)
     if rng.random() < 0.85:     # something to sell and something to buy at home
         units.append((1, 1, 0, SALE, 5 * most, False))
         units.append((2, 1, 0, PURCHASE, 5 * most, False))
@@ -521,6 +563,21 @@ def random_list(rng, most=40):
                 given[b, d] = around(low, lambda: rng.randint(0, low))
         return given
 
+    def rights():
+        """Rights of an agent with a French unit, or of another."""
+        french = [u for u in units if u[2] == 1]
+        agent, side = rng.choice([(u[1], u[3]) for u in french] * 4 + [(u[1], u[3]) for u in units])
+        low = rng.choice([0, most // 4, most // 2, most, most, 2 * most])
+        energies = list(around(low, lambda: rng.randint(0, low)))
+        if rng.random() < 0.12:     # one fault or several
+            if rng.random() < 0.5:
+                agent, side = rng.choice([0, 65536, 99, agent]), rng.choice([SALE, PURCHASE])
+            if rng.random() < 0.4:
+                energies = energies[1:] if rng.random() < 0.5 else energies + [low]
+            if rng.random() < 0.4:
+                energies[-1] = 100000
+        return ("rights", agent, side, tuple(energies))
+
     def price(unit):
         half = len(prices) // 2
         if rng.random() < 0.6:
@@ -532,7 +589,7 @@ def random_list(rng, most=40):
         default = rng.random() < 0.3 if default is None else default
         unit = rng.choice(known) if unit is None else unit
         top = 5 * most if unit in (1, 2) else most if kind == OFFER else most // 2
-        named = {h: (rng.randint(top // 3 + 1, top), price(unit) if kind == OFFER else 0)
+        named = {h: (top if rng.random() < 0.1 else rng.randint(top // 3 + 1, top), price(unit) if kind == OFFER else 0)
                  for h in (pool if rng.random() < 0.6 else rng.sample(pool, 2))}
         if rng.random() < 0.03:
             named[rng.choice(outside)] = (rng.randint(1, most), 0)
@@ -557,7 +614,9 @@ def random_list(rng, most=40):
         if turn < 0.73:
             return ("annul", rng.choice([OFFER, EXECUTION]), rng.random() < 0.3,
                     rng.choice(known + [0, 65536]), rng.choice([0, 0, 1, 2, 3]))
-        if turn < 0.80:
+        if turn < 0.77:
+            return rights()
+        if turn < 0.82:
             energies = list(around(5 * most, lambda: rng.choice([most, 5 * most, most // 8])))
             if rng.random() < 0.1:
                 energies = energies[1:]
@@ -576,16 +635,24 @@ def random_list(rng, most=40):
             return ("register",) + rng.choice(units + [
                 (0, 1, 0, SALE, 1, False), (65536, 1, 0, SALE, 1, False), (9, 65536, 0, SALE, 1, False),
                 (9, 1, 5, SALE, 1, False), (9, 1, 1, SALE, 100000, False), (9, 1, 0, SALE, 1, True),
-                (9, 99, 1, PURCHASE, 99999, True)])
+                (9, 99, 1, PURCHASE, 99999, True), (9, 99, 1, PURCHASE, 99999, False, True),
+                *((9, 99, border, PURCHASE, 99999, False, True) for border in (0, 2, 3, 4))])
         return (rng.choice(["clear", "clear", "clear", "close"] if rng.random() < 0.1 else ["clear"]),)
 
     for unit in units:
         calls.append(("register",) + unit)
+        if unit[2] == 1 and rng.random() < 0.3:
+            calls.append(rights())
     if rng.random() < 0.9:
         calls.append(("capacity", notice()))
+    if rng.random() < 0.6:
+        calls += [("rights", u[1], u[3], around(rng.choice([most // 2, most, 2 * most]), lambda: rng.randint(0, most)))
+                  for u in units if len(u) == 7 and rng.random() < 0.8]
     if rng.random() < 0.8:
         calls += [("lodge", lodging(u[0], OFFER, False)) for u in units]
     calls += [any_call() for _ in range(rng.randint(1, 10))]
+    if rng.random() < 0.4:      # late
+        calls += [rights() for _ in range(rng.randint(1, 3))]
     if rng.random() < 0.95:
         calls.append(("close",))
         if rng.random() < 0.2:
@@ -719,6 +786,26 @@ def test_edges(_rng):
                 same(call_model(book, "close"), None)
                 same(book.verdict(max(book.verdicts)),
                      ("limit", expected, 5) if energy == 51 else ("accepted",), "ceiling at closing")
+    # the same of rights, 50 of a border sum of 100: what is left of the sum for unit 7, the rights for unit 8
+    for energy, answers, verdicts in (
+            (50, [1, 2, 3, 4], [("accepted",), ("hidden",), ("limit", 15, 5), ("hidden",)]),
+            (51, [("refused", 12, 5), 1, ("refused", 15, 5), 2], [("accepted",), ("limit", 15, 5)])):
+        book = DayBook(2006, 10, 29)
+        notice = [[0] * 4 + [n] + [0] * 20 for n in (50, 49)]
+        for call, answer in ((("register", 8, 1, 1, PURCHASE, 60, False, True), ("refused", 15, 0)),
+                             (("rights", 1, PURCHASE, notice[0]), ("refused", 6, 0)),
+                             (("register", 7, 1, 1, PURCHASE, 60, False, False), None),
+                             (("rights", 1, PURCHASE, notice[0]), None),
+                             (("register", 8, 1, 1, PURCHASE, 60, False, True), None),
+                             (("capacity", {(1, EXPORT): [30] * 25, (1, IMPORT): [70] * 25}), None)):
+            same(call_model(book, *call), answer, "rights", call)
+        found = [call_model(book, "lodge", message_bytes(OFFER, default, unit, 0, {5: (energy, 9)}))
+                 for unit in (7, 8) for default in (False, True)]
+        same(found, answers, "rights at lodging")
+        same(call_model(book, "rights", 1, PURCHASE, notice[1]), None)
+        same(call_model(book, "close"), None)
+        same([book.verdict(n + 1) for n in range(len(verdicts))], verdicts, "rights at closing")
+        same(call_model(book, "rights", 1, PURCHASE, notice[0]), ("refused", 2, 0))
     # open point A1: the smallest case gives 5 and 0 in one step
     sale = Offer(1, SALE, 0, False, 1, 10)
     first, second = Offer(2, PURCHASE, 1, True, 9, 10), Offer(3, PURCHASE, 1, True, 5, 10)
@@ -737,6 +824,8 @@ def test_full(_rng):
     for n in range(1, 65):
         same(call_model(book, "register", n, n, 1, SALE, 10, False), None)
     same(call_model(book, "register", 65, 65, 1, SALE, 10, False), ("refused", 9, 0), "65th unit")
+    same(call_model(book, "register", 65, 65, 1, SALE, 10, False, True), ("refused", 9, 0), "9 before 15")
+    same(call_model(book, "register", 65, 64, 1, SALE, 10, False, True), ("refused", 9, 0))
     same(call_model(book, "register", 64, 65, 1, SALE, 10, False), ("refused", 7, 0))
     same(call_model(book, "register", 65, 64, 1, SALE, 10, False), ("refused", 8, 0))
     for n in range(1, 129):
@@ -885,16 +974,18 @@ def needed(seen, names, least):
 
 def check_demand_3(book, calls, answers, hours, interest, seen):
     """Demand 3's clauses, on the accepted calls and the model's own answers."""
-    units, available, capacity, standing, done, number = {}, {}, {}, {}, set(), 0
+    units, available, capacity, rights, standing, done, number = {}, {}, {}, {}, {}, set(), 0
     for call, answer in zip(calls, answers):
         if isinstance(answer, tuple):       # refused
             continue
         name = call[0]
         done.add(name)
         if name == "register":
-            units[call[1]] = dict(zip(("agent", "border", "side", "maximum", "legacy"), call[2:]))
+            units[call[1]] = dict(zip(("agent", "border", "side", "maximum", "legacy", "rights"), call[2:] + (False,)))
         elif name == "available":
             available[call[1]] = call[2]
+        elif name == "rights":
+            rights[call[1:3]] = call[3]
         elif name == "capacity":
             capacity = call[1]
         elif name == "lodge":
@@ -912,8 +1003,20 @@ def check_demand_3(book, calls, answers, hours, interest, seen):
         both = [capacity.get((unit["border"], d)) for d in DIRECTIONS]
         for h in named:
             ceiling[u, h] = min(unit["maximum"], available[u][h - 1] if u in available else unit["maximum"])
+            held = rights.get((unit["agent"], unit["side"]), (0,) * hours)[h - 1]
+            if unit["rights"]:
+                ceiling[u, h] = min(ceiling[u, h], held)
             if None not in both:
-                ceiling[u, h] = min(ceiling[u, h], both[0][h - 1] + both[1][h - 1])
+                total = both[0][h - 1] + both[1][h - 1]
+                lessened = unit["border"] == 1 and not unit["rights"]
+                ceiling[u, h] = min(ceiling[u, h], max(total - held, 0) if lessened else total)
+                seen["a border sum lessened to 0"] += lessened and held > total > 0
+    # each unit with rights has the agent's unit of that side without them
+    for u in units.values():
+        if u["rights"]:
+            check(any((v["agent"], v["border"], v["side"], v["rights"]) == (u["agent"], 1, u["side"], False)
+                      for v in units.values()) and u["border"] == 1, "a unit with rights and no partner")
+            seen["units with rights"] += 1
     verdicts = {n: book.verdict(n) for n in standing}
 
     # refused at closing exactly when it passes the ceiling with those accepted before it
@@ -929,13 +1032,22 @@ def check_demand_3(book, calls, answers, hours, interest, seen):
             seen["hidden"] += 1
             continue
         check(verdicts[n] != ("hidden",), "an unhidden lodgement told hidden")
-        passes = any(e + before[f["unit"], h] > ceiling[f["unit"], h] for h, e in f["energies"].items())
+        sums = {h: e + before[f["unit"], h] for h, e in f["energies"].items()}
+        passes = any(sums[h] > ceiling[f["unit"], h] for h in sums)
         same(verdicts[n][0], "limit" if passes else "accepted", "verdict of", n)
+        unit = units[f["unit"]]
         if passes:
-            seen["limit %d" % verdicts[n][1]] += 1
-        else:
-            for h, e in f["energies"].items():
-                before[f["unit"], h] += e
+            _, limit, h = verdicts[n]
+            seen["limit %d" % limit] += 1
+            if limit == 12 and unit["border"] == 1:
+                seen["limit 12 by rights"] += sums[h] <= sum(capacity[1, d][h - 1] for d in DIRECTIONS)
+            continue
+        if unit["rights"]:
+            held = rights[unit["agent"], unit["side"]]
+            seen["accepted with rights"] += 1
+            seen["exactly the rights"] += any(sums[h] == held[h - 1] for h in sums)
+        for h, e in f["energies"].items():
+            before[f["unit"], h] += e
     if "clear" not in done:
         return
 
@@ -1016,6 +1128,7 @@ def test_demand_3(rng):
             if isinstance(answer, tuple):
                 same(vars(book), before, "a refused call changed the session:", call)
                 seen["refused %d" % answer[1]] += 1
+                seen["refused 15 without an hour"] += answer[1:] == (15, 0)
             if compare:
                 same(answer, slow.call(call), "list", turn, "call", call)
         before = {k: v.copy() if isinstance(v, dict) else v for k, v in vars(book).items()}
@@ -1039,7 +1152,9 @@ def test_demand_3(rng):
             if call == ("clear",) and not isinstance(answer, tuple):
                 seen["lists cleared"] += 1
                 seen["lists with steps"] += answer > 0
-    needed(seen, ["refused %d" % n for n in range(2, 14) if n != 9], 10)
+    needed(seen, ["refused %d" % n for n in (*range(2, 14), 15) if n != 9], 10)
+    needed(seen, ["units with rights", "refused 15 without an hour", "limit 15", "limit 12 by rights", "accepted with rights",
+                  "exactly the rights", "a border sum lessened to 0"], 10)
     needed(seen, ["lists with steps", "hidden", "limit 10", "limit 11", "limit 12", "hours with a cut",
                   "hours with energy matched", "legacy step", "cut in export", "cut in import",
                   "bilateral maximum below zero", "split with legacy"], 10)

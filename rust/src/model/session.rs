@@ -8,6 +8,20 @@ use crate::types::*;
 /// The energies of the hours of a day, those beyond its last hour 0.
 pub(super) type Hours = [u32; MOST_HOURS];
 
+/// The border at which there are rights.
+const FRANCE: u32 = 1;
+
+/// Without a notice the rights are 0.
+const NO_RIGHTS: Hours = [0; MOST_HOURS];
+
+/// The last rights notice of an agent and side.
+#[derive(Clone)]
+struct Held {
+    agent: u32,
+    purchase: bool,
+    hours: Hours,
+}
+
 /// A registered unit with its last unavailability notice.
 #[derive(Clone)]
 pub(super) struct Registered {
@@ -38,6 +52,7 @@ pub struct Session {
     units: Vec<Registered>,
     /// Export and import of border 1, of 2, of 3, of 4.
     capacities: [Option<Hours>; 8],
+    rights: Vec<Held>,
     /// Keys by place, likewise; the order of the lodgements is of no meaning.
     packed: Vec<u64>,
     lodgements: Vec<Lodgement>,
@@ -57,8 +72,8 @@ fn in_range(number: u32) -> bool {
 
 /// The first limit, in the table's order, that a named hour's sum passes, with its lowest hour.
 /// `sums` is 0 in the hours not named, and 0 passes no limit.
-fn passed(sums: &Hours, limits: [Option<&Hours>; 3]) -> Option<(Limit, u32)> {
-    for (limit, energies) in [Limit::Maximum, Limit::Available, Limit::Border].into_iter().zip(limits) {
+fn passed(sums: &Hours, limits: [Option<&Hours>; 4]) -> Option<(Limit, u32)> {
+    for (limit, energies) in [Limit::Maximum, Limit::Available, Limit::Border, Limit::Rights].into_iter().zip(limits) {
         if let Some(energies) = energies {
             if let Some(hour) = (0..MOST_HOURS).find(|hour| sums[*hour] > energies[*hour]) {
                 return Some((limit, hour as u32 + 1));
@@ -75,6 +90,7 @@ impl Session {
             unit_numbers: Vec::with_capacity(MOST_UNITS),
             units: Vec::with_capacity(MOST_UNITS),
             capacities: [None; 8],
+            rights: Vec::new(),
             packed: Vec::with_capacity(MOST_LODGEMENTS),
             lodgements: Vec::with_capacity(MOST_LODGEMENTS),
             last_number: 0,
@@ -107,15 +123,33 @@ impl Session {
         Some(std::array::from_fn(|hour| export[hour] + import[hour]))
     }
 
-    /// What a sum in the named hours passes of a unit's limits: of all three, or of its maximum only.
+    /// The rights of a French unit's agent on its side, where they were notified.
+    fn rights_of(&self, unit: &Unit) -> Option<&Hours> {
+        let its = |held: &&Held| (held.agent, held.purchase) == (unit.agent, unit.purchase);
+        self.rights.iter().find(its).map(|held| &held.hours)
+    }
+
+    /// What a sum in the named hours passes of a unit's limits: of all of them, or of its maximum only.
     fn judge(&self, place: usize, sums: &Hours, all: bool) -> Option<(Limit, u32)> {
-        let registered = &self.units[place];
-        let maximum = [registered.unit.maximum; MOST_HOURS];
+        let Registered { unit, available } = &self.units[place];
+        let maximum = [unit.maximum; MOST_HOURS];
         if !all {
-            return passed(sums, [Some(&maximum), None, None]);
+            return passed(sums, [Some(&maximum), None, None, None]);
         }
-        let border = self.border_sum(registered.unit.border);
-        passed(sums, [Some(&maximum), registered.available.as_ref(), border.as_ref()])
+        let mut border = self.border_sum(unit.border);
+        let mut rights = None;
+        if unit.border == FRANCE {
+            let held = self.rights_of(unit);
+            if unit.rights {
+                // A limit of its own, and the border sum whole.
+                rights = Some(held.unwrap_or(&NO_RIGHTS));
+            } else if let (Some(sum), Some(held)) = (&mut border, held) {
+                for (energy, right) in sum.iter_mut().zip(held) {
+                    *energy = energy.saturating_sub(*right);
+                }
+            }
+        }
+        passed(sums, [Some(&maximum), available.as_ref(), border.as_ref(), rights])
     }
 
     /// A lodgement's energy in the hours that it names, with that of all unhidden ones of the other kind on its unit.
@@ -224,18 +258,25 @@ impl Exchange for Session {
             || unit.border > 4
             || unit.maximum > LARGEST_ENERGY
             || (unit.legacy && unit.border == 0)
+            || (unit.rights && unit.border != FRANCE)
         {
             return Err(Refusal::Range);
         }
         if self.place_of(unit.number).is_some() {
             return Err(Refusal::Taken);
         }
-        let same = |other: &Unit| (other.agent, other.border, other.purchase) == (unit.agent, unit.border, unit.purchase);
-        if unit.border != 0 && self.units.iter().any(|other| same(&other.unit)) {
+        let beside = |rights: bool| {
+            let place = |unit: &Unit| (unit.agent, unit.border, unit.purchase, unit.rights);
+            self.units.iter().any(|other| place(&other.unit) == place(&Unit { rights, ..unit }))
+        };
+        if unit.border != 0 && beside(unit.rights) {
             return Err(Refusal::Second);
         }
         if self.units.len() == MOST_UNITS {
             return Err(Refusal::Full);
+        }
+        if unit.rights && !beside(false) {
+            return Err(Refusal::Partner);
         }
         self.unit_numbers.push(unit.number);
         self.units.push(Registered { unit, available: None });
@@ -265,6 +306,21 @@ impl Exchange for Session {
             return Err(Refusal::Range);
         }
         self.capacities = given;
+        Ok(())
+    }
+
+    fn rights(&mut self, agent: u32, purchase: bool, energies: &Energies) -> Result<(), Refusal> {
+        self.still_open()?;
+        let hours = self.notice(energies)?;
+        if !in_range(agent) || !energies_fit(&hours) {
+            return Err(Refusal::Range);
+        }
+        let french = |unit: &Unit| (unit.agent, unit.border, unit.purchase) == (agent, FRANCE, purchase);
+        if !self.units.iter().any(|registered| french(&registered.unit)) {
+            return Err(Refusal::Unit);
+        }
+        self.rights.retain(|held| (held.agent, held.purchase) != (agent, purchase));
+        self.rights.push(Held { agent, purchase, hours });
         Ok(())
     }
 

@@ -21,6 +21,8 @@ pub enum Entry {
     Register(Unit),
     Available(u32, Energies),
     Capacity(Box<Capacities>),
+    /// A rights notice of an agent, for its purchases or its sales.
+    Rights(u32, bool, Energies),
     Lodge(Vec<u8>),
     Annul(Key),
     Close,
@@ -84,6 +86,7 @@ pub fn answer<E: Exchange>(exchange: &mut E, entry: &Entry) -> Answer {
         Entry::Register(unit) => Call::Register(*unit),
         Entry::Available(unit, energies) => Call::Available(*unit, energies),
         Entry::Capacity(capacities) => Call::Capacity(capacities),
+        Entry::Rights(agent, purchase, energies) => Call::Rights(*agent, *purchase, energies),
         Entry::Lodge(message) => Call::Lodge(message),
         Entry::Annul(key) => Call::Annul(*key),
         Entry::Close => Call::Close,
@@ -204,6 +207,14 @@ fn word(direction: Direction) -> &'static str {
     }
 }
 
+fn side(purchase: bool) -> &'static str {
+    if purchase {
+        "purchase"
+    } else {
+        "sale"
+    }
+}
+
 fn energies(energies: &Energies) -> String {
     let (count, values) = (energies.count(), energies.values());
     let kept = &values[..count.min(MOST_HOURS)];
@@ -238,10 +249,11 @@ impl fmt::Display for Entry {
     fn fmt(&self, f: &mut fmt::Formatter<'_>) -> fmt::Result {
         match self {
             Entry::Register(unit) => {
-                let side = if unit.purchase { "purchase" } else { "sale" };
+                let side = side(unit.purchase);
                 let legacy = if unit.legacy { " legacy" } else { "" };
+                let rights = if unit.rights { " rights" } else { "" };
                 let Unit { number, agent, border, maximum, .. } = unit;
-                write!(f, "register {number} agent {agent} border {border} {side} max {maximum}{legacy}")
+                write!(f, "register {number} agent {agent} border {border} {side} max {maximum}{legacy}{rights}")
             }
             Entry::Available(unit, list) => write!(f, "available {unit} {}", energies(list)),
             Entry::Capacity(capacities) => {
@@ -254,6 +266,7 @@ impl fmt::Display for Entry {
                 }
                 Ok(())
             }
+            Entry::Rights(agent, purchase, list) => write!(f, "rights {agent} {} {}", side(*purchase), energies(list)),
             Entry::Lodge(message) => {
                 write!(f, "lodge ")?;
                 message.iter().try_for_each(|byte| write!(f, "{byte:02X}"))?;

@@ -153,14 +153,25 @@ impl Maker {
             purchase: self.rng.chance(self.purchases[border as usize]),
             maximum,
             legacy: border != 0 && self.rng.chance(22),
+            rights: false,
         };
+        let marked = match self.theme {
+            Theme::Ladder => 8,
+            Theme::Congested => 20,
+            _ => 35,
+        };
+        if border == 1 && self.rng.chance(marked) {
+            self.mark(&mut unit);
+        }
         if self.rng.chance(self.broken) {
-            match self.rng.below(8) {
+            match self.rng.below(10) {
                 0 => unit.number = self.rng.pick(&[0, 65_536, u32::MAX]),
                 1 => unit.agent = self.rng.pick(&[0, 65_536, u32::MAX]),
                 2 => unit.border = self.rng.pick(&[5, 6, u32::MAX]),
                 3 => unit.maximum = self.rng.pick(&[100_000, u32::MAX, 99_999, 0]),
                 4 => unit.legacy = true,
+                7 => unit.rights = true,
+                8 => unit.rights = !unit.rights,
                 5 | 6 => {
                     if let Some(other) = self.any_unit() {
                         unit.number = other.number;
@@ -175,6 +186,22 @@ impl Maker {
         }
         self.units.push(unit);
         self.calls.push(Entry::Register(unit));
+        if unit.rights && self.rng.chance(60) {
+            self.rights_of(unit.agent, unit.purchase);
+        }
+    }
+
+    /// Marks a unit "with rights", mostly beside one without them of its agent and side.
+    fn mark(&mut self, unit: &mut Unit) {
+        let partners: Vec<Unit> = self.units.iter().filter(|other| other.border == 1 && !other.rights).copied().collect();
+        if partners.is_empty() && self.rng.chance(80) {
+            return;
+        }
+        unit.rights = true;
+        if !partners.is_empty() && self.rng.chance(94) {
+            let partner = self.rng.pick(&partners);
+            (unit.agent, unit.purchase) = (partner.agent, partner.purchase);
+        }
     }
 
     fn any_unit(&mut self) -> Option<Unit> {
@@ -220,6 +247,28 @@ impl Maker {
             _ => 2 * scale,
         });
         self.calls.push(Entry::Available(unit, energies));
+    }
+
+    /// A rights notice of an agent with a French unit, now and then of another.
+    fn rights(&mut self) {
+        let french: Vec<Unit> = self.units.iter().filter(|unit| unit.border == 1).copied().collect();
+        let one = if french.is_empty() || self.rng.chance(4) { self.any_unit() } else { Some(self.rng.pick(&french)) };
+        let (mut agent, mut purchase) = one.map_or((1, true), |unit| (unit.agent, unit.purchase));
+        if self.rng.chance(self.broken) {
+            match self.rng.below(3) {
+                0 => agent = self.rng.pick(&[0, 65_536, u32::MAX]),
+                1 => agent = self.rng.pick(&[121, 65_535]),
+                _ => purchase = !purchase,
+            }
+        }
+        self.rights_of(agent, purchase);
+    }
+
+    fn rights_of(&mut self, agent: u32, purchase: bool) {
+        let quarters = self.rng.pick(&[0, 1, 2, 4, 4, 6, 8]);
+        let most = (self.scale * quarters / 4).min(LARGEST_ENERGY);
+        let energies = self.energies(|rng| if rng.chance(40) { rng.below(most + 1) } else { most });
+        self.calls.push(Entry::Rights(agent, purchase, energies));
     }
 
     fn capacity(&mut self) {
@@ -397,7 +446,8 @@ impl Maker {
     fn any_call(&mut self) {
         match self.rng.below(1000) {
             640..=869 if self.theme == Theme::Full && self.rng.chance(85) => self.lodge(),
-            0..=639 => self.lodge(),
+            0..=599 => self.lodge(),
+            600..=639 => self.rights(),
             640..=719 => self.annul(),
             720..=799 => self.capacity(),
             800..=869 => self.available(),
@@ -424,6 +474,7 @@ impl Maker {
             purchase,
             maximum: LARGEST_ENERGY,
             legacy,
+            rights: false,
         };
         // Domestic sale, exports, imports of the same border, legacy exports.
         let (sale, export) = (unit(101, 0, false, false), unit(111, 1, true, false));
@@ -557,6 +608,9 @@ pub fn list(seed: u64) -> List {
     }
     if maker.rng.chance(30) {
         maker.available();
+    }
+    while maker.rng.chance(if theme == Theme::Ladder { 10 } else { 40 }) {
+        maker.rights();
     }
     if maker.rng.chance(5) {
         maker.calls.push(Entry::AskAll);

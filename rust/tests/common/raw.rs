@@ -13,13 +13,20 @@ fn filled<T: Plain>(byte: u8) -> T {
 pub fn unit(unit: &Unit, reserved: u8) -> ffi::Unit {
     let mut raw: ffi::Unit = filled(reserved);
     (raw.number, raw.agent, raw.border, raw.maximum) = (unit.number, unit.agent, unit.border, unit.maximum);
-    (raw.purchase, raw.legacy) = (unit.purchase.into(), unit.legacy.into());
+    (raw.purchase, raw.legacy, raw.rights) = (unit.purchase.into(), unit.legacy.into(), unit.rights.into());
     raw
 }
 
 pub fn available(unit: u32, energies: &Energies, reserved: u8) -> ffi::Availability {
     let mut raw: ffi::Availability = filled(reserved);
     (raw.unit, raw.count, raw.energies) = (unit, energies.count(), *energies.values());
+    raw
+}
+
+pub fn rights(agent: u32, purchase: bool, energies: &Energies, reserved: u8) -> ffi::Rights {
+    let mut raw: ffi::Rights = filled(reserved);
+    (raw.agent, raw.purchase) = (agent, purchase.into());
+    (raw.count, raw.energies) = (energies.count(), *energies.values());
     raw
 }
 
@@ -74,6 +81,7 @@ pub fn called(session: &mut ffi::Session, call: &Entry, reserved: u8) -> Respons
             let directions = capacities.directions().each_ref().map(|direction| published(direction, reserved));
             ffi::capacity(session, ffi::Capacities { directions })
         }
+        Entry::Rights(agent, purchase, energies) => ffi::rights(session, rights(*agent, *purchase, energies, reserved)),
         Entry::Lodge(message) => ffi::lodge(session, message),
         Entry::Annul(one) => ffi::annul(session, key(one, reserved)),
         Entry::Close => ffi::close(session),

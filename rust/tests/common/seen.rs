@@ -11,17 +11,17 @@ pub struct Seen {
     pub calls: u64,
     pub queries: u64,
     /// Refusals of calls by number, index 0 unused.
-    pub refused: [u64; 15],
+    pub refused: [u64; 16],
     /// Refusals of queries by number.
-    pub refused_queries: [u64; 15],
+    pub refused_queries: [u64; 16],
     /// Calls that were carried out.
-    pub accepted: [u64; 7],
+    pub accepted: [u64; 8],
     /// Days of 23, 24 and 25 hours cleared.
     pub cleared: [u64; 3],
     pub with_steps: u64,
     pub most_steps: u64,
-    /// Verdicts: accepted, hidden, limit 10, 11, 12.
-    pub verdicts: [u64; 5],
+    /// Verdicts: accepted, hidden, limit 10, 11, 12, 15.
+    pub verdicts: [u64; 6],
     pub absent_maxima: u64,
     pub negative_bilateral_maxima: u64,
     /// Hours in which two borders or more stand at their market maximum, after steps.
@@ -32,6 +32,14 @@ pub struct Seen {
     pub full_units: u64,
     /// Lodgements refused because 128 stand.
     pub full_lodgements: u64,
+    /// Units with rights refused for want of a partner.
+    pub partners: u64,
+    /// Lodgements refused because rights are passed.
+    pub rights_passed: u64,
+    /// Lodgements of units with rights that were taken.
+    pub with_rights: u64,
+    /// Numbers of the list's units with rights.
+    marked: Vec<u32>,
     hours: usize,
     steps: u64,
     /// The hour whose maxima are asked, and the borders at their maximum in it.
@@ -40,7 +48,7 @@ pub struct Seen {
     executed: i64,
 }
 
-const CALLS: [&str; 7] = ["register", "available", "capacity", "lodge", "annul", "close", "clear"];
+const CALLS: [&str; 8] = ["register", "available", "capacity", "lodge", "annul", "close", "clear", "rights"];
 
 fn index(call: &Entry) -> usize {
     match call {
@@ -50,6 +58,7 @@ fn index(call: &Entry) -> usize {
         Entry::Lodge(_) => 3,
         Entry::Annul(_) => 4,
         Entry::Close => 5,
+        Entry::Rights(..) => 7,
         _ => 6,
     }
 }
@@ -61,11 +70,12 @@ impl Seen {
         self.hours = hours as usize;
         self.steps = 0;
         self.at_maximum = (0, 0);
+        self.marked.clear();
     }
 
     /// Insists that lists met every refusal of a call, and the rest that is counted.
     pub fn insist(&self) {
-        for number in 1..=13 {
+        for number in (1..=13).chain([15]) {
             assert!(self.refused[number] >= 20, "refusal {number} met {} times:\n{self}", self.refused[number]);
         }
         for number in [2, 4, 5, 6, 13] {
@@ -79,6 +89,9 @@ impl Seen {
             &self.at_bilateral_maximum,
             &self.full_units,
             &self.full_lodgements,
+            &self.partners,
+            &self.rights_passed,
+            &self.with_rights,
         ]);
         assert!(counts.into_iter().all(|count| *count >= 20), "too thin:\n{self}");
     }
@@ -99,10 +112,20 @@ impl Observer for Seen {
                 match (refusal, call) {
                     (Refusal::Full, Entry::Register(_)) => self.full_units += 1,
                     (Refusal::Full, _) => self.full_lodgements += 1,
+                    (Refusal::Partner, _) => self.partners += 1,
+                    (Refusal::Limit { limit: Limit::Rights, .. }, _) => self.rights_passed += 1,
                     _ => {}
                 }
             }
             _ => self.accepted[index(call)] += 1,
+        }
+        match (call, answer) {
+            (Entry::Register(unit), Answer::Done) if unit.rights => self.marked.push(unit.number),
+            (Entry::Lodge(message), Answer::Number(_)) => {
+                let unit = model::message::read(message).map_or(0, |fields| fields.key.unit);
+                self.with_rights += u64::from(self.marked.contains(&unit));
+            }
+            _ => {}
         }
         if let Answer::Steps(steps) = answer {
             self.cleared[self.hours - 23] += 1;
@@ -120,6 +143,7 @@ impl Observer for Seen {
                 let place = match verdict {
                     Verdict::Accepted => 0,
                     Verdict::Hidden => 1,
+                    Verdict::Refused { limit: Limit::Rights, .. } => 5,
                     Verdict::Refused { limit, .. } => limit.number() as usize - 8,
                 };
                 self.verdicts[place] += 1;
@@ -157,7 +181,7 @@ impl fmt::Display for Seen {
         for (word, count) in CALLS.iter().zip(self.accepted) {
             write!(f, " {word} {count}")?;
         }
-        let rows = |f: &mut fmt::Formatter<'_>, word: &str, counts: &[u64; 15]| {
+        let rows = |f: &mut fmt::Formatter<'_>, word: &str, counts: &[u64; 16]| {
             write!(f, "\n{word}:")?;
             for (number, count) in counts.iter().enumerate().skip(1) {
                 if *count > 0 {
@@ -174,8 +198,16 @@ impl fmt::Display for Seen {
             "\ncleared days: {short} of 23 hours, {plain} of 24, {long} of 25; {} with steps, at most {}",
             self.with_steps, self.most_steps
         )?;
-        let [accepted, hidden, ten, eleven, twelve] = self.verdicts;
-        writeln!(f, "verdicts: {accepted} accepted, {hidden} hidden, limit 10: {ten}, 11: {eleven}, 12: {twelve}")?;
+        let [accepted, hidden, ten, eleven, twelve, fifteen] = self.verdicts;
+        writeln!(
+            f,
+            "verdicts: {accepted} accepted, {hidden} hidden, limit 10: {ten}, 11: {eleven}, 12: {twelve}, 15: {fifteen}"
+        )?;
+        writeln!(
+            f,
+            "rights: {} units refused for want of a partner, {} lodgements that pass them; {} taken of units with rights",
+            self.partners, self.rights_passed, self.with_rights
+        )?;
         write!(
             f,
             "maxima: {} absent, {} bilateral below zero, {} reached by executions; hours with several borders at their \

@@ -86,6 +86,9 @@ fn simpler(call: &Entry) -> Vec<Entry> {
             }
         }
         Entry::Register(unit) => {
+            if unit.rights {
+                all.push(Entry::Register(Unit { rights: false, ..*unit }));
+            }
             if unit.legacy {
                 all.push(Entry::Register(Unit { legacy: false, ..*unit }));
             }
@@ -97,6 +100,14 @@ fn simpler(call: &Entry) -> Vec<Entry> {
             let flat = Energies::flat(energies.values()[0], energies.count());
             if flat != *energies {
                 all.push(Entry::Available(*unit, flat));
+            }
+        }
+        Entry::Rights(agent, purchase, energies) => {
+            for value in [0, energies.values()[0]] {
+                let flat = Energies::flat(value, energies.count());
+                if flat != *energies {
+                    all.push(Entry::Rights(*agent, *purchase, flat));
+                }
             }
         }
         _ => {}
