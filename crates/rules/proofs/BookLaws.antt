@@ -1,6 +1,6 @@
 -- What holds of the book after every list of calls.
 use Prim.Native.Nat.{ℕ, zero, suc, ◌+◌, ◌≤◌, ◌<◌}
-use mathlib.Core.Path.{◌≡◌, refl, ap, sym, ◌∙◌}
+use mathlib.Core.Path.{◌≡◌, refl, ap, ap₂, sym, ◌∙◌}
 use mathlib.Core.Logic.{◌⊎◌, inl, inr, ⊎_elim}
 use mathlib.Core.Bool.{Bool, true, false, cond, not, ◌&&◌, ◌||◌, beq, false≢true, and-true}
 use mathlib.Core.List.{List, [], ◌∷◌, ◌++◌, map}
@@ -9,22 +9,22 @@ use native.Mathlib.Omega.{arith}
 use lib.Dec.{leb, ltb, eqb}
 use lib.ListN.{length, length-append, length-map}
 use borrow.Author.Tests.{leb-false, ltb-true, ltb-false, eqb-true, eqb-false, eq-eqb, lt-ltb, not-false, not-true}
-use Rattle.rules.specs.Lists.{All, none, more, empty, keep, any, first, sum_of, from, hourly}
+use Rattle.rules.specs.Lists.{All, none, more, Pairwise, empty, ahead, keep, any, first, sum_of, from, hourly}
 use Rattle.rules.specs.Refusals.{Row, row, first_row}
 use Rattle.rules.specs.Hours.{unfold_hours, Date, is_date, date_row}
-use Rattle.rules.specs.Units.{TradingUnit, Registered, Published, Capacities, max_energy, domestic, bad_unit, bad_number, bad_energies, bad_published, not_of_hours, same_border_side, has_number, is_registered, unit_of, nobody}
+use Rattle.rules.specs.Units.{TradingUnit, Registered, Published, Capacities, max_energy, domestic, bad_unit, bad_number, bad_energies, bad_published, not_of_hours, same_border_side, french, french_of, has_number, is_registered, unit_of, nobody}
 use Rattle.rules.specs.Message.{Key, Fields, names, message_of, wrong_form, bad_map, bad_key, bad_fields, wrong_range}
 use Rattle.rules.specs.Lodging.{Lodgement, energy_at, same_key, stands, without, names_beyond}
 use Rattle.rules.specs.Book.{Book, hours, limits_of, fresh, Frozen, frozen}
 use Rattle.rules.specs.Judging.{is_accepted, verdict_among}
 use Rattle.rules.specs.Closing.{judge, judgements, accepted_at}
 use Rattle.rules.specs.Clearing.{hour_of_day, clear_hour, figures_at, day_steps}
-use Rattle.rules.specs.DayBook.{Call, register, capacity, available, lodge, annul, close, clear, change_row, unregistered, bad_holder, is_second, units_full, full, gate_row, lodge_rows, call_rows, rows_of, with_units, with_capacities, with_standing, with_stage, notify, entry, applied, effect_of, effect, after, opened_with, opening, Answer, done, steps, reply, answers}
+use Rattle.rules.specs.DayBook.{Call, register, capacity, available, rights, lodge, annul, close, clear, change_row, unregistered, bad_holder, is_second, is_partner, no_partner, units_full, full, gate_row, lodge_rows, call_rows, rows_of, with_units, with_capacities, with_standing, with_stage, notify, grant, rights_on_side, entry, applied, effect_of, effect, after, opened_with, opening, Answer, done, steps, reply, answers}
 use Rattle.rules.specs.Sound.{OfDay, absent, energies, UnitsSound, HasUnit, Lodged, StandingSound, Sound, WellTyped}
 use Rattle.rules.specs.Demands.{Begins, opened, Got, now, next, Staged, ClosedIn}
 use Rattle.rules.proofs.BoolLaws.{by_bool, not-both, of-not, neither, both, of-both, beq-true, of-beq}
 use Rattle.rules.proofs.ListLaws.{keep-passes, length-keep, length-drop-one, any-longer, first-longer, all_map, all_head, all_tail, all_keep, all-mapped, all_replicate, all_from, any_false, hourly-beyond}
-use Rattle.rules.proofs.ElementLaws.{all-last, pairwise-last, all_both, pairwise-keep, pairwise_map}
+use Rattle.rules.proofs.ElementLaws.{all-last, pairwise-last, all_both, all-every, pairwise-keep, pairwise_map, pairwise-weaken}
 use Rattle.rules.proofs.RefusalLaws.{accepted-rows}
 use Rattle.rules.proofs.MessageLaws.{Good, of-reads, message-lengths, message-good}
 
@@ -52,25 +52,75 @@ second-sym : (u v : TradingUnit) → same_border_side u v ≡ false → same_bor
 unfolding same_border_side domestic
 second-sym u v h =
     of-not (same_border_side v u) (λ k.
-    let a = both (not (domestic v) && eqb v.agent u.agent && eqb v.border u.border) (beq v.purchase u.purchase) k in
+    let m = both (not (domestic v) && eqb v.agent u.agent && eqb v.border u.border && beq v.purchase u.purchase) (beq v.rights u.rights) k in
+    let a = both (not (domestic v) && eqb v.agent u.agent && eqb v.border u.border) (beq v.purchase u.purchase) m.0 in
     let b = both (not (domestic v) && eqb v.agent u.agent) (eqb v.border u.border) a.0 in
     let c = both (not (domestic v)) (eqb v.agent u.agent) b.0 in
     let border : v.border ≡ u.border = eqb-true _ _ b.1 in
     let d : not (eqb u.border 0) ≡ true = rw (← border) c.0 in
-    not-both (of-both (of-both (of-both d (eq-eqb u.agent v.agent (sym (eqb-true _ _ c.1)))) (eq-eqb u.border v.border (sym border)))
-    (of-beq u.purchase v.purchase (sym (beq-true _ _ a.1)))) h)
+    not-both (of-both (of-both (of-both (of-both d (eq-eqb u.agent v.agent (sym (eqb-true _ _ c.1)))) (eq-eqb u.border v.border (sym border)))
+    (of-beq u.purchase v.purchase (sym (beq-true _ _ a.1)))) (of-beq u.rights v.rights (sym (beq-true _ _ m.1)))) h)
 
--- a unit that is registered: its row 7 and 8 do not apply
+-- the first that passes a test has what all that pass it have
+first-agrees : {A B : Type 0} (p : A → Bool) (f : A → B) (d : A) {xs : List A} → Pairwise (λ x y. p x ≡ true → p y ≡ true → f x ≡ f y) xs
+    → All (λ x. p x ≡ true → f x ≡ f (first p d xs)) xs
+unfolding first
+first-agrees p f d empty = none
+first-agrees p f d (ahead {x} {xs} a t) =
+    by_bool (p x) (λ e. rw e (more (λ k. refl) (all_map (λ y g k. sym (g e k)) a))) (λ e. rw e (more (λ k. not-both k e) (first-agrees p f d t)))
+
+-- what holds of all and of the default holds of the first
+all_first : {A : Type 0} {P : A → Type 0} (p : A → Bool) (d : A) {xs : List A} → All P xs → P d → P (first p d xs)
+unfolding first
+all_first p d none k = k
+all_first {P} p d (more {x} h t) k = by_bool (p x) (λ e. rw e h) (λ e. rw e (all_first {P = P} p d t k))
+
+-- a French unit of an agent and side
+pub french-parts : (agent : ℕ) (purchase : Bool) (u : TradingUnit) → french_of agent purchase u ≡ true → (french u ≡ true) × (u.agent ≡ agent) × (u.purchase ≡ purchase)
+unfolding french_of
+french-parts agent purchase u h =
+    let a = both (french u && eqb u.agent agent) (beq u.purchase purchase) h in
+    let c = both (french u) (eqb u.agent agent) a.0 in
+    (c.0, eqb-true _ _ c.1, beq-true _ _ a.1)
+
+-- a new unit's rights
+module _ (H : ℕ) (us : List Registered) (u : TradingUnit) (s : UnitsSound H us) where
+  partner-granted : OfDay H (rights_on_side us u)
+  unfolding rights_on_side
+  partner-granted = go (french u)
+    where
+      go : (t : Bool) → OfDay H (cond t (first (λ r. french_of u.agent u.purchase r.unit) nobody us).rights nothing)
+      go true = all_first {P = λ r. OfDay H r.rights} (λ r. french_of u.agent u.purchase r.unit) nobody s.granted absent
+      go false = absent
+
+  -- are those of its agent and side
+  partner-agreed : (agent : ℕ) (purchase : Bool) → french_of agent purchase u ≡ true → All (λ r. french_of agent purchase r.unit ≡ true → r.rights ≡ rights_on_side us u) us
+  unfolding rights_on_side
+  partner-agreed agent purchase h =
+      let k = french-parts agent purchase u h in
+      rw (k.0, k.1, k.2) (first-agrees (λ r. french_of agent purchase r.unit) (λ r. r.rights) nobody (s.agreed agent purchase))
+
+foreign-none : (us : List Registered) (u : TradingUnit) → french u ≡ false → rights_on_side us u ≡ nothing
+unfolding rights_on_side
+foreign-none us u e = rw e
+
+-- a unit that is registered: its rows 7, 8 and 15 do not apply
 register-sound : (H : ℕ) (us : List Registered) (u : TradingUnit) → UnitsSound H us → bad_unit u ≡ false → is_registered us u.number ≡ false
-    → any (λ r. same_border_side u r.unit) us ≡ false → length us < 64 → UnitsSound H (us ++ (record { unit = u; available = nothing } ∷ []))
+    → any (λ r. same_border_side u r.unit) us ≡ false → length us < 64 → (u.rights ≡ true → any (is_partner u.agent u.purchase) us ≡ true)
+    → UnitsSound H (us ++ (record { unit = u; available = nothing; rights = rights_on_side us u } ∷ []))
 unfolding is_registered has_number
-register-sound H us u s good new second room =
+register-sound H us u s good new second room partner =
     record {
       room = rw length-append (omega arith);
       distinct = pairwise-last s.distinct (all_map (λ r e. eqb-false r.unit.number u.number e) (any_false (has_number u.number) us new));
       single = pairwise-last s.single (all_map (λ r e. second-sym u r.unit e) (any_false (λ r. same_border_side u r.unit) us second));
       ranges = all-last s.ranges good;
       notices = all-last s.notices absent;
+      granted = all-last s.granted (partner-granted H us u s);
+      agreed = λ agent purchase. pairwise-last (s.agreed agent purchase) (by_bool (french_of agent purchase u)
+          (λ e. all_map (λ r f k l. f k) (partner-agreed H us u s agent purchase e)) (λ e. all-every (λ r k l. not-both l e) us));
+      foreign = all-last s.foreign (foreign-none us u);
+      partnered = all-last (all_map (λ r f e. any-longer (is_partner r.unit.agent r.unit.purchase) us _ (f e)) s.partnered) (λ e. any-longer (is_partner u.agent u.purchase) us _ (partner e));
     }
 
 -- the unit of a key stays registered beside a new one
@@ -82,39 +132,84 @@ unit-longer us vs k h =
       border = rw (first-longer (has_number k.unit) nobody us vs h.registered) h.border;
     }
 
+-- Notices
+
+-- what changes no unit
+module _ (f : Registered → Registered) (same : (r : Registered) → (f r).unit ≡ r.unit) where
+  -- a test of the unit
+  pub any_same : (p : TradingUnit → Bool) (us : List Registered) → any (λ r. p r.unit) (map f us) ≡ any (λ r. p r.unit) us
+  unfolding any
+  any_same p [] = refl
+  any_same p (r ∷ us) = ap₂ (λ (u : TradingUnit) (t : Bool). p u || t) (same r) (any_same p us)
+
+  -- registers nobody
+  same-registered : (m : ℕ) (us : List Registered) → is_registered (map f us) m ≡ is_registered us m
+  unfolding is_registered has_number
+  same-registered m us = any_same (λ u. eqb u.number m) us
+
+  same-unit : (m : ℕ) (us : List Registered) → (unit_of (map f us) m).unit ≡ (unit_of us m).unit
+  unfolding unit_of first has_number
+  same-unit m [] = refl
+  same-unit m (r ∷ us) = by_bool (eqb r.unit.number m) (λ e. rw (same r, e)) (λ e. rw (same r, e) (same-unit m us))
+
+  -- nor changes whose it is
+  same-holder : (us : List Registered) (k : Key) → HasUnit us k → HasUnit (map f us) k
+  same-holder us k h =
+      record { registered = same-registered k.unit us ∙ h.registered; border = rw (same-unit k.unit us) h.border }
+
+  -- a sound registry stays sound if the notices do
+  same-sound : (H : ℕ) (us : List Registered) → UnitsSound H us → All (λ r. OfDay H (f r).available) us → All (λ r. OfDay H (f r).rights) us
+      → ((agent : ℕ) (purchase : Bool) → Pairwise (λ r s. french_of agent purchase r.unit ≡ true → french_of agent purchase s.unit ≡ true → (f r).rights ≡ (f s).rights) us)
+      → All (λ r. french r.unit ≡ false → (f r).rights ≡ nothing) us → UnitsSound H (map f us)
+  unfolding is_partner
+  same-sound H us s noticed granted agreed foreign =
+      record {
+        room = rw (length-map us f) s.room;
+        distinct = pairwise_map f (λ q r h. rw (same q, same r) h) s.distinct;
+        single = pairwise_map f (λ q r h. rw (same q, same r) h) s.single;
+        ranges = all-mapped f (all_map (λ r h. rw (same r) h) s.ranges);
+        notices = all-mapped f noticed;
+        granted = all-mapped f granted;
+        agreed = λ agent purchase. pairwise_map f (λ q r h. rw (same q, same r) h) (agreed agent purchase);
+        foreign = all-mapped f (all_map (λ r h. rw (same r) h) foreign);
+        partnered = all-mapped f (all_map (λ r h. rw (same r) (λ e. any_same (λ u. french_of r.unit.agent r.unit.purchase u && not u.rights) us ∙ h e)) s.partnered);
+      }
+
+-- energies of the day, or what was there
+of-day : {H : ℕ} {es : List ℕ} → length es ≡ H → All (λ e. e ≤ max_energy) es → (b : Bool) {p : Published} → OfDay H p → OfDay H (cond b (some es) p)
+of-day l good true h = energies l good
+of-day l good false h = h
+
 module _ (n : ℕ) (es : List ℕ) where
-  -- a notice registers nobody
-  notify-registered : (m : ℕ) (us : List Registered) → is_registered (map (notify n es) us) m ≡ is_registered us m
-  unfolding is_registered any notify has_number
-  notify-registered m [] = refl
-  notify-registered m (r ∷ us) = ap (λ b. eqb r.unit.number m || b) (notify-registered m us)
+  pub notify-unit : (r : Registered) → (notify n es r).unit ≡ r.unit
+  unfolding notify
+  notify-unit r = refl
 
-  -- and changes no unit
-  notify-unit : (m : ℕ) (us : List Registered) → (unit_of (map (notify n es) us) m).unit ≡ (unit_of us m).unit
-  unfolding unit_of first notify has_number
-  notify-unit m [] = refl
-  notify-unit m (r ∷ us) = by_bool (eqb r.unit.number m) (λ e. rw e) (λ e. rw e (notify-unit m us))
-
-  -- nor whose it is
-  notify-holder : (us : List Registered) (k : Key) → HasUnit us k → HasUnit (map (notify n es) us) k
-  notify-holder us k h =
-      record { registered = notify-registered k.unit us ∙ h.registered; border = rw (notify-unit k.unit us) h.border }
-
-  -- its energies are of the day
   notify-sound : (H : ℕ) (us : List Registered) → UnitsSound H us → length es ≡ H → All (λ e. e ≤ max_energy) es → UnitsSound H (map (notify n es) us)
   unfolding notify
-  notify-sound H us s l good =
-      record {
-        room = rw (length-map us (notify n es)) s.room;
-        distinct = pairwise_map (notify n es) (λ q r h. h) s.distinct;
-        single = pairwise_map (notify n es) (λ q r h. h) s.single;
-        ranges = all-mapped (notify n es) s.ranges;
-        notices = all-mapped (notify n es) (all_map (λ r h. chosen (has_number n r) h) s.notices);
-      }
-    where
-      chosen : (b : Bool) {p : Published} → OfDay H p → OfDay H (cond b (some es) p)
-      chosen true h = energies l good
-      chosen false h = h
+  notify-sound H us s l good = same-sound (notify n es) notify-unit H us s (all_map (λ r h. of-day l good (has_number n r) h) s.notices) s.granted s.agreed s.foreign
+
+module _ (agent : ℕ) (purchase : Bool) (es : List ℕ) where
+  pub grant-unit : (r : Registered) → (grant agent purchase es r).unit ≡ r.unit
+  unfolding grant
+  grant-unit r = refl
+
+  -- French units of one agent and side have their rights by one notice
+  french-alike : (a : ℕ) (side : Bool) (u v : TradingUnit) → french_of a side u ≡ true → french_of a side v ≡ true → french_of agent purchase u ≡ french_of agent purchase v
+  unfolding french_of
+  french-alike a side u v h k = let x = french-parts a side u h in let y = french-parts a side v k in rw (x.0, x.1, x.2, y.0, y.1, y.2)
+
+  -- others by none
+  french-only : (u : TradingUnit) → french u ≡ false → french_of agent purchase u ≡ false
+  unfolding french_of
+  french-only u e = rw e
+
+  grant-sound : (H : ℕ) (us : List Registered) → UnitsSound H us → length es ≡ H → All (λ e. e ≤ max_energy) es → UnitsSound H (map (grant agent purchase es) us)
+  unfolding grant
+  grant-sound H us s l good =
+      same-sound (grant agent purchase es) grant-unit H us s s.notices (all_map (λ r h. of-day l good (french_of agent purchase r.unit) h) s.granted)
+      (λ a side. pairwise-weaken (λ q r f x y. ap₂ (λ (t : Bool) (o : Published). cond t (some es) o) (french-alike a side q.unit r.unit x y) (f x y)) (s.agreed a side))
+      (all_map (λ r f e. ap (λ t. cond t (some es) r.rights) (french-only r.unit e) ∙ f e) s.foreign)
 
 -- Lodgements
 
@@ -249,18 +344,23 @@ holders-sound H f s =
 
 -- Calls
 
+and-rest : {a b : Bool} → a ≡ true → (a && b) ≡ false → b ≡ false
+and-rest h k = rw h at k
+
 -- an accepted call leaves a sound book
 applied-sound : (b : Book) (c : Call) → first_row (rows_of b c) ≡ nothing → Sound b → Sound (applied b c)
-unfolding applied rows_of gate_row call_rows row change_row unregistered is_second units_full with_units with_capacities with_standing with_stage hours entry
+unfolding applied rows_of gate_row call_rows row change_row unregistered is_second no_partner units_full with_units with_capacities with_standing with_stage hours entry
 applied-sound b (register u) h s =
     let r5 = all_tail (accepted-rows (rows_of b (register u)) h) in
     let r7 = all_tail r5 in
     let r8 = all_tail r7 in
+    let r9 = all_tail r8 in
     record {
       date = s.date;
-      units = register-sound (hours b) b.units u s.units (all_head r5) (all_head r7) (all_head r8) (leb-false 64 (length b.units) (all_head (all_tail r8)));
+      units = register-sound (hours b) b.units u s.units (all_head r5) (all_head r7) (all_head r8) (leb-false 64 (length b.units) (all_head r9))
+          (λ e. not-false _ (and-rest e (all_head (all_tail r9))));
       capacities = s.capacities;
-      standing = holders-sound (hours b) (unit-longer b.units (record { unit = u; available = nothing } ∷ [])) s.standing;
+      standing = holders-sound (hours b) (unit-longer b.units (record { unit = u; available = nothing; rights = rights_on_side b.units u } ∷ [])) s.standing;
       stage = s.stage;
     }
 applied-sound b (capacity cs) h s =
@@ -278,7 +378,16 @@ applied-sound b (available n es) h s =
       date = s.date;
       units = notify-sound n es (hours b) b.units s.units (eqb-true _ _ (not-false _ (all_head r4))) (energies-good es (neither (bad_number n) (bad_energies es) (all_head (all_tail r4))).1);
       capacities = s.capacities;
-      standing = holders-sound (hours b) (notify-holder n es b.units) s.standing;
+      standing = holders-sound (hours b) (same-holder (notify n es) (notify-unit n es) b.units) s.standing;
+      stage = s.stage;
+    }
+applied-sound b (rights agent purchase es) h s =
+    let r4 = all_tail (accepted-rows (rows_of b (rights agent purchase es)) h) in
+    record {
+      date = s.date;
+      units = grant-sound agent purchase es (hours b) b.units s.units (eqb-true _ _ (not-false _ (all_head r4))) (energies-good es (neither (bad_number agent) (bad_energies es) (all_head (all_tail r4))).1);
+      capacities = s.capacities;
+      standing = holders-sound (hours b) (same-holder (grant agent purchase es) (grant-unit agent purchase es) b.units) s.standing;
       stage = s.stage;
     }
 applied-sound b (lodge bytes) h s =
@@ -327,7 +436,7 @@ unfolding fresh
 fresh-sound d e =
     record {
       date = e;
-      units = record { room = omega arith; distinct = empty; single = empty; ranges = none; notices = none };
+      units = record { room = omega arith; distinct = empty; single = empty; ranges = none; notices = none; granted = none; agreed = λ agent purchase. empty; foreign = none; partnered = none };
       capacities = all_replicate 8 nothing absent;
       standing = record { room = omega arith; counted = omega arith; rising = empty; from_one = none; to_last = none; keys = empty; holders = none; messages = none };
       stage = λ k. absurd (false≢true k);
@@ -388,6 +497,7 @@ unfolding applied with_units with_capacities with_standing with_stage
 applied-directions b (register u) w h = h
 applied-directions b (capacity cs) w h = w.directions cs refl
 applied-directions b (available n es) w h = h
+applied-directions b (rights agent purchase es) w h = h
 applied-directions b (lodge bytes) w h = h
 applied-directions b (annul k) w h = h
 applied-directions b close w h = h
@@ -469,6 +579,7 @@ unfolding gate_row
 effect-closed b (register u) h = ap frozen (change-refused b (register u) h refl)
 effect-closed b (capacity cs) h = ap frozen (change-refused b (capacity cs) h refl)
 effect-closed b (available n es) h = ap frozen (change-refused b (available n es) h refl)
+effect-closed b (rights agent purchase es) h = ap frozen (change-refused b (rights agent purchase es) h refl)
 effect-closed b (lodge bytes) h = ap frozen (change-refused b (lodge bytes) h refl)
 effect-closed b (annul k) h = ap frozen (change-refused b (annul k) h refl)
 effect-closed b close h = ap frozen (change-refused b close h refl)
@@ -480,6 +591,7 @@ unfolding applied with_units with_capacities with_standing with_stage
 applied-stays b (register u) = (λ h. h, λ h. h)
 applied-stays b (capacity cs) = (λ h. h, λ h. h)
 applied-stays b (available n es) = (λ h. h, λ h. h)
+applied-stays b (rights agent purchase es) = (λ h. h, λ h. h)
 applied-stays b (lodge bytes) = (λ h. h, λ h. h)
 applied-stays b (annul k) = (λ h. h, λ h. h)
 applied-stays b close = (λ h. refl, λ h. h)
@@ -530,6 +642,7 @@ unfolding applied with_units with_capacities with_standing with_stage
 closes b (register u) = inr refl
 closes b (capacity cs) = inr refl
 closes b (available n es) = inr refl
+closes b (rights agent purchase es) = inr refl
 closes b (lodge bytes) = inr refl
 closes b (annul k) = inr refl
 closes b close = inl refl
@@ -621,6 +734,7 @@ unfolding applied reply with_units with_capacities with_standing with_stage
 clears b (register u) = inr refl
 clears b (capacity cs) = inr refl
 clears b (available n es) = inr refl
+clears b (rights agent purchase es) = inr refl
 clears b (lodge bytes) = inr refl
 clears b (annul k) = inr refl
 clears b close = inr refl

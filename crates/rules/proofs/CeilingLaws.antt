@@ -9,7 +9,7 @@ use native.Mathlib.Nat.{min-le_left, min-le_right, le-min}
 use native.Mathlib.Omega.{arith}
 use borrow.Author.Tests.{lt-ltb, le-ltb, ltb-true, ltb-false}
 use Rattle.rules.specs.Lists.{All, none, more, any}
-use Rattle.rules.specs.Units.{Registered, Lines, Limit, maximum_limit, available_limit, own_limits, border_limit, border_limits, limits, passes, least_of, ceiling, unit_of}
+use Rattle.rules.specs.Units.{Registered, Lines, Limit, maximum_limit, available_limit, own_limits, border_limit, rights_limit, border_limits, limits, passes, least_of, ceiling, unit_of}
 use Rattle.rules.specs.Book.{Book, lines_of, limits_of, ceiling_of}
 use Rattle.rules.proofs.BoolLaws.{by_bool}
 
@@ -57,8 +57,8 @@ over-limits ls r = over-least (λ h. r.unit.maximum) (maximum_limit r) (availabl
 
 -- none has the number 0, which stands for no refusal
 pub limits-numbered : (ls : Lines) (r : Registered) → All (λ l. eqb l.number 0 ≡ false) (limits ls r)
-unfolding limits own_limits border_limits maximum_limit available_limit border_limit
-limits-numbered ls r = more refl (more refl (more refl none))
+unfolding limits own_limits border_limits maximum_limit available_limit border_limit rights_limit
+limits-numbered ls r = more refl (more refl (more refl (more refl none)))
 
 -- by the book
 pub over-ceiling : (b : Book) (u : ℕ) → Bound (ceiling_of b u) (limits_of b u)

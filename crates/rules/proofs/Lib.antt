@@ -26,6 +26,7 @@ pub mod HourLaws
 pub mod SoundLaws
 pub mod TableLaws
 pub mod BookLaws
+pub mod RightsLaws
 pub mod OrderLaws
 pub mod JudgingLaws
 pub mod ClosingLaws

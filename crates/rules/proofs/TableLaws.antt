@@ -11,16 +11,16 @@ use borrow.Author.Tests.{leb-true, ltb-true}
 use Rattle.rules.specs.Lists.{All, none, more, here, there, Pairwise, empty, ahead}
 use Rattle.rules.specs.Refusals.{Row, row, limit_row, first_row, table_order, place_in, place_of, refused, unless, outcome}
 use Rattle.rules.specs.Hours.{Date, date_row, hours_at, clock_rows, clock_at, hour_rows, hour_at}
-use Rattle.rules.specs.Units.{Registered, Lines, maximum_limit, available_limit, border_limit, own_limits, border_limits, limits}
+use Rattle.rules.specs.Units.{Registered, Lines, maximum_limit, available_limit, border_limit, rights_limit, own_limits, border_limits, limits}
 use Rattle.rules.specs.Message.{read_rows, read, write_rows, write, message_of}
 use Rattle.rules.specs.Lodging.{limit_rows, judged_by}
 use Rattle.rules.specs.Book.{Book}
-use Rattle.rules.specs.Queries.{Query, verdict, matched, executed, market, bilateral, market_max, bilateral_max, price, figure_rows, unit_rows, border_rows, query_rows, query}
-use Rattle.rules.specs.DayBook.{Call, register, capacity, available, lodge, annul, close, clear, Answer, refusal, done, numbered, steps, change_row, gate_row, lodge_rows, call_rows, rows_of, reply, effect_of, effect, opened_with, opening}
+use Rattle.rules.specs.Queries.{Query, verdict, matched, executed, market, bilateral, market_max, bilateral_max, price, figure_rows, unit_rows, border_rows, query_rows, shown, query}
+use Rattle.rules.specs.DayBook.{Call, register, capacity, available, rights, lodge, annul, close, clear, Answer, refusal, done, numbered, steps, change_row, gate_row, lodge_rows, call_rows, rows_of, reply, effect_of, effect, opened_with, opening}
 use Rattle.rules.specs.Table.{Ordered, RefusedBy, Refuses, InTableOrder}
 use Rattle.rules.proofs.BoolLaws.{by_bool, both, not-both}
 use Rattle.rules.proofs.ListLaws.{all_map}
-use Rattle.rules.proofs.RefusalLaws.{given-row}
+use Rattle.rules.proofs.RefusalLaws.{given-row, accepted-rows}
 
 -- Rows in order, by a test of their places
 
@@ -61,7 +61,7 @@ rise-ordered p rows h = record { known = rise-known p rows h; rising = rise-pair
 
 lodge-ordered : (r2 r3 r4 r5 r6 r9 : Bool) (H : ℕ) (named : List ℕ) (load : ℕ → ℕ) (ls : Lines) (r : Registered) (default : Bool)
     → Ordered (row 2 r2 ∷ row 3 r3 ∷ row 4 r4 ∷ row 5 r5 ∷ row 6 r6 ∷ row 9 r9 ∷ limit_rows H named load (judged_by ls r default))
-unfolding rise row limit_row place_of place_in table_order limit_rows judged_by limits own_limits border_limits maximum_limit available_limit border_limit
+unfolding rise row limit_row place_of place_in table_order limit_rows judged_by limits own_limits border_limits maximum_limit available_limit border_limit rights_limit
 lodge-ordered r2 r3 r4 r5 r6 r9 H named load ls r true = rise-ordered 0 _ refl
 lodge-ordered r2 r3 r4 r5 r6 r9 H named load ls r false = rise-ordered 0 _ refl
 
@@ -70,6 +70,7 @@ unfolding rise row place_of place_in table_order rows_of gate_row change_row cal
 call-ordered b (register u) = rise-ordered 0 _ refl
 call-ordered b (capacity cs) = rise-ordered 0 _ refl
 call-ordered b (available n es) = rise-ordered 0 _ refl
+call-ordered b (rights agent purchase es) = rise-ordered 0 _ refl
 call-ordered b (lodge bytes) = lodge-ordered _ _ _ _ _ _ _ _ _ _ _ (message_of bytes).key.default
 call-ordered b (annul k) = rise-ordered 0 _ refl
 call-ordered b close = rise-ordered 0 _ refl
@@ -110,7 +111,7 @@ refused-by (q ∷ rows) r n h o f e d =
       hour = d;
       among = here same;
       applies = ap (λ (k : Row). k.applies) (sym same) ∙ t;
-      lowest = more {x = q} (λ u. omega (arith, place)) (all_map (λ x k u. omega (arith, place, k)) (behind o).0);
+      first = more {x = q} (λ u. omega (arith, place)) (all_map (λ x k u. omega (arith, place, k)) (behind o).0);
     })
     (λ t.
     let rest = refused-by rows r n h (behind o).1 (rw t at f) e d in
@@ -120,8 +121,16 @@ refused-by (q ∷ rows) r n h o f e d =
       hour = rest.hour;
       among = there rest.among;
       applies = rest.applies;
-      lowest = more {x = q} (λ u. not-both u t) rest.lowest;
+      first = more {x = q} (λ u. not-both u t) rest.first;
     })
+
+-- what is refused by the first row that applies, if one does, and by nothing is of no row that applies
+no-row : (rows : List Row) (Refused : ℕ → ℕ → Type 0) → ((r : Row) → first_row rows ≡ some r → Refused r.number r.hour) → ((n h : ℕ) → Refused n h → ⊥) → All (λ r. r.applies ≡ false) rows
+no-row rows Refused by-first un = go (first_row rows) refl
+  where
+    go : (o : Option Row) → first_row rows ≡ o → All (λ r. r.applies ≡ false) rows
+    go nothing e = accepted-rows rows e
+    go (some r) e = absurd (un r.number r.hour (by-first r e))
 
 -- an accepted call is answered by no refusal
 abbrev refuses : Answer → ℕ
@@ -135,6 +144,7 @@ unfolding reply
 accepted-reply b (register u) = refl
 accepted-reply b (capacity cs) = refl
 accepted-reply b (available n es) = refl
+accepted-reply b (rights agent purchase es) = refl
 accepted-reply b (lodge bytes) = refl
 accepted-reply b (annul k) = refl
 accepted-reply b close = refl
@@ -148,10 +158,15 @@ refused-call b c n h e = go (first_row (rows_of b c)) refl e
     go nothing f e = let z : ◌≡◌ {A = ℕ} 0 1 = sym (accepted-reply b c) ∙ ap refuses e in absurd (omega arith)
     go (some r) f e = refused-by (rows_of b c) r n h (call-ordered b c) f (cc) (cc)
 
+call-refused : (b : Book) (c : Call) (r : Row) → first_row (rows_of b c) ≡ some r → (effect b c).answer ≡ refusal r.number r.hour
+unfolding effect effect_of
+call-refused b c r e = rw e refl
+
 -- a value that is asked for
 refused-outcome : {A : Type 0} (rows : List Row) (a : A) → Ordered rows → Refuses rows (λ n h. outcome rows a ≡ refused n h)
 unfolding outcome unless
-refused-outcome {A} rows a o = record { ordered = o; lowest = λ n h e. go n h (first_row rows) refl e }
+refused-outcome {A} rows a o =
+    record { ordered = o; first = λ n h e. go n h (first_row rows) refl e; unrefused = no-row rows (λ n h. outcome rows a ≡ refused n h) (λ r e. rw e refl) }
   where
     go : (n h : ℕ) (f : Option Row) → first_row rows ≡ f → unless f a ≡ refused n h → RefusedBy rows n h
     go n h nothing f e = let z : ◌≡◌ {A = ℕ} 0 1 = cc in absurd (omega arith)
@@ -160,24 +175,28 @@ refused-outcome {A} rows a o = record { ordered = o; lowest = λ n h e. go n h (
 -- opening: a date that is one is answered by no refusal
 refused-opening : (d : Date) → Ordered (date_row d ∷ []) → Refuses (date_row d ∷ []) (λ n h. (opening d).answer ≡ refusal n h)
 unfolding opening opened_with
-refused-opening d o = record { ordered = o; lowest = λ n h e. go n h (first_row (date_row d ∷ [])) refl e }
+refused-opening d o =
+    record {
+      ordered = o;
+      first = λ n h e. go n h (first_row (date_row d ∷ [])) refl e;
+      unrefused = no-row (date_row d ∷ []) (λ n h. (opening d).answer ≡ refusal n h) (λ r e. rw e refl);
+    }
   where
     go : (n h : ℕ) (f : Option Row) → first_row (date_row d ∷ []) ≡ f → (opened_with d f).answer ≡ refusal n h → RefusedBy (date_row d ∷ []) n h
     go n h nothing f e = let z : ◌≡◌ {A = ℕ} 0 1 = ap refuses e in absurd (omega arith)
     go n h (some r) f e = refused-by (date_row d ∷ []) r n h o f (cc) (cc)
 
 pub in-table-order : InTableOrder
-unfolding rise row limit_row place_of place_in table_order date_row clock_rows hour_rows limit_rows limits own_limits border_limits maximum_limit available_limit border_limit read_rows write_rows hours_at clock_at hour_at read write query
+unfolding rise row limit_row place_of place_in table_order date_row clock_rows hour_rows limit_rows limits own_limits border_limits maximum_limit available_limit border_limit rights_limit read_rows write_rows hours_at clock_at hour_at read write query
 in-table-order =
     record {
-      numbers = rise-pairs (λ n. n) 0 table_order refl;
       opens = λ d. refused-opening d (rise-ordered 0 _ refl);
       hours = λ d. refused-outcome _ _ (rise-ordered 0 (date_row d ∷ []) refl);
       clocks = λ d hour. refused-outcome _ _ (rise-ordered 0 (clock_rows d hour) refl);
       names = λ d c. refused-outcome _ _ (rise-ordered 0 (hour_rows d c) refl);
       reading = λ bytes. refused-outcome _ _ (rise-ordered 0 (read_rows bytes) refl);
       writing = λ room m. refused-outcome _ _ (rise-ordered 0 (write_rows room m) refl);
-      calls = λ b c. record { ordered = call-ordered b c; lowest = refused-call b c };
+      calls = λ b c. record { ordered = call-ordered b c; first = refused-call b c; unrefused = no-row (rows_of b c) (λ n h. (effect b c).answer ≡ refusal n h) (call-refused b c) };
       queries = λ b q. refused-outcome _ _ (query-ordered b q);
       verdicts = λ H named load ls r. rise-ordered 0 _ refl;
     }

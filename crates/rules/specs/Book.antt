@@ -6,7 +6,8 @@ use Rattle.rules.specs.Units.{Registered, Capacities, Lines, Limit, limits, ceil
 use Rattle.rules.specs.Lodging.{Lodgement}
 
 -- "It keeps what the rules ask of accepted calls: units, last notices, standing lodgements with their numbers, the last
--- number, whether closed or cleared." A unit's last unavailability notice stands with the unit; standing lodgements are
+-- number, whether closed or cleared." A unit's last unavailability notice stands with the unit, and with a
+-- French one its agent's last rights on its side; standing lodgements are
 -- in the order of their numbers. ("Day book" is document 01's term.)
 pub record Book : Type 0 where
   pub date : Date

@@ -1,10 +1,10 @@
 -- "Day book": calls, their refusals in the table's order, and what an accepted call does.
 use Rattle.std.specs.Prelude.{ℕ, suc, Bool, true, cond, not, ◌&&◌, ◌||◌, List, [], ◌∷◌, ◌++◌, map, leb, eqb, length}
 use Rattle.std.proofs.Math.Option.{Option, some, none}
-use Rattle.rules.specs.Lists.{any}
+use Rattle.rules.specs.Lists.{any, first}
 use Rattle.rules.specs.Refusals.{Row, row, first_row}
 use Rattle.rules.specs.Hours.{Date, date_row}
-use Rattle.rules.specs.Units.{TradingUnit, Registered, Capacities, bad_unit, bad_number, bad_energies, bad_published, not_of_hours, same_border_side, has_number, is_registered, unit_of}
+use Rattle.rules.specs.Units.{TradingUnit, Registered, Capacities, bad_unit, bad_number, bad_energies, bad_published, not_of_hours, same_border_side, french, french_of, has_number, nobody, is_registered, unit_of}
 use Rattle.rules.specs.Message.{Key, Fields, message_of, wrong_form, bad_map, bad_key, wrong_range}
 use Rattle.rules.specs.Lodging.{Lodgement, stands, without, judged_at, judged_by, limit_rows, names_beyond, domestic_execution}
 use Rattle.rules.specs.Book.{Book, hours, lines_of, fresh}
@@ -15,6 +15,7 @@ pub data Call : Type 0 where
   register : TradingUnit → Call
   capacity : Capacities → Call
   available : ℕ → List ℕ → Call  -- an unavailability notice: a unit's number and its available energies
+  rights : ℕ → Bool → List ℕ → Call  -- a rights notice: an agent, a side (true for purchases) and its energies
   lodge : List ℕ → Call  -- "Lodging takes a message's bytes."
   annul : Key → Call
   close : Call
@@ -40,9 +41,21 @@ unregistered b n = not (is_registered b.units n)
 unfoldable pub bad_holder : Book → Key → Bool
 bad_holder b k = unregistered b k.unit || domestic_execution k (unit_of b.units k.unit).unit
 
--- 8, second: "agent has that border (1 to 4) and side"
+-- 8, second: "agent has that border (1 to 4) and side"; K1: "number 8 counts marked and unmarked units apart"
 unfoldable pub is_second : Book → TradingUnit → Bool
 is_second b u = any (λ r. same_border_side u r.unit) b.units
+
+-- 6, unit: "the agent has no French unit on that side"
+unfoldable pub no_french : Book → ℕ → Bool → Bool
+no_french b agent purchase = not (any (λ r. french_of agent purchase r.unit) b.units)
+
+-- an unmarked French unit of this agent and side
+unfoldable pub is_partner : ℕ → Bool → Registered → Bool
+is_partner agent purchase r = french_of agent purchase r.unit && not r.unit.rights
+
+-- 15, rights: a marked unit that "has no unmarked partner"
+unfoldable pub no_partner : Book → TradingUnit → Bool
+no_partner b u = u.rights && not (any (is_partner u.agent u.purchase) b.units)
 
 -- 9, full: "64 units"
 unfoldable pub units_full : Book → Bool
@@ -57,6 +70,7 @@ unfoldable pub gate_row : Book → Call → Row
 gate_row b (register u) = change_row b
 gate_row b (capacity cs) = change_row b
 gate_row b (available n es) = change_row b
+gate_row b (rights agent purchase es) = change_row b
 gate_row b (lodge bytes) = change_row b
 gate_row b (annul k) = change_row b
 gate_row b close = change_row b  -- "closing [..] twice"
@@ -76,10 +90,12 @@ lodge_rows b bytes =
 -- the call's own rows, after the gate's
 unfoldable pub call_rows : Book → Call → List Row
 call_rows b (register u) =
-    row 5 (bad_unit u) ∷ row 7 (is_registered b.units u.number) ∷ row 8 (is_second b u) ∷ row 9 (units_full b) ∷ []
+    row 5 (bad_unit u) ∷ row 7 (is_registered b.units u.number) ∷ row 8 (is_second b u) ∷ row 9 (units_full b) ∷ row 15 (no_partner b u) ∷ []
 call_rows b (capacity cs) = row 4 (any (not_of_hours (hours b)) cs) ∷ row 5 (any bad_published cs) ∷ []
 call_rows b (available n es) =
     row 4 (not (eqb (length es) (hours b))) ∷ row 5 (bad_number n || bad_energies es) ∷ row 6 (unregistered b n) ∷ []
+call_rows b (rights agent purchase es) =
+    row 4 (not (eqb (length es) (hours b))) ∷ row 5 (bad_number agent || bad_energies es) ∷ row 6 (no_french b agent purchase) ∷ []
 call_rows b (lodge bytes) = lodge_rows b bytes
 call_rows b (annul k) = row 5 (bad_key k) ∷ row 6 (bad_holder b k) ∷ row 13 (not (stands b.standing k)) ∷ []
 call_rows b close = []
@@ -136,17 +152,27 @@ with_stage b closed cleared = record {
 
 -- the notice of unit n put in the place of its earlier one
 unfoldable pub notify : ℕ → List ℕ → Registered → Registered
-notify n es r = record { unit = r.unit; available = cond (has_number n r) (some es) r.available }
+notify n es r = record { unit = r.unit; available = cond (has_number n r) (some es) r.available; rights = r.rights }
+
+-- the rights of an agent's French units of a side put in the place of the earlier ones
+unfoldable pub grant : ℕ → Bool → List ℕ → Registered → Registered
+grant agent purchase es r =
+    record { unit = r.unit; available = r.available; rights = cond (french_of agent purchase r.unit) (some es) r.rights }
+
+-- those that a new French unit has: of its agent and side
+unfoldable pub rights_on_side : List Registered → TradingUnit → Option (List ℕ)
+rights_on_side us u = cond (french u) (first (λ r. french_of u.agent u.purchase r.unit) nobody us).rights none
 
 unfoldable pub entry : Fields → ℕ → Lodgement
 entry m n = record { key = m.key; number = n; energies = m.energies; prices = m.prices }
 
--- "registering adds the unit; a notice replaces its earlier one; lodging drops any lodgement of its key, enters its own
+-- "registering adds the unit", with the rights of its agent and side; "a notice replaces its earlier one; lodging drops any lodgement of its key, enters its own
 -- under the next number [..]; annulling drops the key's lodgement"
 unfoldable pub applied : Book → Call → Book
-applied b (register u) = with_units b (b.units ++ (record { unit = u; available = none } ∷ []))
+applied b (register u) = with_units b (b.units ++ (record { unit = u; available = none; rights = rights_on_side b.units u } ∷ []))
 applied b (capacity cs) = with_capacities b cs
 applied b (available n es) = with_units b (map (notify n es) b.units)
+applied b (rights agent purchase es) = with_units b (map (grant agent purchase es) b.units)
 applied b (lodge bytes) =
     let m = message_of bytes in
     with_standing b (without m.key b.standing ++ (entry m (suc b.last) ∷ [])) (suc b.last)
@@ -159,6 +185,7 @@ unfoldable pub reply : Book → Call → Answer
 reply b (register u) = done
 reply b (capacity cs) = done
 reply b (available n es) = done
+reply b (rights agent purchase es) = done
 reply b (lodge bytes) = numbered (suc b.last)
 reply b (annul k) = done
 reply b close = done
@@ -197,5 +224,5 @@ unfoldable pub opening : Date → Effect
 opening d = opened_with d (first_row (date_row d ∷ []))
 
 unfoldable pub unfold_day_book : Unit {0}
-unfolding change_row unregistered bad_holder is_second units_full full gate_row lodge_rows call_rows rows_of with_units with_capacities with_standing with_stage notify entry applied reply effect_of effect after answers opened_with opening
+unfolding change_row unregistered bad_holder is_second no_french is_partner no_partner units_full full gate_row lodge_rows call_rows rows_of with_units with_capacities with_standing with_stage notify grant rights_on_side entry applied reply effect_of effect after answers opened_with opening
 unfold_day_book = tt

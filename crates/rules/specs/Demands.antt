@@ -51,8 +51,7 @@ pub record Over (H : ℕ) (energies : List ℕ) (load top : ℕ → ℕ) (h : �
 abbrev pub Passes : Book → Lodgement → ℕ → Type 0
 Passes b l h = Over (hours b) l.energies (energy_with b l) (ceiling_of b l.key.unit) h
 
--- "The lowest applicable number is given, and for 10 to 12 the lowest hour in which that limit is passed": of some limits
--- n is the number of the first that is passed in an hour of 1 to H, and h the lowest such hour
+-- "for 10 to 12 the lowest hour in which that limit is passed"; K1: 15 too, and "Places, not numbers, now give the order": of some limits n is the number of the first that is passed in an hour of 1 to H, and h the lowest such hour
 pub data Chosen {A : Type 0} (number : A → ℕ) (H : ℕ) (passed : A → ℕ → Bool) (n h : ℕ) : List A → Type 0 where
   first-passed : {l : A} {ls : List A} → number l ≡ n → 1 ≤ h → h ≤ H → passed l h ≡ true
       → ((k : ℕ) → 1 ≤ k → k < h → passed l k ≡ false) → Chosen number H passed n h (l ∷ ls)

@@ -64,7 +64,7 @@ day_of p queries = record { answers = p.answers; shown = map (query p.book) quer
 
 -- 11 and 12 stand in hour 1 of 2006-06-01.
 abbrev unit : ℕ → ℕ → Bool → Call
-unit n border purchase = register (record { number = n; agent = n; border = border; purchase = purchase; maximum = 99999; legacy = false })
+unit n border purchase = register (record { number = n; agent = n; border = border; purchase = purchase; maximum = 99999; legacy = false; rights = false })
 
 abbrev first_hour : Bool → ℕ → ℕ → ℕ → ℕ → Call
 first_hour execution u contract e p =

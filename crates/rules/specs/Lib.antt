@@ -18,6 +18,7 @@ pub mod Queries
 pub mod DayBook
 pub mod Table
 pub mod Sound
+pub mod Rights
 pub mod Demands
 pub mod Figures
 pub mod Rows

@@ -54,7 +54,7 @@ beside standing k = keep (λ l. eqb l.key.unit k.unit && not (beq l.key.executio
 unfoldable pub judged_at : List Lodgement → Fields → ℕ → ℕ
 judged_at standing m h = hourly m.energies h + cond m.key.default 0 (sum_of (λ l. energy_at l h) (beside standing m.key))
 
--- "against limits 10, 11, 12", a default one "against 10 only"
+-- "against limits 10, 11, 12", since K1 against 15 too, a default one "against 10 only"
 unfoldable pub judged_by : Lines → Registered → Bool → List Limit
 judged_by ls r true = maximum_limit r ∷ []
 judged_by ls r false = limits ls r

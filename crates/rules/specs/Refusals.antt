@@ -3,7 +3,7 @@ use Rattle.std.specs.Prelude.{ℕ, suc, Bool, cond, not, List, [], ◌∷◌, eq
 use Rattle.std.proofs.Math.Option.{Option, some, none}
 use Rattle.rules.specs.Lists.{lowest}
 
--- A row of the table as it stands for one call: its number, whether it applies and, for 10 to 12, the hour.
+-- A row of the table as it stands for one call: its number, whether it applies and, for a limit passed (10, 11, 12, 15), the hour.
 pub record Row : Type 0 where
   pub number : ℕ
   pub hour : ℕ
@@ -13,18 +13,19 @@ pub record Row : Type 0 where
 unfoldable pub row : ℕ → Bool → Row
 row n b = record { number = n; hour = 0; applies = b }
 
--- "for 10 to 12 the lowest hour in which that limit is passed", of hours 1 to H
+-- "for 10 to 12 the lowest hour in which that limit is passed", of hours 1 to H; K1: 15 too ("lowest hour given")
 unfoldable pub limit_row : ℕ → ℕ → (ℕ → Bool) → Row
 limit_row n H passed = record { number = n; hour = lowest passed H; applies = not (eqb (lowest passed H) 0) }
 
--- "The lowest applicable number is given": rows stand in the table's order, and the first that applies is given.
+-- Rows stand in the table's order, and the first that applies is given. (Document 01: "The lowest applicable number is given"; K1 has instead: "Places, not
+-- numbers, now give the order.")
 unfoldable pub first_row : List Row → Option Row
 first_row [] = none
 first_row (r ∷ rs) = cond r.applies (some r) (first_row rs)
 
--- The table's order: its numbers, row by row.
+-- The table's order: its numbers, row by row. K1: 15 stands "after 12".
 unfoldable pub table_order : List ℕ
-table_order = 1 ∷ 2 ∷ 3 ∷ 4 ∷ 5 ∷ 6 ∷ 7 ∷ 8 ∷ 9 ∷ 10 ∷ 11 ∷ 12 ∷ 13 ∷ 14 ∷ []
+table_order = 1 ∷ 2 ∷ 3 ∷ 4 ∷ 5 ∷ 6 ∷ 7 ∷ 8 ∷ 9 ∷ 10 ∷ 11 ∷ 12 ∷ 15 ∷ 13 ∷ 14 ∷ []
 
 -- the place of a number in an order, counted from 1; after the last for one that is not there
 unfoldable pub place_in : List ℕ → ℕ → ℕ

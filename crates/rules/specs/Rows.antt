@@ -2,7 +2,7 @@
 use Rattle.std.specs.Prelude.{ℕ, ◌≡◌, ◌≤◌, ◌<◌, List, Result, MatchResult, codes}
 use Rattle.rules.specs.declared.row.Row.{Row}
 use Rattle.rules.specs.declared.row.UnknownRow.{UnknownRow}
-use Rattle.rules.specs.declared.row.Row.TheVariants.{Date, Gate, Form, Hour, Range, Unit, Taken, Second, Full, Maximum, Available, Border, Absent, Short}
+use Rattle.rules.specs.declared.row.Row.TheVariants.{Date, Gate, Form, Hour, Range, Unit, Taken, Second, Full, Maximum, Available, Border, Absent, Short, Rights}
 
 abbrev pub number_of : Row → ℕ
 number_of = elim [
@@ -20,6 +20,7 @@ number_of = elim [
   | Border ↦ 12
   | Absent ↦ 13
   | Short ↦ 14
+  | Rights ↦ 15
 ]
 
 abbrev pub word_of : Row → List ℕ
@@ -38,8 +39,9 @@ word_of = elim [
   | Border ↦ codes "border"
   | Absent ↦ codes "absent"
   | Short ↦ codes "short"
+  | Rights ↦ codes "rights"
 ]
 
 -- the row with this number, or the number where the table has no such row
 abbrev pub RowOf : ℕ → Result Row UnknownRow → Type 0
-RowOf n r = MatchResult r (λ row. number_of row ≡ n) (λ e. (e.0 ≡ n) × (1 ≤ n → 14 < n))
+RowOf n r = MatchResult r (λ row. number_of row ≡ n) (λ e. (e.0 ≡ n) × (1 ≤ n → 15 < n))

@@ -1,16 +1,17 @@
--- What holds of every book that opening and the calls leave: units, notices and standing lodgements within document 01's ranges.
-use Rattle.std.specs.Prelude.{ℕ, ◌≤◌, ◌<◌, ◌≡◌, true, false, not, List, eqb, length}
+-- What holds of every book that opening and the calls leave: units, notices and standing lodgements within document 01's ranges,
+-- and what K1 says of rights.
+use Rattle.std.specs.Prelude.{ℕ, ◌≤◌, ◌<◌, ◌≡◌, Bool, true, false, not, List, eqb, length}
 use Rattle.std.proofs.Math.Option.{some, none}
-use Rattle.rules.specs.Lists.{All, Pairwise, hourly}
+use Rattle.rules.specs.Lists.{All, Pairwise, any, hourly}
 use Rattle.rules.specs.Refusals.{given}
 use Rattle.rules.specs.Hours.{is_date}
-use Rattle.rules.specs.Units.{Registered, Published, Capacities, max_energy, bad_unit, same_border_side, unit_of, is_registered}
+use Rattle.rules.specs.Units.{Registered, Published, Capacities, max_energy, bad_unit, same_border_side, french, french_of, unit_of, is_registered}
 use Rattle.rules.specs.Message.{Key, Fields, bad_key, names, top_price, read}
 use Rattle.rules.specs.Lodging.{Lodgement, energy_at, same_key, names_beyond, domestic_execution}
 use Rattle.rules.specs.Book.{Book, hours}
-use Rattle.rules.specs.DayBook.{Call, capacity, entry}
+use Rattle.rules.specs.DayBook.{Call, capacity, is_partner, entry}
 
--- "each is absent, or H energies", each 0 to 99,999: a direction of a capacity notice, or a unit's available energies
+-- "each is absent, or H energies", each 0 to 99,999: a direction of a capacity notice, a unit's available energies, or rights
 pub data OfDay (H : ℕ) : Published → Type 0 where
   absent : OfDay H none
   energies : {es : List ℕ} → length es ≡ H → All (λ e. e ≤ max_energy) es → OfDay H (some es)
@@ -20,12 +21,19 @@ pub record UnitsSound (H : ℕ) (us : List Registered) : Type 0 where
   pub room : length us ≤ 64
   -- no number is registered twice
   pub distinct : Pairwise (λ r s. r.unit.number ≡ s.unit.number → ⊥) us
-  -- "An agent has one unit per border 1 to 4 and side"
+  -- "An agent has one unit per border 1 to 4 and side", of each mark
   pub single : Pairwise (λ r s. same_border_side r.unit s.unit ≡ false) us
   -- each unit's values are within their ranges
   pub ranges : All (λ r. bad_unit r.unit ≡ false) us
   -- "An unavailability notice gives H available energies for one unit"
   pub notices : All (λ r. OfDay H r.available) us
+  -- "A rights notice gives H energies for one agent and side": all French units of the two have the same rights, others, also domestic ones, none
+  pub granted : All (λ r. OfDay H r.rights) us
+  pub agreed : (agent : ℕ) (purchase : Bool)
+      → Pairwise (λ r s. french_of agent purchase r.unit ≡ true → french_of agent purchase s.unit ≡ true → r.rights ≡ s.rights) us
+  pub foreign : All (λ r. french r.unit ≡ false → r.rights ≡ none) us
+  -- a marked unit has its partner (that this was there before, "once its unit without them exists", is row 15)
+  pub partnered : All (λ r. r.unit.rights ≡ true → any (is_partner r.unit.agent r.unit.purchase) us ≡ true) us
 
 -- lodgements by rising number
 abbrev pub Numbered : List Lodgement → Type 0

@@ -1,6 +1,6 @@
--- "When the gate says no", of everything that the gate can be asked: its rows stand in the table's order, and it is refused by the
--- first row of the table that applies.
-use Rattle.std.specs.Prelude.{ℕ, ◌≤◌, ◌<◌, ◌≡◌, true, List, [], ◌∷◌, length}
+-- "When the gate says no", of everything that the gate can be asked: its rows stand in the table's order, it is refused by the first of them that
+-- applies, and it is refused where one applies.
+use Rattle.std.specs.Prelude.{ℕ, ◌≤◌, ◌<◌, ◌≡◌, true, false, List, [], ◌∷◌, length}
 use Rattle.rules.specs.Lists.{All, Some, Pairwise}
 use Rattle.rules.specs.Refusals.{Row, table_order, place_of, refused}
 use Rattle.rules.specs.Hours.{Date, Clock, date_row, hours_at, clock_rows, clock_at, hour_rows, hour_at}
@@ -16,23 +16,24 @@ pub record Ordered (rows : List Row) : Type 0 where
   pub known : All (λ r. place_of r ≤ length table_order) rows
   pub rising : Pairwise (λ q r. place_of q < place_of r) rows
 
--- "The lowest applicable number is given", and its hour: it is of a row that applies, and no row that applies stands before it in the table
+-- Refused by a number and its hour: they are of a row that applies, and no row that applies stands before it in the table. (Document 01: "The lowest
+-- applicable number is given"; K1 has instead: "Places, not numbers, now give the order.")
 pub record RefusedBy (rows : List Row) (n h : ℕ) : Type 0 where
   pub given : Row
   pub number : given.number ≡ n
   pub hour : given.hour ≡ h
   pub among : Some (λ r. r ≡ given) rows
   pub applies : given.applies ≡ true
-  pub lowest : All (λ r. r.applies ≡ true → place_of given ≤ place_of r) rows
+  pub first : All (λ r. r.applies ≡ true → place_of given ≤ place_of r) rows
 
 -- a call or query with its rows; `Refused n h` says that it is refused by number n and hour h
 pub record Refuses (rows : List Row) (Refused : ℕ → ℕ → Type 0) : Type 0 where
   pub ordered : Ordered rows
-  pub lowest : (n h : ℕ) → Refused n h → RefusedBy rows n h
+  pub first : (n h : ℕ) → Refused n h → RefusedBy rows n h
+  -- and what is not refused breaks no rule
+  pub unrefused : ((n h : ℕ) → Refused n h → ⊥) → All (λ r. r.applies ≡ false) rows
 
 pub record InTableOrder : Type 0 where
-  -- the table's rows are numbered by their order, so that the first in the table has the lowest number
-  pub numbers : Pairwise ◌<◌ table_order
   -- opening, and the questions about a date
   pub opens : (d : Date) → Refuses (date_row d ∷ []) (λ n h. (opening d).answer ≡ refusal n h)
   pub hours : (d : Date) → Refuses (date_row d ∷ []) (λ n h. hours_at d ≡ refused n h)
@@ -41,7 +42,7 @@ pub record InTableOrder : Type 0 where
   -- reader and writer
   pub reading : (bytes : List ℕ) → Refuses (read_rows bytes) (λ n h. read bytes ≡ refused n h)
   pub writing : (room : ℕ) (m : Fields) → Refuses (write_rows room m) (λ n h. write room m ≡ refused n h)
-  -- "A call that breaks a rule is refused by the lowest number that applies", and so is a query
+  -- "A call that breaks a rule is refused", and so is a query
   pub calls : (b : Book) (c : Call) → Refuses (rows_of b c) (λ n h. (effect b c).answer ≡ refusal n h)
   pub queries : (b : Book) (q : Query) → Refuses (query_rows b q) (λ n h. query b q ≡ refused n h)
   -- a verdict's limits ("chosen as below"): `Chosen` of specs/Demands.antt says that the first is given

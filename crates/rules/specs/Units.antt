@@ -1,4 +1,4 @@
--- "Units and notices": units, capacity and unavailability notices, the limits and the ceiling.
+-- "Units and notices": units, their notices, the limits and the ceiling.
 use Rattle.std.specs.Prelude.{ℕ, ◌+◌, ◌*◌, ◌-◌, min, Bool, true, false, cond, not, ◌&&◌, ◌||◌, List, [], ◌∷◌, ◌++◌, map, ltb, eqb, length, get_or}
 use Rattle.std.specs.Bool.{beq}
 use Rattle.std.proofs.Math.Option.{Option, some, none}
@@ -24,20 +24,29 @@ pub record TradingUnit : Type 0 where
   pub purchase : Bool
   pub maximum : ℕ
   pub legacy : Bool  -- "a legacy mark for contracts older than Law 54/97"
+  pub rights : Bool  -- marked "with rights"
 
 unfoldable pub domestic : TradingUnit → Bool
 domestic u = eqb u.border 0
 
--- 5, range: "a value outside its range, or a legacy mark on a domestic unit"
+unfoldable pub french : TradingUnit → Bool
+french u = eqb u.border 1
+
+-- 5, range: "a value outside its range, or a legacy mark on a domestic unit"; K1: "a mark on a unit of another border as 5"
 unfoldable pub bad_unit : TradingUnit → Bool
 bad_unit u =
     bad_number u.number || bad_number u.agent || ltb 4 u.border || ltb max_energy u.maximum
-    || (u.legacy && domestic u)
+    || (u.legacy && domestic u) || (u.rights && not (french u))
 
--- "An agent has one unit per border 1 to 4 and side (001); domestic units are not so limited."
+-- "An agent has one unit per border 1 to 4 and side (001); domestic units are not so limited." K1: "number 8 counts marked and unmarked units apart"
 unfoldable pub same_border_side : TradingUnit → TradingUnit → Bool
 same_border_side u v =
     not (domestic u) && eqb u.agent v.agent && eqb u.border v.border && beq u.purchase v.purchase
+    && beq u.rights v.rights
+
+-- a French unit of this agent and side
+unfoldable pub french_of : ℕ → Bool → TradingUnit → Bool
+french_of agent purchase u = french u && eqb u.agent agent && beq u.purchase purchase
 
 -- "each is absent, or H energies": one direction of a capacity notice, by hour
 abbrev pub Published : Type 0
@@ -71,15 +80,23 @@ unfoldable pub bad_published : Published → Bool
 bad_published none = false
 bad_published (some es) = bad_energies es
 
--- A registered unit with its last unavailability notice: "H available energies for one unit"
+-- A registered unit with its last notice, "H available energies for one unit", and its agent's on its side, "H energies for one agent and side"
 pub record Registered : Type 0 where
   pub unit : TradingUnit
   pub available : Option (List ℕ)
+  pub rights : Option (List ℕ)  -- of a French unit, its agent's rights on its side, as last accepted (`RightsLast` of Rights.antt)
 
 -- "without one, the maximum is available"
 unfoldable pub available_at : Registered → ℕ → ℕ
 available_at r h = elim r.available [
   | none ↦ r.unit.maximum
+  | some es ↦ hourly es h
+]
+
+-- "without a notice they are 0"
+unfoldable pub rights_at : Registered → ℕ → ℕ
+rights_at r h = elim r.rights [
+  | none ↦ 0
   | some es ↦ hourly es h
 ]
 
@@ -109,13 +126,26 @@ available_limit r = record { number = 11; at = λ h. some (available_at r h) }
 unfoldable pub own_limits : Registered → List Limit
 own_limits r = maximum_limit r ∷ available_limit r ∷ []
 
--- "at a border with both directions published, the sum of the two capacities (limit 12)"
-unfoldable pub border_limit : Lines → Registered → Limit
-border_limit ls r = record { number = 12; at = λ h. border_sum ls.capacities r.unit.border h }
+-- "lessened by them, never below 0"
+unfoldable pub lessened : ℕ → Option ℕ → Option ℕ
+lessened n none = none
+lessened n (some s) = some (s - n)
 
--- those that it has by the lines at its border
+-- "at a border with both directions published, the sum of the two capacities (limit 12)"; K1: "An unmarked one's border sum is
+-- lessened by them": an unmarked French one's, since others have no rights (`foreign` of Sound.antt)
+unfoldable pub border_limit : Lines → Registered → Limit
+border_limit ls r = record {
+  number = 12;
+  at = λ h. lessened (cond r.unit.rights 0 (rights_at r h)) (border_sum ls.capacities r.unit.border h);
+}
+
+-- "A marked unit's ceiling takes in the agent's rights" (limit 15)
+unfoldable pub rights_limit : Registered → Limit
+rights_limit r = record { number = 15; at = λ h. cond r.unit.rights (some (rights_at r h)) none }
+
+-- those that it has by its border, 15 "after 12"
 unfoldable pub border_limits : Lines → Registered → List Limit
-border_limits ls r = border_limit ls r ∷ []
+border_limits ls r = border_limit ls r ∷ rights_limit r ∷ []
 
 -- a unit's limits, in the table's order
 unfoldable pub limits : Lines → Registered → List Limit
@@ -130,7 +160,8 @@ least_of n [] = n
 least_of n (none ∷ ls) = least_of n ls
 least_of n (some l ∷ ls) = min l (least_of n ls)
 
--- "The ceiling of a unit in an hour is the least of" its limits there. ("Ceiling" is document 01's term.)
+-- "The ceiling of a unit in an hour is the least of" its limits there. ("Ceiling" is document 01's term.) K1: "The ceilings that agents are promised
+-- now include this."
 unfoldable pub ceiling : Lines → Registered → ℕ → ℕ
 ceiling ls r h = least_of r.unit.maximum (map (λ l. l.at h) (limits ls r))
 
@@ -139,7 +170,7 @@ unfoldable pub has_number : ℕ → Registered → Bool
 has_number n r = eqb r.unit.number n
 
 abbrev pub nobody : Registered
-nobody = record { unit = record { number = 0; agent = 0; border = 0; purchase = false; maximum = 0; legacy = false }; available = none }
+nobody = record { unit = record { number = 0; agent = 0; border = 0; purchase = false; maximum = 0; legacy = false; rights = false }; available = none; rights = none }
 
 unfoldable pub unit_of : List Registered → ℕ → Registered
 unit_of us n = first (has_number n) nobody us
@@ -148,5 +179,5 @@ unfoldable pub is_registered : List Registered → ℕ → Bool
 is_registered us n = any (has_number n) us
 
 unfoldable pub unfold_units : Unit {0}
-unfolding bad_number domestic bad_unit same_border_side direction capacity_of not_of_hours bad_energies bad_published available_at both_at border_sum maximum_limit available_limit own_limits border_limit border_limits limits passes least_of ceiling has_number unit_of is_registered
+unfolding bad_number domestic french bad_unit same_border_side french_of direction capacity_of not_of_hours bad_energies bad_published available_at rights_at both_at border_sum maximum_limit available_limit own_limits lessened border_limit rights_limit border_limits limits passes least_of ceiling has_number unit_of is_registered
 unfold_units = tt

@@ -22,6 +22,8 @@ pub enum Row {
     Border,
     Absent,
     Short,
+    // In the table after `Border`.
+    Rights,
 }
 
 impl Row {
@@ -60,6 +62,7 @@ impl TryFrom<u32> for Row {
             12 => Ok(Row::Border),
             13 => Ok(Row::Absent),
             14 => Ok(Row::Short),
+            15 => Ok(Row::Rights),
             _ => Err(UnknownRow(number)),
         }
     }
@@ -85,6 +88,7 @@ impl fmt::Display for Row {
             Row::Border => "border",
             Row::Absent => "absent",
             Row::Short => "short",
+            Row::Rights => "rights",
         })
     }
 }
