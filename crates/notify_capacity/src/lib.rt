@@ -66,8 +66,7 @@ fn lay(stored: &mut Notice, p: &Published)
     }
 }
 
-// All directions laid, each where it stands. By index: the proof of a `zip` does not close, since nothing is known of what an adapter of
-// `iter_mut` writes, but for `enumerate`.
+// All directions laid, each where it stands. (By index: DECISIONS.)
 fn lay_all(stored: &mut [Notice; DIRECTIONS], ps: &[Published; DIRECTIONS])
     ensures { stored.new ≡ map direction_as ps.now }
 {

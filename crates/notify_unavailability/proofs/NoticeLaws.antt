@@ -1,13 +1,13 @@
 -- Unavailability notices: each way out.
 use Prim.Native.Nat.{ℕ, ◌≤◌, ◌<◌, min}
 use mathlib.Core.Path.{◌≡◌, refl, sym, ap, ap₂, ◌∙◌}
-use mathlib.Core.Bool.{Bool, true, false, ◌||◌}
+use mathlib.Core.Bool.{Bool, true, false, not, ◌||◌}
 use mathlib.Core.List.{List, [], ◌∷◌, ◌++◌, map}
 use mathlib.Core.Option.{some, none as nothing}
 use native.Mathlib.Omega.{arith}
 use lib.Dec.{eqb}
 use lib.ListN.{take, drop, replicate, length, set, get_or, length-map, length-take}
-use lib.Seq.{set-get_or, take_all}
+use lib.Seq.{take_all}
 use borrow.Author.Tests.{eqb-true, ne_eqb, not-false}
 use Rattle.rules.specs.Lists.{All, none, more, Pairwise, empty, ahead}
 use Rattle.rules.specs.Refusals.{row, first_row}
@@ -20,8 +20,8 @@ use Rattle.rules.proofs.ElementLaws.{pairwise-weaken}
 use Rattle.rules.proofs.RefusalLaws.{accepted-rows}
 use Rattle.rules.proofs.HoursLaws.{hours-most}
 use Rattle.session.specs.Laid.{pad, counted}
-use Rattle.session.specs.Image.{image, Sound, verdicts_in, hours_in, unit_of, notice_of, notice_as, no_notice, no_unit}
-use Rattle.session_changes.specs.Changes.{with_registry, registry_with}
+use Rattle.session.specs.Image.{image, Sound, verdicts_in, hours_in, unit_of, notice_of, rights_of, notice_as, no_notice, no_unit}
+use Rattle.session_changes.specs.Changes.{with_notices, notice_with}
 use Rattle.session_changes.specs.Effects.{done}
 use Rattle.answer.specs.Told.{told, is_refusal, accepted}
 use Rattle.session.specs.Parts.{number_is, index_of, held, JudgesRow, given_by, Entered}
@@ -29,6 +29,7 @@ use Rattle.notify_unavailability.specs.Notices.{over_limit, stored_as, available
 use Rattle.notify_unavailability.specs.declared.Availability.{Availability}
 use Rattle.session.specs.declared.Session.{Session}
 use Rattle.session.specs.declared.Unit.{Unit}
+use Rattle.session.specs.declared.Notice.{Notice}
 use Rattle.session.specs.declared.Holder.{Holder}
 use Rattle.std.specs.declared.option.Option.{Option}
 use Rattle.std.specs.declared.option.Option.TheVariants.{Some, None}
@@ -43,7 +44,7 @@ use Rattle.rules.specs.declared.row.Row as R
 use Rattle.rules.specs.declared.row.Row.TheVariants.{Gate, Hour, Range}
 use Rattle.session.proofs.LaidLaws.{length-counted, any-counted, pad-counted, front-end}
 use Rattle.session.proofs.IndexLaws.{Once}
-use Rattle.session.proofs.ImageLaws.{closed-as, hours-as, enrolled-as, index-as, unit-as, holder-none, holder-registered, holder-at, holder-inside, holder-unit}
+use Rattle.session.proofs.ImageLaws.{closed-as, hours-as, enrolled-as, index-as, holder-none, holder-registered, holder-at, holder-inside}
 use Rattle.session.proofs.StepLaws.{open_row}
 use Rattle.session.proofs.SoundLaws.{open-stage}
 
@@ -108,11 +109,11 @@ module _ (s : Session) (a : Availability) where
 
 -- at most one element passes: to change each that passes is to change the one at its index
 module _ {A B : Type 0} (p : A → Bool) (f : A → B) (h : A → A) (z : B) (same : (x : A) → p x ≡ false → f x ≡ f (h x)) (put : (x : A) → p x ≡ true → z ≡ f (h x)) where
-  others : {xs : List A} → All (λ x. p x ≡ false) xs → map f xs ≡ map f (map h xs)
+  pub others : {xs : List A} → All (λ x. p x ≡ false) xs → map f xs ≡ map f (map h xs)
   others none = refl
   others (more {x} k t) = ap₂ (λ (y : B) (l : List B). y ∷ l) (same x k) (others t)
 
-  set-index : {xs : List A} → Once p xs → index_of p xs < length xs → (rest : List B) → set (map f xs ++ rest) (index_of p xs) z ≡ map f (map h xs) ++ rest
+  pub set-index : {xs : List A} → Once p xs → index_of p xs < length xs → (rest : List B) → set (map f xs ++ rest) (index_of p xs) z ≡ map f (map h xs) ++ rest
   unfolding index_of
   set-index empty k rest = absurd (omega arith)
   set-index (ahead {x} {xs} a o) k rest =
@@ -124,6 +125,11 @@ module _ (n : ℕ) (es : List ℕ) where
   unfolding D.notify
   same_units [] = refl
   same_units (r ∷ rs) = ap (λ (t : List Unit). unit_of r ∷ t) (same_units rs)
+
+  same-rights : (rs : List U.Registered) → map rights_of (map (D.notify n es) rs) ≡ map rights_of rs
+  unfolding D.notify
+  same-rights [] = refl
+  same-rights (r ∷ rs) = ap (λ (t : List Notice). rights_of r ∷ t) (same-rights rs)
 
   -- no number is registered twice
   pub once-numbered : {rs : List U.Registered} → Pairwise (λ r s. r.unit.number ≡ s.unit.number → ⊥) rs → Once (U.has_number n) rs
@@ -139,17 +145,21 @@ module _ (n : ℕ) (es : List ℕ) where
 
   -- a notice in the book is a notice in its image
   available-image : (b : B.Book) → Sound b → b.closed ≡ false → (p : ℕ) → index_of (U.has_number n) b.units ≡ p → p < length b.units
-      → with_registry (image b) (image b).enrolled (image b).units (set (image b).notices p (notice_as (some es))) ≡ image (D.applied b (D.available n es))
+      → with_notices (image b) (set (image b).notices p (notice_as (some es))) ≡ image (D.applied b (D.available n es))
   unfolding image verdicts_in hours_in D.applied D.with_units B.hours
   available-image b sound k p at h =
-      rw (← at, same_units b.units, noticed (once-numbered sound.ranges.units.distinct) (rw (← at) at h), length-map b.units (D.notify n es), k, open-stage b sound k)
+      rw (← at, same_units b.units, same-rights b.units, noticed (once-numbered sound.ranges.units.distinct) (rw (← at) at h), length-map b.units (D.notify n es), k, open-stage b sound k)
 
 -- a count that no row refuses is the day's
-pub count-of-hours : (b : B.Book) (n count : ℕ) (es : List ℕ) → first_row (D.rows_of b (D.available n (counted count es))) ≡ nothing → count ≤ 25
-unfolding D.rows_of D.gate_row D.call_rows row B.hours
-count-of-hours b n count es o =
-    let k = not-false (eqb (length (counted count es)) (B.hours b)) (all_head (all_tail (accepted-rows _ o))) in
+pub count-fits : (b : B.Book) (count : ℕ) (es : List ℕ) → not (eqb (length (counted count es)) (B.hours b)) ≡ false → count ≤ 25
+unfolding B.hours
+count-fits b count es o =
+    let k = not-false (eqb (length (counted count es)) (B.hours b)) o in
     omega (arith, eqb-true (length (counted count es)) (B.hours b) k, length-counted count es, hours-most b.date)
+
+count-of-hours : (b : B.Book) (n count : ℕ) (es : List ℕ) → first_row (D.rows_of b (D.available n (counted count es))) ≡ nothing → count ≤ 25
+unfolding D.rows_of D.gate_row D.call_rows row
+count-of-hours b n count es o = count-fits b count es (all_head (all_tail (accepted-rows _ o)))
 
 -- the index of a unit found is one of those it was looked for among
 module _ (us : List Unit) (n : ℕ) (x : Holder) where
@@ -167,7 +177,7 @@ module _ (us : List Unit) (n : ℕ) (x : Holder) where
 
 -- a notice at the index of the unit found
 pub available-entered : (s : Session) (a : Availability) (x : Holder) → held (take s.enrolled s.units) a.unit ≡ Some x
-    → Entered s (available_in a) (done registry_with s (record { change = record { enrolled = s.enrolled; at = x.at; unit = x.unit; notice = stored_as (take a.count a.energies) }; answer = accepted }))
+    → Entered s (available_in a) (done notice_with s (record { change = record { at = x.at; notice = stored_as (take a.count a.energies) }; answer = accepted }))
 unfolding told is_refusal D.reply D.rows_of D.gate_row D.call_rows
 available-entered s a x h = record {
   book = λ b sound o e.
@@ -178,10 +188,9 @@ available-entered s a x h = record {
       let m = enrolled-as s b e in
       let at = holder-at s b e n x h in
       let inside = holder-inside s b e n x h in
-      let same : x.unit ≡ get_or s.units x.at no_unit = holder-unit s b e n x h ∙ sym (unit-as s b e n x.at at inside no_unit) in
       record {
         answer = refl;
-        session = rw (same, set-get_or s.units x.at no_unit, k, e) (available-image n es b sound early x.at (index-as s b e n ∙ sym at) (omega arith));
+        session = rw (k, e) (available-image n es b sound early x.at (index-as s b e n ∙ sym at) (omega arith));
       };
   fine = refl;
 }

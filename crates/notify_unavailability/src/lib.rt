@@ -12,7 +12,7 @@ use rules::row::Row;
 use rules::{HOURS, bad_number};
 use session::units::holder_of;
 use session::{Effect, Holder, Notice, Session};
-use session_changes::{Call, RegistryChange, Step, run};
+use session_changes::{Call, NoticeChange, Step, run};
 
 // An unavailability notice: `count` available energies of a unit. C hands the count beside the array.
 #[repr(C)]
@@ -55,7 +55,7 @@ pub fn stored_notice(energies: &[u32]) -> Notice
 impl Call for Availability {
     type Found = Holder;
 
-    type Part = RegistryChange;
+    type Part = NoticeChange;
 
     ghost call = { available_in };
 
@@ -76,12 +76,10 @@ impl Call for Availability {
     }
 
     // "a notice replaces its earlier one": the unit stays at its index.
-    fn enter(&self, s: &Session, holder: Holder) -> Step<RegistryChange> {
+    fn enter(&self, s: &Session, holder: Holder) -> Step<NoticeChange> {
         Step {
-            change: RegistryChange {
-                enrolled: s.enrolled,
+            change: NoticeChange {
                 at: holder.at,
-                unit: holder.unit,
                 notice: stored_notice(front(self.count, &self.energies)),
             },
             answer: Response::accepted(),

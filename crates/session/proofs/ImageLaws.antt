@@ -15,7 +15,7 @@ use Rattle.std.proofs.lemmas.Option.{none-some, cond_some}
 use Rattle.rules.proofs.BoolLaws.{both, by_bool}
 use Rattle.rules.proofs.HoursLaws.{hours-most}
 use Rattle.session.specs.Laid.{pad}
-use Rattle.session.specs.Image.{image, unit_of, notice_of, notice_as, lodgement_as, energies_as, no_unit, no_notice, no_lodgement, no_energies, Sound}
+use Rattle.session.specs.Image.{image, unit_of, notice_of, rights_of, notice_as, lodgement_as, energies_as, no_unit, no_notice, no_lodgement, no_energies, Sound}
 use Rattle.session.specs.Parts.{Within, within, number_is, index_of, held}
 use Rattle.session.specs.declared.Holder.{Holder}
 use Rattle.std.specs.Prelude.{Some, None}
@@ -60,9 +60,13 @@ module _ (s : Session) (b : B.Book) (e : s ≡ image b) where
   unfolding image
   enrolled-as = rw e refl
 
+  -- an array with what the units have, at their indices
+  laid-as : {A : Type 0} (of : U.Registered → A) (blank : A) (l : List A) → l ≡ pad 64 blank (map of b.units) → take s.enrolled l ≡ map of b.units
+  laid-as of blank l q = rw (q, ← enrolled-as) (take-pad 64 blank (map of b.units) (length b.units) (sym (length-map b.units of)))
+
   pub units-as : take s.enrolled s.units ≡ map unit_of b.units
   unfolding image
-  units-as = rw e (take-pad 64 no_unit (map unit_of b.units) (length b.units) (sym (length-map b.units unit_of)))
+  units-as = laid-as unit_of no_unit s.units (rw e refl)
 
   -- a search of the array is a search of the list
   pub registered-as : (n : ℕ) → U.is_registered b.units n ≡ any (number_is n) (take s.enrolled s.units)
@@ -83,7 +87,11 @@ module _ (s : Session) (b : B.Book) (e : s ≡ image b) where
 
   pub notices-as : take s.enrolled s.notices ≡ map notice_of b.units
   unfolding image
-  notices-as = rw e (take-pad 64 no_notice (map notice_of b.units) (length b.units) (sym (length-map b.units notice_of)))
+  notices-as = laid-as notice_of no_notice s.notices (rw e refl)
+
+  pub rights-as : take s.enrolled s.rights ≡ map rights_of b.units
+  unfolding image
+  rights-as = laid-as rights_of no_notice s.rights (rw e refl)
 
   pub standing-as : length b.standing ≡ s.standing
   unfolding image
@@ -120,17 +128,21 @@ module _ (s : Session) (b : B.Book) (e : s ≡ image b) where
     within-list : p < length b.units
     within-list = omega (arith, enrolled-as)
 
+    -- what stands there is the unit's
+    stands-as : {A : Type 0} (of : U.Registered → A) (l : List A) → take s.enrolled l ≡ map of b.units → (d : A) → get_or l p d ≡ of (U.unit_of b.units n)
+    stands-as {A} of l q d =
+        sym (get_or-take s.enrolled l p d in_List)
+        ∙ (ap (λ (t : List A). get_or t p d) q
+        ∙ (get_or-map of U.nobody d b.units p within-list ∙ ap of (sym here)))
+
     pub unit-as : (d : Unit) → get_or s.units p d ≡ unit_of (U.unit_of b.units n)
-    unit-as d =
-        sym (get_or-take s.enrolled s.units p d in_List)
-        ∙ (ap (λ (l : List Unit). get_or l p d) units-as
-        ∙ (get_or-map unit_of U.nobody d b.units p within-list ∙ ap unit_of (sym here)))
+    unit-as d = stands-as unit_of s.units units-as d
 
     pub notice-as : (d : Notice) → get_or s.notices p d ≡ notice_of (U.unit_of b.units n)
-    notice-as d =
-        sym (get_or-take s.enrolled s.notices p d in_List)
-        ∙ (ap (λ (l : List Notice). get_or l p d) notices-as
-        ∙ (get_or-map notice_of U.nobody d b.units p within-list ∙ ap notice_of (sym here)))
+    notice-as d = stands-as notice_of s.notices notices-as d
+
+    pub rights-at : (d : Notice) → get_or s.rights p d ≡ rights_of (U.unit_of b.units n)
+    rights-at d = stands-as rights_of s.rights rights-as d
 
   module _ (n : ℕ) where
     abbrev first-at : ℕ

@@ -28,7 +28,7 @@ use Rattle.session.specs.declared.Session.{Session}
 -- What a caller's struct says
 
 abbrev pub unit_in : Unit → U.TradingUnit
-unit_in u = record { number = u.number; agent = u.agent; border = u.border; purchase = u.purchase; maximum = u.maximum; legacy = u.legacy }
+unit_in u = record { number = u.number; agent = u.agent; border = u.border; purchase = u.purchase; maximum = u.maximum; legacy = u.legacy; rights = u.rights }
 
 -- a direction of a capacity notice: "each is absent, or H energies"; how many it has is its own count
 unfoldable pub published_in : Published → U.Published
@@ -47,9 +47,9 @@ abbrev pub date_as : H.Date → Date
 date_as d = record { year = d.year; month = d.month; day = d.day }
 
 abbrev pub unit_as : U.TradingUnit → Unit
-unit_as u = record { number = u.number; agent = u.agent; border = u.border; maximum = u.maximum; purchase = u.purchase; legacy = u.legacy; reserved = 0 }
+unit_as u = record { number = u.number; agent = u.agent; border = u.border; maximum = u.maximum; purchase = u.purchase; legacy = u.legacy; rights = u.rights; reserved = 0 }
 
--- energies of an unavailability notice, or of a published direction
+-- energies of an unavailability notice, of a rights notice, or of a published direction
 unfoldable pub notice_as : Option (List ℕ) → Notice
 notice_as none = record { given = false; reserved = 0; reserved2 = 0; energies = replicate 25 0 }
 notice_as (some es) = record { given = true; reserved = 0; reserved2 = 0; energies = pad 25 0 es }
@@ -59,6 +59,10 @@ unit_of r = unit_as r.unit
 
 abbrev pub notice_of : U.Registered → Notice
 notice_of r = notice_as r.available
+
+-- its agent's rights on its side
+abbrev pub rights_of : U.Registered → Notice
+rights_of r = notice_as r.rights
 
 abbrev pub key_as : M.Key → Key
 key_as k = record { execution = k.execution; default = k.default; reserved = 0; unit = k.unit; contract = k.contract }
@@ -103,7 +107,7 @@ figures_as b h =
 -- blanks
 
 abbrev pub no_unit : Unit
-no_unit = record { number = 0; agent = 0; border = 0; maximum = 0; purchase = false; legacy = false; reserved = 0 }
+no_unit = record { number = 0; agent = 0; border = 0; maximum = 0; purchase = false; legacy = false; rights = false; reserved = 0 }
 
 abbrev pub no_notice : Notice
 no_notice = record { given = false; reserved = 0; reserved2 = 0; energies = replicate 25 0 }
@@ -154,9 +158,10 @@ image b = record {
   verdicts = pad 128 no_verdict (map verdict_as (verdicts_in b));
   figures = pad 25 no_figures (map (figures_as b) (hours_in b));
   reserved2 = 0;
+  rights = pad 64 no_notice (map rights_of b.units);
 }
 
--- What holds of every book that opening and the calls leave: document 01's ranges, and a capacity notice of 4 times 2 directions
+-- What holds of every book that opening and the calls leave: the rules' ranges, and a capacity notice of 4 times 2 directions
 pub record Sound (b : B.Book) : Type 0 where
   pub ranges : R.Sound b
   pub directions : length b.capacities ≡ 8

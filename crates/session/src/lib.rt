@@ -18,7 +18,7 @@ pub mod units;
 // No struct that C holds has padding, which would keep what the memory held before. Where fields leave a gap stands a reserved one: 0 in a
 // session and in every answer, and in what is passed not looked at.
 
-// Number and agent are 1 to 65,535; border is 0 domestic, 1 France, 2 Andorra, 3 Portugal, 4 Morocco.
+// Number and agent are 1 to 65,535; border is 0 domestic, 1 France, 2 Andorra, 3 Portugal, 4 Morocco. `rights` is the mark "with rights".
 #[repr(C)]
 #[derive(Clone, Copy, Default)]
 pub struct Unit {
@@ -28,7 +28,8 @@ pub struct Unit {
     pub maximum: u32,
     pub purchase: bool,
     pub legacy: bool,
-    pub reserved: u16,
+    pub rights: bool,
+    pub reserved: u8,
 }
 
 // A notice that the session keeps, as C has it (a flag in place of an Option): energies by hour, 0 after the last hour.
@@ -103,7 +104,7 @@ pub struct HourFigures {
 
 // As C has it, with arrays and their counts. The first `enrolled` units and the first `standing` lodgements count, these in the order of their numbers.
 // `capacities` are by direction, as an hour's figures. Verdicts stand at the lodgements' indices once closed,
-// figures at the hours' indices once cleared.
+// figures at the hours' indices once cleared. `rights` are those of a French unit's agent on its side, at the unit's index.
 #[repr(C)]
 #[derive(Clone, Copy)]
 pub struct Session {
@@ -123,6 +124,7 @@ pub struct Session {
     pub verdicts: [Verdict; LODGEMENTS],
     pub figures: [HourFigures; HOURS],
     pub reserved2: u32,
+    pub rights: [Notice; UNITS],
 }
 
 // The unit of a number, found once for all that ask about it: its index and itself.
@@ -232,6 +234,7 @@ impl Session {
             verdicts: [no_verdict(); LODGEMENTS],
             figures: [no_figures(); HOURS],
             reserved2: 0,
+            rights: [no_notice(); UNITS],
         }
     }
 
@@ -246,7 +249,7 @@ impl Session {
             && self.last <= Self::MAX_NUMBER
     }
 
-    // A refused call hands the session back. Row and hour are any numbers, as they always were: a `Refusal` has fourteen rows.
+    // A refused call hands the session back. Row and hour are any numbers, since C's fields hold any: a `Refusal` has fifteen rows.
     pub fn refused(self, row: u32, hour: u32) -> Effect
         ensures { result ≡ refused_as self row hour }
     {

@@ -1,5 +1,5 @@
 -- What calls change of a session.
-use Rattle.std.specs.Prelude.{ℕ, zero, suc, ◌≤◌, ◌<◌, Bool, true, List, [], ◌∷◌, set}
+use Rattle.std.specs.Prelude.{ℕ, zero, suc, ◌+◌, ◌≤◌, ◌<◌, Bool, true, List, [], ◌∷◌, set}
 use Rattle.session.specs.declared.Notice.{Notice}
 use Rattle.session.specs.declared.Unit.{Unit}
 use Rattle.session.specs.declared.Lodgement.{Lodgement}
@@ -7,7 +7,10 @@ use Rattle.session.specs.declared.Energies.{Energies}
 use Rattle.session.specs.declared.Verdict.{Verdict}
 use Rattle.session.specs.declared.HourFigures.{HourFigures}
 use Rattle.session.specs.declared.Session.{Session}
+use Rattle.session.specs.Image.{no_notice}
 use Rattle.session_changes.specs.declared.RegistryChange.{RegistryChange}
+use Rattle.session_changes.specs.declared.NoticeChange.{NoticeChange}
+use Rattle.session_changes.specs.declared.RightsChange.{RightsChange}
 use Rattle.session_changes.specs.declared.StandingChange.{StandingChange}
 use Rattle.session_changes.specs.declared.ClosingChange.{ClosingChange}
 use Rattle.session_changes.specs.declared.ClearingChange.{ClearingChange}
@@ -17,8 +20,14 @@ use Rattle.session_changes.specs.declared.ClearingChange.{ClearingChange}
 abbrev pub with_lodgements : Session → ℕ → List Lodgement → List Energies → ℕ → Session
 with_lodgements s n ls es last = record s { standing = n; lodgements = ls; energies = es; last = last }
 
-abbrev pub with_registry : Session → ℕ → List Unit → List Notice → Session
-with_registry s n us ns = record s { enrolled = n; units = us; notices = ns }
+abbrev pub with_registry : Session → ℕ → List Unit → List Notice → List Notice → Session
+with_registry s n us ns rs = record s { enrolled = n; units = us; notices = ns; rights = rs }
+
+abbrev pub with_notices : Session → List Notice → Session
+with_notices s ns = record s { notices = ns }
+
+abbrev pub with_rights : Session → List Notice → Session
+with_rights s rs = record s { rights = rs }
 
 abbrev pub with_verdicts : Session → Bool → List Verdict → Session
 with_verdicts s closed vs = record s { closed = closed; verdicts = vs }
@@ -29,11 +38,18 @@ with_figures s cleared fs = record s { cleared = cleared; figures = fs }
 -- Units and their notices
 
 abbrev pub registry_with : Session → RegistryChange → Session
-registry_with s c = with_registry s c.enrolled (set s.units c.at c.unit) (set s.notices c.at c.notice)
+registry_with s c = with_registry s (c.at + 1) (set s.units c.at c.unit) (set s.notices c.at no_notice) (set s.rights c.at c.rights)
 
--- its index is one of the array
-abbrev pub Placed : RegistryChange → Type 0
-Placed c = c.at < 64
+abbrev pub notice_with : Session → NoticeChange → Session
+notice_with s c = with_notices s (set s.notices c.at c.notice)
+
+abbrev pub rights_with : Session → RightsChange → Session
+rights_with s c = with_rights s (set (set s.rights c.at c.rights) c.also c.rights)
+
+-- its indices are indices of the array
+pub record Granted (c : RightsChange) : Type 0 where
+  pub at : c.at < 64
+  pub also : c.also < 64
 
 -- Standing lodgements
 

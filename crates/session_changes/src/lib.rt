@@ -6,13 +6,15 @@ ghost use Rattle.rules.specs.DayBook as D;
 ghost use Rattle.session.specs.declared.Session.{Session};
 ghost use Rattle.session.specs.Steps.{Met};
 ghost use Rattle.session.specs.Parts.{Within, JudgesRow, Entered};
-ghost use Rattle.session_changes.specs.Changes.{Indexed, Placed, registry_with, standing_with, closed_with, cleared_with};
+ghost use Rattle.session_changes.specs.Changes.{Indexed, Granted, registry_with, notice_with, rights_with, standing_with, closed_with, cleared_with};
 ghost use Rattle.session_changes.specs.Effects.{effect_of, done};
 
 use answer::{Refusal, Response};
 use rules::row::Row;
 use rules::{HOURS, LODGEMENTS};
-use session::{Effect, Energies, HourFigures, Lodgement, Notice, Session, Unit, Verdict};
+use session::{
+    Effect, Energies, HourFigures, Lodgement, Notice, Session, Unit, Verdict, no_notice,
+};
 
 // A part of a session that a call writes.
 pub trait Change: Copy {
@@ -35,24 +37,60 @@ pub struct Step<C> {
     pub answer: Response,
 }
 
-// Units and their notices: a unit and its notice at an index, the count.
+// A unit more: it stands at an index, without a notice, with the rights of its agent and side.
 #[derive(Clone, Copy)]
 pub struct RegistryChange {
-    pub enrolled: usize,
     pub at: usize,
     pub unit: Unit,
-    pub notice: Notice,
+    pub rights: Notice,
 }
 
 impl Change for RegistryChange {
     ghost applied = { registry_with };
 
-    ghost fits = { Placed };
+    ghost fits = { λ c. c.at < 64 };
 
     fn apply(&self, s: &mut Session) {
-        s.enrolled = self.enrolled;
+        s.enrolled = self.at + 1;
         s.units[self.at] = self.unit;
+        s.notices[self.at] = no_notice();
+        s.rights[self.at] = self.rights;
+    }
+}
+
+// The unavailability notice of the unit at an index.
+#[derive(Clone, Copy)]
+pub struct NoticeChange {
+    pub at: usize,
+    pub notice: Notice,
+}
+
+impl Change for NoticeChange {
+    ghost applied = { notice_with };
+
+    ghost fits = { λ c. c.at < 64 };
+
+    fn apply(&self, s: &mut Session) {
         s.notices[self.at] = self.notice;
+    }
+}
+
+// An agent's rights on a side: they stand at the indices of its two French units, one index twice where it has one.
+#[derive(Clone, Copy)]
+pub struct RightsChange {
+    pub at: usize,
+    pub also: usize,
+    pub rights: Notice,
+}
+
+impl Change for RightsChange {
+    ghost applied = { rights_with };
+
+    ghost fits = { Granted };
+
+    fn apply(&self, s: &mut Session) {
+        s.rights[self.at] = self.rights;
+        s.rights[self.also] = self.rights;
     }
 }
 
