@@ -1,10 +1,11 @@
 // The ceilings of units by hour: "the ceiling of a unit in an hour is the least of" its limits.
 #![tactic(auto)]
 
-ghost use Rattle.std.specs.Prelude.{◌≡◌, List, ℕ, ◌<◌, ◌≤◌, length, get_or, map};
-ghost use Rattle.std.specs.List.{range_with_len};
+ghost use Rattle.std.specs.Prelude.{◌≡◌, [], ◌∷◌, List, ℕ, suc, ◌<◌, ◌≤◌, length, get_or};
+ghost use Rattle.rules.specs.Units.{lessened, least_of};
 ghost use Rattle.session.specs.declared.Notice.{Notice};
-ghost use Rattle.close_ceilings.specs.Ceilings.{line_at, LinesOf, line_row, ceiling_in, ceiling_of, CeilingsOf};
+ghost use Rattle.judge_limits.specs.Limits.{limit_at};
+ghost use Rattle.close_ceilings.specs.Ceilings.{LinesOf, line_row, own_in, rights_in, ceiling_in, ceiling_of, CeilingsOf};
 
 use arrayvec::ArrayVec;
 use judge_limits::border_limit;
@@ -12,26 +13,17 @@ use rules::{BORDERS, DIRECTIONS, HOURS, LAST_BORDER, UNITS};
 use session::{Notice, Unit};
 use std::array;
 
-// Limit 12 by border and hour; row 0 is of domestic units.
-pub type Lines = [[u32; HOURS]; BORDERS + 1];
+// The border sums by border and hour, none where limit 12 does not apply; row 0 is of domestic units.
+pub type Lines = [Option<[u64; HOURS]>; BORDERS + 1];
 
-// Limit 12 of a border by hour, cut at what a maximum can be. One that does not apply is as much as any.
-fn capped_line(border: u32, capacities: &[Notice; DIRECTIONS]) -> [u32; HOURS]
-    ensures { result ≡ map (line_at capacities.now border) (range_with_len 0 25) }
-{
-    border_limit(border, capacities)
-        .unwrap_or([u64::MAX; HOURS])
-        .map(|sum| u32::try_from(sum).unwrap_or(u32::MAX))
-}
-
-// Limit 12 by border and hour. A loop, and a cast of its index: `map` over the borders' numbers was tried, and its proof did not close, as
+// The border sums by border and hour. A loop, and a cast of its index: `map` over the borders' numbers was tried, and its proof did not close, as
 // nothing is inferred of a closure that gives an array.
 pub fn lines_of(capacities: &[Notice; DIRECTIONS]) -> Lines
     ensures { LinesOf capacities.now result }
 {
-    let mut lines = [[0; HOURS]; BORDERS + 1];
+    let mut lines = [None; BORDERS + 1];
     for (border, line) in lines.iter_mut().enumerate() {
-        *line = capped_line(border as u32, capacities);
+        *line = border_limit(border as u32, capacities);
     }
     lines
 }
@@ -48,42 +40,86 @@ fn line_row(border: u32) -> usize
     border as usize
 }
 
-// The least of the limits in the hour at index h: "without one, the maximum is available".
-#[tactic(auto, unfolding(crate::specs::Ceilings::ceiling_by))]
-fn ceiling_at(unit: Unit, notice: &Notice, line: &[u32; HOURS], h: usize) -> u32
+// The lesser of limits 10 and 11 in the hour at index h: "without one, the maximum is available".
+#[tactic(auto, unfolding(crate::specs::Ceilings::own_in))]
+fn own_at(maximum: u32, notice: &Notice, h: usize) -> u32
     requires { h < 25 }
-    ensures { result ≡ ceiling_in unit notice.now line.now h }
+    ensures { result ≡ own_in maximum notice.now h }
 {
-    let least = unit.maximum.min(line[h]);
     if notice.given {
-        least.min(notice.energies[h])
+        maximum.min(notice.energies[h])
     } else {
-        least
+        maximum
+    }
+}
+
+// The rights in the hour at index h: "without a notice they are 0".
+#[tactic(auto, unfolding(crate::specs::Ceilings::rights_in))]
+fn rights_at(rights: &Notice, h: usize) -> u32
+    requires { h < 25 }
+    ensures { result ≡ rights_in rights.now h }
+{
+    if rights.given { rights.energies[h] } else { 0 }
+}
+
+// The lesser of a limit and the border sum less what is taken off it, "never below 0". Where there is no sum nothing is lessened.
+fn under_line(limit: u32, line: &Option<[u64; HOURS]>, taken: u32, h: usize) -> u32
+    requires { h < 25 }
+    ensures { result ≡ least_of limit (lessened taken (limit_at line.now (suc h)) ∷ []) }
+{
+    let Some(sums) = line else {
+        return limit;
+    };
+    let left = sums[h].saturating_sub(u64::from(taken));
+    u64::from(limit).min(left) as u32
+}
+
+// The least of the limits in the hour at index h. A marked unit's takes in the rights, beside the whole border sum; an unmarked one's border sum
+// is lessened by them.
+#[tactic(auto, unfolding(crate::specs::Ceilings::ceiling_in))]
+fn ceiling_at(
+    unit: &Unit,
+    notice: &Notice,
+    rights: &Notice,
+    line: &Option<[u64; HOURS]>,
+    h: usize,
+) -> u32
+    requires { h < 25 }
+    ensures { result ≡ ceiling_in unit.now notice.now rights.now line.now h }
+{
+    let own = own_at(unit.maximum, notice, h);
+    let bought = rights_at(rights, h);
+    if unit.rights {
+        under_line(own.min(bought), line, 0, h)
+    } else {
+        under_line(own, line, bought, h)
     }
 }
 
 // A unit's ceiling by hour.
-fn ceilings_at(unit: Unit, notice: &Notice, lines: &Lines) -> [u32; HOURS]
-    ensures { (cs : List Notice) → LinesOf cs lines.now → (h : ℕ) → h < 25 → get_or result h 0 ≡ ceiling_of unit notice.now cs h }
+fn ceilings_at(unit: &Unit, notice: &Notice, rights: &Notice, lines: &Lines) -> [u32; HOURS]
+    ensures { (cs : List Notice) → LinesOf cs lines.now → (h : ℕ) → h < 25 → get_or result h 0 ≡ ceiling_of unit.now notice.now rights.now cs h }
 {
     let line = &lines[line_row(unit.border)];
-    array::from_fn(|h| ceiling_at(unit, notice, line, h))
+    array::from_fn(|h| ceiling_at(unit, notice, rights, line, h))
 }
 
-// The ceilings of units by hour. What it asks of lengths no slice's type has.
+// The ceilings of units by hour. By index: three slices stand side by side. (Lengths: DECISIONS.)
 pub fn ceilings_of(
     units: &[Unit],
     notices: &[Notice],
+    rights: &[Notice],
     lines: &Lines,
 ) -> ArrayVec<[u32; HOURS], UNITS>
     requires few { length units.now ≤ 64 }
     requires noticed { length notices.now ≡ length units.now }
+    requires with_rights { length rights.now ≡ length units.now }
     ensures same_length { length result.items ≡ length units.now }
-    ensures ceilings { (cs : List Notice) → LinesOf cs lines.now → CeilingsOf units.now notices.now cs result.items }
+    ensures ceilings { (cs : List Notice) → LinesOf cs lines.now → CeilingsOf units.now notices.now rights.now cs result.items }
 {
     let mut ceilings = ArrayVec::new();
-    for (unit, notice) in units.iter().zip(notices) {
-        ceilings.push(ceilings_at(*unit, notice, lines));
+    for (p, unit) in units.iter().enumerate() {
+        ceilings.push(ceilings_at(unit, &notices[p], &rights[p], lines));
     }
     ceilings
 }

@@ -36,7 +36,7 @@ fn holder_of(units: &[Unit], firsts: &[Option<usize>; 256], lodgement: &Lodgemen
     index(units, number)
 }
 
-// The index of each lodgement's unit. What it asks of the length no slice's type has.
+// The index of each lodgement's unit. (Lengths: DECISIONS.)
 pub fn holders_of(units: &[Unit], lodgements: &[Lodgement]) -> ArrayVec<Option<usize>, LODGEMENTS>
     requires { length lodgements.now ≤ 128 }
     ensures { result.items ≡ map (holder_of units.now) lodgements.now }

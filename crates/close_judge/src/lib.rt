@@ -13,7 +13,7 @@ ghost use Rattle.close_judge.specs.Classes.{HoldersOf, accepted_for, verdict_by,
 use answer::Refusal;
 use arrayvec::ArrayVec;
 use close_holders::holders_of;
-use judge_limits::{border_limit, judge_energy, limits_of};
+use judge_limits::{border_limits, judge_energy, own_limits, unit_line};
 use rules::LODGEMENTS;
 use session::{Energies, Session, Verdict};
 
@@ -109,15 +109,18 @@ impl<'a> Standing<'a> {
         requires holder { get_or self.now.holders.items at None ≡ Some p }
         requires others { IndicesIn self.now.energies.now others.now }
         ensures { let s = self.now.session.now in let es = self.now.energies.now in let own = (get_or es at bare_energies).energies in
-            said result ≡ judged_in (get_or s.units p no_unit) (get_or s.notices p bare_notice) s.capacities false s.hours own (load_by own es others.now) }
+            said result ≡ judged_in (get_or s.units p no_unit) (get_or s.notices p bare_notice) (get_or s.rights p bare_notice) s.capacities false s.hours own (load_by own es others.now) }
     {
         let session = self.session;
         let unit = &session.units[p];
-        let line = border_limit(unit.border, &session.capacities);
-        let limits = limits_of(unit, &session.notices[p], line, false);
+        let rights = &session.rights[p];
         let own = &self.energies[at].energies;
         let hours = session.hours as usize;
-        judge_energy(&limits, own, self.energies, others, hours)
+        let near = own_limits(unit, &session.notices[p]);
+        judge_energy(&near, own, self.energies, others, hours)?;
+        let line = unit_line(unit, rights, &session.capacities);
+        let far = border_limits(unit, rights, line);
+        judge_energy(&far, own, self.energies, others, hours)
     }
 
     // The verdict of the lodgement at an index, of the unit at index p: "its energy, plus that of those accepted before it on its unit",

@@ -58,7 +58,7 @@ pub struct Closing<'a> {
 
 impl<'a> Closing<'a> {
     // Before the first class: no verdict is given, and all is left. (`Within`: `Session::sound` says why no type has it.) Below, indices are those of
-    // C's arrays, whose bounds no type of an index has.
+    // C's arrays. (Lengths: DECISIONS.)
     pub fn of(session: &'a Session) -> Closing<'a>
         requires { Within session.now }
         ensures session { result.standing.session ≡ session.entry }
@@ -67,8 +67,9 @@ impl<'a> Closing<'a> {
         let standing = Standing::of(session);
         let units = &session.units[..session.enrolled];
         let notices = &session.notices[..session.enrolled];
+        let rights = &session.rights[..session.enrolled];
         let lines = lines_of(&session.capacities);
-        let room = ceilings_of(units, notices, &lines);
+        let room = ceilings_of(units, notices, rights, &lines);
         Closing {
             standing,
             room,

@@ -12,8 +12,8 @@ fn fits(row: &[u32; HOURS], own: &[u32]) -> bool
     own.iter().zip(row).all(|(energy, left)| energy <= left)
 }
 
-// A lodgement that fits is admitted, and takes its energies of the room; else the room stays. No mere test, then. What it asks of the
-// length no slice's type has.
+// A lodgement that fits is admitted, and takes its energies of the room; else the room stays. No mere test, then.
+// (Lengths: DECISIONS.)
 pub fn admits(row: &mut [u32; HOURS], own: &[u32]) -> bool
     requires { length own.now ≤ 25 }
     ensures { Admitted own.now row.old row.new result }
@@ -21,7 +21,7 @@ pub fn admits(row: &mut [u32; HOURS], own: &[u32]) -> bool
     if !fits(row, own) {
         return false;
     }
-    // By index: of what a zip of `iter_mut` has written no element is known, and so the proof did not close.
+    // (By index: DECISIONS.)
     for (h, energy) in own.iter().enumerate() {
         row[h] -= *energy;
     }

@@ -2,21 +2,23 @@
 use Prim.Native.Nat.{ℕ, suc, ◌+◌, ◌≤◌, ◌<◌}
 use mathlib.Core.Path.{◌≡◌, refl, sym, ap, ◌∙◌}
 use mathlib.Core.Bool.{Bool, true, false}
-use mathlib.Core.List.{List, [], ◌∷◌}
+use mathlib.Core.List.{List, [], ◌∷◌, map}
 use native.Mathlib.Omega.{arith}
 use lib.ListN.{length, get_or, take}
 use lib.Seq.{length-take-le, get_or-take}
 use Rattle.rules.specs.Lists.{sum, sum_of, from, hourly}
 use Rattle.rules.specs.Refusals.{first_row}
-use Rattle.rules.specs.Lodging.{judged_by}
+use Rattle.rules.specs.Units.{Limit}
+use Rattle.rules.specs.Lodging.{judged_by, limit_rows}
 use Rattle.session.specs.Bare.{bare_energies}
 use Rattle.session.specs.Parts.{given_by}
 use Rattle.session.specs.declared.Energies.{Energies}
 use Rattle.session.specs.declared.Unit.{Unit}
 use Rattle.session.specs.declared.Notice.{Notice}
 use Rattle.judge_loads.specs.Loads.{marked, energy_in, load_in, energy_at_index, load_by}
-use Rattle.judge_limits.specs.Limits.{registered_in, lines_in, judged_in}
-use Rattle.judge_limits.proofs.NoticeLaws.{rows-load, rows-own}
+use Rattle.judge_limits.specs.Limits.{registered_in, lines_in, judged_in, limit_in, first_passed}
+use Rattle.judge_limits.specs.declared.Limit as Code
+use Rattle.judge_limits.proofs.NoticeLaws.{rows-load}
 
 -- a sum over the indices of those that are marked is one over themselves
 pub sums-indices : (h : ℕ) (f : ℕ → ℕ) (i : ℕ) (bs : List Bool) (es : List Energies)
@@ -38,17 +40,21 @@ load-indices own bs n es h b =
     (ap (λ k. sum_of (energy_at_index es h) (marked bs (from 0 k))) (sym m)
     ∙ sums-indices h (energy_at_index es h) 0 bs (take n es) (λ j k t. let z : 0 + j ≡ j = omega arith in rw (z, get_or-take n es j bare_energies (omega (arith, m)))))
 
--- energies and loads that are the same in every hour are judged as the same
-pub judged-same : (u : Unit) (notice : Notice) (cs : List Notice) (only : Bool) (H : ℕ) (own like : List ℕ) (f g : ℕ → ℕ)
-    → ((h : ℕ) → 1 ≤ h → h ≤ H → hourly own h ≡ hourly like h) → ((h : ℕ) → 1 ≤ h → h ≤ H → f h ≡ g h)
-    → judged_in u notice cs only H own f ≡ judged_in u notice cs only H like g
-unfolding judged_in
-judged-same u notice cs only H own like f g e k =
-    let ls = judged_by (lines_in cs) (registered_in u notice) only in
-    ap (λ rows. given_by (first_row rows)) (rows-own H own like f e ls ∙ rows-load H like f g k ls)
+-- loads that are the same in every hour are judged as the same
+module _ (H : ℕ) (own : List ℕ) (f g : ℕ → ℕ) (same : (h : ℕ) → 1 ≤ h → h ≤ H → f h ≡ g h) where
+  rows-same : (ls : List Limit) → given_by (first_row (limit_rows H own f ls)) ≡ given_by (first_row (limit_rows H own g ls))
+  rows-same ls = ap (λ rows. given_by (first_row rows)) (rows-load H own f g same ls)
+
+  pub passed-same : (ls : List Code.Limit) → first_passed ls H own f ≡ first_passed ls H own g
+  unfolding first_passed
+  passed-same ls = rows-same (map limit_in ls)
+
+  judged-same : (u : Unit) (notice rights : Notice) (cs : List Notice) (only : Bool) → judged_in u notice rights cs only H own f ≡ judged_in u notice rights cs only H own g
+  unfolding judged_in
+  judged-same u notice rights cs only = rows-same (judged_by (lines_in cs) (registered_in u notice rights) only)
 
 -- the judgement by indices is that by marks
-module _ (u : Unit) (notice : Notice) (cs : List Notice) (only : Bool) (H : ℕ) (own ps : List ℕ) (bs : List Bool) (n : ℕ) (es : List Energies) where
+module _ (u : Unit) (notice rights : Notice) (cs : List Notice) (only : Bool) (H : ℕ) (own ps : List ℕ) (bs : List Bool) (n : ℕ) (es : List Energies) where
   pub judged-indices : n ≤ length es → ps ≡ marked bs (from 0 n)
-      → judged_in u notice cs only H own (load_by own es ps) ≡ judged_in u notice cs only H own (load_in own bs (take n es))
-  judged-indices b e = judged-same u notice cs only H own own (load_by own es ps) (load_in own bs (take n es)) (λ h i k. refl) (λ h i k. rw e (load-indices own bs n es h b))
+      → judged_in u notice rights cs only H own (load_by own es ps) ≡ judged_in u notice rights cs only H own (load_in own bs (take n es))
+  judged-indices b e = judged-same H own (load_by own es ps) (load_in own bs (take n es)) (λ h i k. rw e (load-indices own bs n es h b)) u notice rights cs only

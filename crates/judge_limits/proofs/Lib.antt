@@ -1,3 +1,4 @@
+pub mod RightsLaws
 pub mod RowLaws
 pub mod BorderLaws
 pub mod NoticeLaws

@@ -1,14 +1,14 @@
 -- What a caller needs: the judgement by a session's arrays is that by the rules' unit and capacities which they stand for.
 use Prim.Native.Nat.{ℕ, ◌-◌, ◌≤◌}
 use mathlib.Core.Path.{◌≡◌, refl, ap, ap₂, ◌∙◌}
-use mathlib.Core.Bool.{Bool, true, false, not}
+use mathlib.Core.Bool.{Bool, true, false, cond, not}
 use mathlib.Core.List.{List, [], ◌∷◌, map}
 use mathlib.Core.Option.{Option, some, none}
 use lib.Dec.{eqb}
 use lib.ListN.{length, get_or-map}
 use Rattle.rules.specs.Lists.{Each, each0, each, hourly}
 use Rattle.rules.specs.Refusals.{Row, limit_row, first_row}
-use Rattle.rules.specs.Units.{Limit, Registered, Capacities, Lines, Published, direction, capacity_of, both_at, available_at, border_sum, maximum_limit, available_limit, own_limits, border_limit, border_limits, limits}
+use Rattle.rules.specs.Units.{Limit, Registered, Capacities, Lines, Published, direction, capacity_of, both_at, available_at, rights_at, border_sum, lessened, maximum_limit, available_limit, own_limits, border_limit, rights_limit, border_limits, limits}
 use Rattle.rules.specs.Lodging.{passed_at, judged_by, limit_rows}
 use Rattle.rules.proofs.ListLaws.{get_or-pad}
 use Rattle.session.specs.Laid.{pad}
@@ -38,31 +38,28 @@ rows-load H own f g e (l ∷ ls) =
     ap₂ (λ (h : ℕ) (rs : List Row). record { number = l.number; hour = h; applies = not (eqb h 0) } ∷ rs)
     (lowest-same (passed_at own f l) (passed_at own g l) H (λ h a b. rw (e h a b))) (rows-load H own f g e ls)
 
--- and by energies that are
-pub rows-own : (H : ℕ) (own like : List ℕ) (load : ℕ → ℕ) → ((h : ℕ) → 1 ≤ h → h ≤ H → hourly own h ≡ hourly like h) → (ls : List Limit) → limit_rows H own load ls ≡ limit_rows H like load ls
-unfolding limit_rows limit_row passed_at
-rows-own H own like load e [] = refl
-rows-own H own like load e (l ∷ ls) =
-    ap₂ (λ (h : ℕ) (rs : List Row). record { number = l.number; hour = h; applies = not (eqb h 0) } ∷ rs)
-    (lowest-same (passed_at own load l) (passed_at like load l) H (λ h a b. rw (e h a b))) (rows-own H own like load e ls)
-
 module _ (r : Registered) (ls : Lines) where
   abbrev cs : Capacities
   cs = ls.capacities
 
   abbrev here : Registered
-  here = registered_in (unit_as r.unit) (notice_as r.available)
+  here = registered_in (unit_as r.unit) (notice_as r.available) (notice_as r.rights)
 
   abbrev around : Capacities
   around = map notice_in (map notice_as cs)
 
+  notice-as : (m h : ℕ) (a : Option (List ℕ)) → ◌≡◌ {A = ℕ} (elim (notice_in (notice_as a)) [ none ↦ m | some es ↦ hourly es h ]) (elim a [ none ↦ m | some es ↦ hourly es h ])
+  unfolding notice_in notice_as
+  notice-as m h none = refl
+  notice-as m h (some es) = hourly-pad 25 es h
+
   available-as : (h : ℕ) → available_at here h ≡ available_at r h
-  unfolding available_at notice_in notice_as
-  available-as h = go r.available
-    where
-      go : (a : Option (List ℕ)) → ◌≡◌ {A = ℕ} (elim (notice_in (notice_as a)) [ none ↦ r.unit.maximum | some es ↦ hourly es h ]) (elim a [ none ↦ r.unit.maximum | some es ↦ hourly es h ])
-      go none = refl
-      go (some es) = hourly-pad 25 es h
+  unfolding available_at
+  available-as h = notice-as r.unit.maximum h r.available
+
+  rights-as : (h : ℕ) → rights_at here h ≡ rights_at r h
+  unfolding rights_at
+  rights-as h = notice-as 0 h r.rights
 
   direction-as : (b : ℕ) (x : Bool) → capacity_of around b x ≡ notice_in (notice_as (capacity_of cs b x))
   unfolding capacity_of notice_in notice_as
@@ -87,17 +84,21 @@ module _ (r : Registered) (ls : Lines) where
     rows_same (each {x = l} {y = m} e t) = ap₂ (λ (x : Row) (rows : List Row). x ∷ rows) (row_same l m e.0 e.1) (rows_same t)
 
     rows_as : (only : Bool) → limit_rows H own load (judged_by (lines_in (map notice_as cs)) here only) ≡ limit_rows H own load (judged_by ls r only)
-    unfolding judged_by limits own_limits border_limits maximum_limit available_limit border_limit
+    unfolding judged_by limits own_limits border_limits maximum_limit available_limit border_limit rights_limit
     rows_as true = refl
     rows_as false =
-        rows_same (each (refl, λ h. refl) (each (refl, λ h. ap some (available-as h)) (each (refl, λ h. border-as r.unit.border h) each0)))
+        rows_same
+        (each (refl, λ h. refl)
+        (each (refl, λ h. ap some (available-as h))
+        (each (refl, λ h. ap₂ (λ (k : ℕ) (o : Option ℕ). lessened (cond r.unit.rights 0 k) o) (rights-as h) (border-as r.unit.border h))
+        (each (refl, λ h. ap (λ (k : ℕ). cond r.unit.rights (some k) none) (rights-as h)) each0))))
 
-    pub judged-as : (u : Unit) (n : Notice) (ns : List Notice) (only : Bool) → u ≡ unit_as r.unit → n ≡ notice_as r.available → ns ≡ map notice_as cs
-        → judged_in u n ns only H own load ≡ given_by (first_row (limit_rows H own load (judged_by ls r only)))
+    pub judged-as : (u : Unit) (n g : Notice) (ns : List Notice) (only : Bool) → u ≡ unit_as r.unit → n ≡ notice_as r.available → g ≡ notice_as r.rights → ns ≡ map notice_as cs
+        → judged_in u n g ns only H own load ≡ given_by (first_row (limit_rows H own load (judged_by ls r only)))
     unfolding judged_in
-    judged-as u n ns only e f g = rw (e, f, g) (ap (λ rows. given_by (first_row rows)) (rows_as only))
+    judged-as u n g ns only e f k l = rw (e, f, k, l) (ap (λ rows. given_by (first_row rows)) (rows_as only))
 
     -- and by a load that is the same in every hour
-    pub judged-by : (u : Unit) (n : Notice) (ns : List Notice) (only : Bool) (f : ℕ → ℕ) → u ≡ unit_as r.unit → n ≡ notice_as r.available → ns ≡ map notice_as cs
-        → ((h : ℕ) → 1 ≤ h → h ≤ H → load h ≡ f h) → judged_in u n ns only H own load ≡ given_by (first_row (limit_rows H own f (judged_by ls r only)))
-    judged-by u n ns only f e k g same = judged-as u n ns only e k g ∙ ap (λ rows. given_by (first_row rows)) (rows-load H own load f same (judged_by ls r only))
+    pub judged-by : (u : Unit) (n g : Notice) (ns : List Notice) (only : Bool) (f : ℕ → ℕ) → u ≡ unit_as r.unit → n ≡ notice_as r.available → g ≡ notice_as r.rights → ns ≡ map notice_as cs
+        → ((h : ℕ) → 1 ≤ h → h ≤ H → load h ≡ f h) → judged_in u n g ns only H own load ≡ given_by (first_row (limit_rows H own f (judged_by ls r only)))
+    judged-by u n g ns only f e k l m same = judged-as u n g ns only e k l m ∙ ap (λ rows. given_by (first_row rows)) (rows-load H own load f same (judged_by ls r only))

@@ -3,7 +3,7 @@ use Prim.Native.Nat.{ℕ, zero, suc, ◌+◌, ◌-◌, ◌≤◌, ◌<◌}
 use mathlib.Core.Path.{◌≡◌, refl, ap, ap₂, sym, ◌∙◌}
 use mathlib.Core.Bool.{Bool, true, false, cond, not}
 use mathlib.Core.List.{List, [], ◌∷◌, map}
-use mathlib.Core.Option.{some, none}
+use mathlib.Core.Option.{Option, some, none}
 use native.Mathlib.Omega.{arith}
 use lib.Dec.{eqb}
 use lib.ListN.{length, get_or, drop, replicate, get_or-replicate}
@@ -13,21 +13,22 @@ use Rattle.rules.proofs.BoolLaws.{by_bool}
 use Rattle.rules.specs.Lists.{first, from, lowest, hourly}
 use Rattle.rules.specs.Refusals.{Row, limit_row, first_row}
 use Rattle.rules.specs.Rows.{number_of}
-use Rattle.rules.specs.declared.row.Row.TheVariants.{Maximum, Available, Border}
-use Rattle.rules.specs.Units.{Registered, Limit, passes, available_at, border_sum, maximum_limit, available_limit, own_limits, border_limit, border_limits, limits}
+use Rattle.rules.specs.declared.row.Row.TheVariants.{Maximum, Available, Border, Rights}
+use Rattle.rules.specs.Units.{Registered, Limit, passes, available_at, rights_at, border_sum, lessened, maximum_limit, available_limit, own_limits, border_limit, rights_limit, border_limits, limits}
 use Rattle.rules.specs.Lodging.{passed_at, judged_by, limit_rows}
 use Rattle.rules.proofs.LowestLaws.{lowest-none}
 use Rattle.session.specs.declared.Unit.{Unit}
 use Rattle.session.specs.declared.Notice.{Notice}
 use Rattle.session.specs.Parts.{given_by}
 use Rattle.judge_loads.specs.Loads.{hour_at, laid}
-use Rattle.judge_limits.specs.Limits.{notice_in, registered_in, judged_in, limit_at, limit_in, limits_for, first_passed}
+use Rattle.judge_limits.specs.Limits.{notice_in, registered_in, lines_in, taken_off, judged_in, limit_at, limit_in, maximum_limit_for, own_limits_for, border_limits_for, else_by, first_passed}
 use Rattle.judge_limits.specs.declared.Limit as Code
 use Rattle.std.specs.declared.option.Option as O
 use Rattle.std.specs.Prelude.{Some, None}
 use Rattle.std.specs.Option.{unwrap_or}
 use Rattle.std.proofs.lemmas.Option.{none-some}
 use Rattle.judge_loads.proofs.LoadLaws.{and-false}
+use Rattle.judge_limits.proofs.RightsLaws.{border-lessened}
 
 -- tests that agree on each number have the same lowest
 first-same : (p q : ℕ → Bool) (i n : ℕ) → ((k : ℕ) → i ≤ k → k < i + n → p k ≡ q k) → first p 0 (from i n) ≡ first q 0 (from i n)
@@ -42,15 +43,15 @@ lowest-same p q n f = first-same p q 1 n (λ k a b. f k a (omega arith))
 
 -- Limits by hour
 
--- a number that is a limit in every hour of the day
+-- a number that is a limit in every hour of the day; a notice's energies, or such a number
 maximum-hourly : (m h H : ℕ) → H ≤ 25 → 1 ≤ h → h ≤ H → m ≡ hourly (replicate 25 m) h
 unfolding hourly
 maximum-hourly m h H most a b = sym (get_or-replicate 25 (h - 1) m 0 (omega arith))
 
-available-hourly : (t : Bool) (es : List ℕ) (m h H : ℕ) → H ≤ 25 → 1 ≤ h → h ≤ H
+notice-hourly : (t : Bool) (es : List ℕ) (m h H : ℕ) → H ≤ 25 → 1 ≤ h → h ≤ H
     → ◌≡◌ {A = ℕ} (elim (cond t (some es) none) [ none ↦ m | some xs ↦ hourly xs h ]) (hourly (cond t es (replicate 25 m)) h)
-available-hourly true es m h H most a b = refl
-available-hourly false es m h H most a b = maximum-hourly m h H most a b
+notice-hourly true es m h H most a b = refl
+notice-hourly false es m h H most a b = maximum-hourly m h H most a b
 
 module _ (H : ℕ) (own : List ℕ) (load : ℕ → ℕ) where
   -- limits that are the same in every hour are passed first in the same
@@ -65,13 +66,18 @@ module _ (H : ℕ) (own : List ℕ) (load : ℕ → ℕ) where
 
 -- The judgement by a list of limits
 
--- what does not apply is as nothing
-first-alone : (a b c : Row) → b.applies ≡ false → c.applies ≡ false → first_row (a ∷ b ∷ c ∷ []) ≡ first_row (a ∷ [])
-unfolding first_row
-first-alone a b c e f = rw (e, f)
+-- where one of the first two applies, the others are not looked at
+first-parts : (a b : Row) (rs : List Row) → given_by (first_row (a ∷ b ∷ rs)) ≡ else_by (given_by (first_row (a ∷ b ∷ []))) (given_by (first_row rs))
+unfolding first_row given_by else_by
+first-parts a b rs = go a.applies b.applies (first_row rs)
+  where
+    go : (p q : Bool) (o : Option Row) → given_by (cond p (some a) (cond q (some b) o)) ≡ else_by (given_by (cond p (some a) (cond q (some b) none))) (given_by o)
+    go true q o = refl
+    go false true o = refl
+    go false false o = refl
 
-rows-three : {a x b y c z : Row} → a ≡ x → b ≡ y → c ≡ z → first_row (a ∷ b ∷ c ∷ []) ≡ first_row (x ∷ y ∷ z ∷ [])
-rows-three p q r = rw (p, q, r)
+rows-two : {a x b y : Row} → a ≡ x → b ≡ y → first_row (a ∷ b ∷ []) ≡ first_row (x ∷ y ∷ [])
+rows-two p q = rw (p, q)
 
 module _ (H : ℕ) (own : List ℕ) (load : ℕ → ℕ) where
   abbrev row_by : Limit → Row
@@ -131,9 +137,9 @@ module _ (H : ℕ) (own : List ℕ) (load : ℕ → ℕ) where
   unfolding first_passed limit_rows first_row given_by
   at-end ls n e = rw (drop_all n ls e) refl
 
-  module _ (most : H ≤ 25) (u : Unit) (n : Notice) (cs : List Notice) where
+  module _ (most : H ≤ 25) (u : Unit) (n g : Notice) (cs : List Notice) where
     abbrev r : Registered
-    r = registered_in u n
+    r = registered_in u n g
 
     maximum-row : row_by (limit_in (record { row = Maximum; by_hour = Some (replicate 25 u.maximum) })) ≡ row_by (maximum_limit r)
     unfolding maximum_limit limit_at
@@ -141,15 +147,36 @@ module _ (H : ℕ) (own : List ℕ) (load : ℕ → ℕ) where
 
     available-row : row_by (limit_in (record { row = Available; by_hour = Some (cond n.given n.energies (replicate 25 u.maximum)) })) ≡ row_by (available_limit r)
     unfolding available_limit available_at notice_in limit_at
-    available-row = row-same _ _ refl (λ h a b. ap some (sym (available-hourly n.given n.energies u.maximum h H most a b)))
+    available-row = row-same _ _ refl (λ h a b. ap some (sym (notice-hourly n.given n.energies u.maximum h H most a b)))
 
-    -- those of a unit, with the line of its border
-    pub judged-limits : (default : Bool) (line : O.Option (List ℕ)) → ((h : ℕ) → limit_at line h ≡ border_sum (map notice_in cs) u.border h)
-        → first_passed (limits_for u n line default) H own load ≡ judged_in u n cs default H own load
-    unfolding first_passed limits_for limit_rows judged_in judged_by limits own_limits border_limits border_limit limit_at
-    judged-limits true line is =
-        ap given_by (first-alone _ (row_by (limit_in (record { row = Available; by_hour = None }))) (row_by (limit_in (record { row = Border; by_hour = None }))) (row-absent _ none-at) (row-absent _ none-at) ∙ ap (λ (x : Row). first_row (x ∷ [])) maximum-row)
-      where
-        none-at : (h : ℕ) → limit_at None h ≡ none
-        none-at h = refl
-    judged-limits false line is = ap given_by (rows-three maximum-row available-row (row-same _ _ refl (λ h a b. is h)))
+    border-row : (line : O.Option (List ℕ)) → ((h : ℕ) → limit_at line h ≡ lessened (taken_off u g h) (border_sum (map notice_in cs) u.border h))
+        → row_by (limit_in (record { row = Border; by_hour = line })) ≡ row_by (border_limit (lines_in cs) r)
+    unfolding border_limit
+    border-row line is = row-same _ _ refl (λ h a b. is h ∙ sym (border-lessened u n g cs h))
+
+    -- a marked unit's rights; an unmarked one has no such limit
+    rights-row : row_by (limit_in (record { row = Rights; by_hour = cond (not u.rights) None (Some (cond g.given g.energies (replicate 25 0))) })) ≡ row_by (rights_limit r)
+    unfolding rights_limit rights_at notice_in limit_at
+    rights-row = by_bool u.rights (λ t. row-same _ _ refl (λ h a b. rw t (ap some (sym (notice-hourly g.given g.energies 0 h H most a b))))) (λ t. row-same _ _ refl (λ h a b. rw t refl))
+
+    -- a default lodgement's judgement
+    pub default-judged : first_passed (maximum_limit_for u ∷ []) H own load ≡ judged_in u n g cs true H own load
+    unfolding first_passed maximum_limit_for limit_rows judged_in judged_by
+    default-judged = ap (λ (x : Row). given_by (first_row (x ∷ []))) maximum-row
+
+    -- a normal one's, in two parts: the limits that a unit has of its own, and those by its border
+    abbrev by-border : Option (ℕ × ℕ)
+    by-border = given_by (first_row (limit_rows H own load (border_limits (lines_in cs) r)))
+
+    own-parts : judged_in u n g cs false H own load ≡ else_by (first_passed (own_limits_for u n) H own load) by-border
+    unfolding first_passed own_limits_for maximum_limit_for limit_rows judged_in judged_by limits own_limits border_limits
+    own-parts = first-parts _ _ _ ∙ ap (λ (o : Option Row). else_by (given_by o) by-border) (sym (rows-two maximum-row available-row))
+
+    pub own-passed : (q : ℕ × ℕ) → first_passed (own_limits_for u n) H own load ≡ some q → judged_in u n g cs false H own load ≡ some q
+    unfolding else_by
+    own-passed q e = own-parts ∙ rw e refl
+
+    pub own-unpassed : (line : O.Option (List ℕ)) → ((h : ℕ) → limit_at line h ≡ lessened (taken_off u g h) (border_sum (map notice_in cs) u.border h))
+        → first_passed (own_limits_for u n) H own load ≡ none → judged_in u n g cs false H own load ≡ first_passed (border_limits_for u g line) H own load
+    unfolding else_by first_passed border_limits_for limit_rows border_limits
+    own-unpassed line is e = own-parts ∙ rw e (ap given_by (sym (rows-two (border-row line is) rights-row)))

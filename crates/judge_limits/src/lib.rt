@@ -1,11 +1,11 @@
-// The energy of a lodgement by hour, with that of others that are counted, against limits 10, 11 and 12.
+// The energy of a lodgement by hour, with that of others that are counted, against limits 10, 11, 12 and 15.
 #![tactic(auto)]
 
-ghost use Rattle.std.specs.Prelude.{◌≡◌, cond, map, ℕ, ◌+◌, ◌<◌, ◌≤◌, replicate, get_or, length};
-ghost use Rattle.rules.specs.Units.{border_sum};
+ghost use Rattle.std.specs.Prelude.{◌≡◌, cond, map, ℕ, ◌+◌, ◌-◌, ◌<◌, ◌≤◌, replicate, get_or, length};
+ghost use Rattle.rules.specs.Units.{border_sum, lessened};
 ghost use Rattle.judge_loads.specs.Loads.{IndicesIn, load_by};
 ghost use Rattle.session.specs.Parts.{said};
-ghost use Rattle.judge_limits.specs.Limits.{notice_in, limits_for, first_passed, limit_at};
+ghost use Rattle.judge_limits.specs.Limits.{notice_in, taken_off, maximum_limit_for, own_limits_for, border_limits_for, first_passed, limit_at};
 
 use answer::Refusal;
 use judge_loads::lowest_hour;
@@ -56,6 +56,31 @@ pub fn border_limit(border: u32, capacities: &[Notice; DIRECTIONS]) -> Option<[u
     Some(together(&export.energies, &import.energies))
 }
 
+// "lessened by them, never below 0" in each hour.
+fn less(sums: &[u64; HOURS], rights: &[u32; HOURS]) -> [u64; HOURS]
+    ensures left { (h : ℕ) → h < 25 → get_or result h 0 ≡ get_or sums.now h 0 - get_or rights.now h 0 }
+    ensures long { (length result ≡ 25) × (length sums.now ≡ 25) × (length rights.now ≡ 25) }
+{
+    array::from_fn(|h| sums[h].saturating_sub(u64::from(rights[h])))
+}
+
+// Limit 12 of a unit by hour: "An unmarked one's border sum is lessened by" the rights. Where no sum applies nothing is lessened.
+pub fn unit_line(
+    unit: &Unit,
+    rights: &Notice,
+    capacities: &[Notice; DIRECTIONS],
+) -> Option<[u64; HOURS]>
+    ensures { (h : ℕ) → limit_at result h ≡ lessened (taken_off unit.now rights.now h) (border_sum (map notice_in capacities.now) unit.now.border h) }
+{
+    if unit.rights || !rights.given {
+        return border_limit(unit.border, capacities);
+    }
+    let Some(sums) = border_limit(unit.border, capacities) else {
+        return None;
+    };
+    Some(less(&sums, &rights.energies))
+}
+
 // A limit by hour, none where it does not apply, and the row that refuses what passes it.
 #[derive(Clone, Copy)]
 pub struct Limit {
@@ -63,36 +88,54 @@ pub struct Limit {
     pub by_hour: Option<[u64; HOURS]>,
 }
 
-// The limits that energy of a unit is judged by, in the table's order: a default lodgement's "against 10 only". The line is limit 12.
-#[tactic(auto, unfolding(crate::specs::Limits::limits_for))]
-pub fn limits_of(
-    unit: &Unit,
-    notice: &Notice,
-    line: Option<[u64; HOURS]>,
-    default: bool,
-) -> [Limit; 3]
-    ensures { result ≡ limits_for unit.now notice.now line default }
+// "its maximum": all that a default lodgement is judged by, "against 10 only".
+#[tactic(auto, unfolding(crate::specs::Limits::maximum_limit_for))]
+pub fn maximum_limit(unit: &Unit) -> Limit
+    ensures { result ≡ maximum_limit_for unit.now }
 {
-    let maximum = maximum_energies(unit.maximum);
-    let available = available_energies(unit.maximum, notice);
-    [
-        Limit {
-            row: Row::Maximum,
-            by_hour: Some(maximum),
-        },
-        Limit {
-            row: Row::Available,
-            by_hour: if default { None } else { Some(available) },
-        },
-        Limit {
-            row: Row::Border,
-            by_hour: if default { None } else { line },
-        },
-    ]
+    Limit {
+        row: Row::Maximum,
+        by_hour: Some(maximum_energies(unit.maximum)),
+    }
 }
 
-// The first limit that is passed, with the lowest hour in which it is. "The lowest applicable number is given", so the limits after it are not
-// looked at. It asks the same as `lowest_hour`.
+// The limits that a unit has of its own, in the table's order. Energy is judged by these first: where one is passed, those by the border are
+// not laid, which takes longer than the look at them.
+#[tactic(auto, unfolding(crate::specs::Limits::own_limits_for))]
+pub fn own_limits(unit: &Unit, notice: &Notice) -> [Limit; 2]
+    ensures { result ≡ own_limits_for unit.now notice.now }
+{
+    let available = Limit {
+        row: Row::Available,
+        by_hour: Some(available_energies(unit.maximum, notice)),
+    };
+    [maximum_limit(unit), available]
+}
+
+// Those that it has by its border, which come after its own. The line is limit 12. The rights are a marked unit's limit, "without a notice they
+// are 0".
+#[tactic(auto, unfolding(crate::specs::Limits::border_limits_for))]
+pub fn border_limits(unit: &Unit, rights: &Notice, line: Option<[u64; HOURS]>) -> [Limit; 2]
+    ensures { result ≡ border_limits_for unit.now rights.now line }
+{
+    let border = Limit {
+        row: Row::Border,
+        by_hour: line,
+    };
+    let bought = if !unit.rights {
+        None
+    } else {
+        Some(available_energies(0, rights))
+    };
+    let bought = Limit {
+        row: Row::Rights,
+        by_hour: bought,
+    };
+    [border, bought]
+}
+
+// The first limit that is passed, with the lowest hour in which it is. "Places, not numbers, now give the order", and the limits after it are
+// not looked at. It asks the same as `lowest_hour`.
 pub fn judge_energy(
     limits: &[Limit],
     own: &[u32; HOURS],

@@ -26,7 +26,7 @@ pub fn lodge_change(s: &Session, message: &[u8]) -> Result<Step<StandingChange>,
     Ok(enter(s, &p.fields, p.replaces))
 }
 
-// Lodges a message: 2, 3, 4, 5, 6, 9, 10, 11, 12.
+// Lodges a message: 2, 3, 4, 5, 6, 9, 10, 11, 12, 15.
 pub fn lodge(s: Session, message: &[u8]) -> Effect
     ensures { Met s (lodge message.now) result }
 {

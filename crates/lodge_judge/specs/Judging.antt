@@ -36,7 +36,7 @@ unfoldable pub field_rows : Book → ℕ → Fields → List Row → List Row
 field_rows b top m rest =
     row 4 (bad_map m.map || names_beyond (hours b) m.map) ∷ row 5 (bad_fields top m) ∷ row 6 (bad_holder b m.key) ∷ row 9 (full b m.key) ∷ rest
 
--- those are limits 10 to 12
+-- those are limits 10 to 12 and 15
 unfoldable pub last_rows : Book → Fields → List Row
 last_rows b m = limit_rows (hours b) m.energies (judged_at b.standing m) (judged_by (lines_of b) (U.unit_of b.units m.key.unit) m.key.default)
 

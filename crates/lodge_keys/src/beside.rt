@@ -20,8 +20,8 @@ fn is_beside(lodgements: &[Lodgement], key: Key, l: &Lodgement) -> bool
         && (!l.key.default || !is_hidden(lodgements, l.key))
 }
 
-// The indices of those that are counted. "A default lodgement is judged by its own energy." That there are at most 128 is asked, since a
-// slice's type has no length.
+// The indices of those that are counted. "A default lodgement is judged by its own energy."
+// (Lengths: DECISIONS.)
 pub fn beside_of(lodgements: &[Lodgement], key: Key) -> ArrayVec<usize, LODGEMENTS>
     requires { length lodgements.now ≤ 128 }
     ensures { CountedOf (beside_marks lodgements.now key) (length lodgements.now) result.items }
@@ -38,8 +38,8 @@ pub fn beside_of(lodgements: &[Lodgement], key: Key) -> ArrayVec<usize, LODGEMEN
     counted
 }
 
-// A lodgement's energies by hour, added to those of others. The index is the hour's in both arrays: a zip was tried, but nothing is known
-// of what a loop over an adapter of `iter_mut` leaves.
+// A lodgement's energies by hour, added to those of others. The index is the hour's in both arrays.
+// (By index: DECISIONS.)
 fn add(sums: &mut [u64; HOURS], row: &[u32; HOURS])
     requires { Below 128 sums.old }
     ensures added { Added sums.old row.now sums.new }
@@ -50,8 +50,8 @@ fn add(sums: &mut [u64; HOURS], row: &[u32; HOURS])
     }
 }
 
-// The energies by hour of those that are counted, added up: of so few none wraps. Indices are asked to be those of the energies: a list of
-// numbers has no type that tells of which slice.
+// The energies by hour of those that are counted, added up: of so few none wraps. Indices are asked to be those of the energies.
+// (Lengths: DECISIONS.)
 pub fn sums_of(energies: &[Energies], counted: &[usize]) -> [u64; HOURS]
     requires { IndicesIn energies.now counted.now }
     ensures { SumsAt energies.now counted.now result × Below 128 result }

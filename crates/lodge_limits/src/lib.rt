@@ -1,20 +1,20 @@
-// A message's energy, with that of the lodgements counted beside it, against limits 10, 11 and 12. First it is tested whether one is passed at
+// A message's energy, with that of the lodgements counted beside it, against limits 10, 11, 12 and 15. First it is tested whether one is passed at
 // all, by sums; only then the limit and its lowest hour are looked for, among the lodgements.
 #![tactic(auto)]
 
 ghost use Rattle.std.specs.Prelude.{◌≡◌, ◌≤◌};
 ghost use Rattle.session.specs.Parts.{said};
 ghost use Rattle.judge_limits.specs.Limits.{first_passed};
-ghost use Rattle.lodge_keys.specs.Sums.{load_on};
+ghost use Rattle.lodge_keys.specs.Sums.{SumsAt, load_on};
 ghost use Rattle.lodge_pending.specs.Awaiting.{Awaits};
-ghost use Rattle.lodge_limits.specs.Judging.{passed_nowhere, is_clear, judged_for};
+ghost use Rattle.lodge_limits.specs.Judging.{passed_nowhere, is_clear, passed_for, judged_for};
 
 use answer::Refusal;
-use judge_limits::{Limit, border_limit, judge_energy, limits_of};
+use judge_limits::{Limit, border_limits, judge_energy, maximum_limit, own_limits, unit_line};
 use lodge_keys::beside::sums_of;
 use lodge_pending::Pending;
 use rules::HOURS;
-use session::Session;
+use session::{Energies, Session};
 
 // Whether a limit is passed in none of the hours 1 to `hours`, by a lodgement's own energy and a sum. In an hour that it does not name its energy
 // is 0, which passes nothing. The hour is the index in three arrays: two zips would be no plainer. No type says that `hours` is at most 25, here
@@ -47,20 +47,40 @@ fn none_passed(limits: &[Limit], own: &[u32; HOURS], sums: &[u64; HOURS], hours:
     true
 }
 
-// The judgement of a message by the limits of its unit. "The lowest hour in which that limit is passed" is looked for only where one is.
+// The judgement of a message by some limits, with the sums of those that are counted beside it. "The lowest hour in which that limit is passed" is
+// looked for only where one is.
+fn judge_by(s: &Session, p: &Pending, sums: &[u64; HOURS], limits: &[Limit]) -> Result<(), Refusal>
+    requires awaits { Awaits s.now p.now }
+    requires sums { SumsAt s.now.energies p.now.beside.items sums.now }
+    ensures { said result ≡ passed_for s.now p.now limits.now }
+{
+    let own = &p.fields.energies;
+    // As a slice here already: so its length is known where it returns early.
+    let energies: &[Energies] = &s.energies;
+    let counted = p.beside.as_slice();
+    let hours = s.hours as usize;
+    if none_passed(limits, own, sums, hours) {
+        return Ok(());
+    }
+    judge_energy(limits, own, energies, counted, hours)
+}
+
+// The judgement of a message by the limits of its unit: a default one's "against 10 only", another one's by those of the unit's own, then by
+// those that it has by its border.
 pub fn judge(s: &Session, p: &Pending) -> Result<(), Refusal>
     requires { Awaits s.now p.now }
     ensures { said result ≡ judged_for s.now p.now }
 {
     let unit = &p.holder.unit;
-    let own = &p.fields.energies;
-    let counted = p.beside.as_slice();
-    let hours = s.hours as usize;
-    let line = border_limit(unit.border, &s.capacities);
-    let limits = limits_of(unit, &s.notices[p.holder.at], line, p.fields.default);
-    let sums = sums_of(&s.energies, counted);
-    if none_passed(&limits, own, &sums, hours) {
-        return Ok(());
+    let sums = sums_of(&s.energies, p.beside.as_slice());
+    if p.fields.default {
+        let alone = maximum_limit(unit);
+        return judge_by(s, p, &sums, &[alone]);
     }
-    judge_energy(&limits, own, &s.energies, counted, hours)
+    let near = own_limits(unit, &s.notices[p.holder.at]);
+    judge_by(s, p, &sums, &near)?;
+    let rights = &s.rights[p.holder.at];
+    let line = unit_line(unit, rights, &s.capacities);
+    let far = border_limits(unit, rights, line);
+    judge_by(s, p, &sums, &far)
 }
