@@ -8,9 +8,9 @@
  *         cc -Iinclude program.c target/staticlib/libgate.a -o program
  *
  * First:  gate_matches(), false where the archive is of another version than this header.
- * A day:  gate_open, then gate_register, gate_capacity, gate_unavailability, gate_lodge and gate_annul in any order and number (a unit
- *         is registered before it is named), then gate_close, then gate_clear; gate_verdict from closing on, the other queries
- *         from clearing on. A call that comes too early or too late is refused and changes nothing.
+ * A day:  gate_open, then gate_register, gate_capacity, gate_unavailability, gate_rights, gate_lodge and gate_annul in any order and
+ *         number (a unit is registered before it is named), then gate_close, then gate_clear; gate_verdict from closing on, the other
+ *         queries from clearing on. A call that comes too early or too late is refused and changes nothing.
  *
  * Ownership. The caller owns every struct, message and buffer. Nothing is kept after a call returns, nothing is allocated, there
  * is no global state, and nothing is called but memcpy, memmove and memset: no system call, no callback. A session is plain data:
@@ -19,7 +19,7 @@
  * A call uses at most GATE_STACK bytes of the calling thread's stack.
  *
  * What may be passed. Any bytes may be passed as a message, and any numbers as arguments: what is wrong is refused by the table
- * below, the lowest row first. Two things are owed by the caller: a pointer is to what its type says (a message and a buffer
+ * below, its first row first. Two things are owed by the caller: a pointer is to what its type says (a message and a buffer
  * to at least `length` bytes; not NULL, also where a length is 0; neither overlaps the session), and a bool is 0 or 1. The
  * promises are of the sessions that gate_open and the calls leave. A call on any other session returns too, and nothing is promised of
  * its answer.
@@ -48,7 +48,7 @@ extern "C" {
 /* ------------------------------------------------------------------------------------------------ version */
 
 /* Of this header. It rises with each change of a name, a struct or a meaning; a session of one version is not one of another. */
-#define GATE_VERSION 2
+#define GATE_VERSION 3
 
 /* ------------------------------------------------------------------------------------------------ sizes */
 
@@ -79,27 +79,31 @@ enum {
     GATE_NUMBERED = 2, /* a lodgement was accepted; value: its lodging number, 1 to 65,535 */
     GATE_STEPS = 3,    /* the day was cleared; count: the withdrawal steps, summed over the hours */
     GATE_HIDDEN = 4,   /* a verdict: hidden by a normal lodgement */
-    GATE_LIMIT = 5,    /* a verdict: refused at closing; row: the limit, 10 to 12; hour: the lowest in which it is passed */
+    GATE_LIMIT = 5,    /* a verdict: refused at closing; row: the limit, 10 to 12 or 15; hour: the lowest in which it is passed */
     GATE_FIGURE = 6,   /* value: the figure asked for */
     GATE_ABSENT = 7    /* a maximum asked for: none, since the direction has no capacity */
 };
 
-/* The refusal table, "When the gate says no". The lowest row that applies is given, and for 10 to 12 the lowest hour in which
- * that limit is passed; otherwise the hour is 0. */
+/* The refusal table, "When the gate says no". The first row that applies is given, and for 10, 11, 12 and 15 the lowest hour in which
+ * that limit is passed; otherwise the hour is 0. Rows stand in the table as here: 15 after 12. */
 enum {
     GATE_REFUSED_DATE = 1,       /* not a date in the range, 2002-01-01 to 2099-12-31 */
     GATE_REFUSED_GATE = 2,       /* a change after closing; clearing or a verdict before closing; a figure before clearing;
                                     closing or clearing twice */
     GATE_REFUSED_FORM = 3,       /* wrong length, form, kind or filling */
     GATE_REFUSED_HOUR = 4,       /* empty map, hour outside 1 to H, clock name the day lacks, or a notice not of H hours */
-    GATE_REFUSED_RANGE = 5,      /* a value outside its range, or a legacy mark on a domestic unit */
-    GATE_REFUSED_UNIT = 6,       /* unregistered, or domestic for an execution */
+    GATE_REFUSED_RANGE = 5,      /* a value outside its range, a legacy mark on a domestic unit, or a mark "with
+                                    rights" on one that is not at France's border */
+    GATE_REFUSED_UNIT = 6,       /* unregistered, domestic for an execution, or rights of an agent with no French unit of the side */
     GATE_REFUSED_TAKEN = 7,      /* unit number registered */
-    GATE_REFUSED_SECOND = 8,     /* agent has that border (1 to 4) and side */
+    GATE_REFUSED_SECOND = 8,     /* agent has that border (1 to 4) and side; units with rights are counted apart */
     GATE_REFUSED_FULL = 9,       /* 64 units; 128 lodgements and none of this key; 65,535 accepted */
     GATE_REFUSED_MAXIMUM = 10,   /* limit 10 passed: the unit's maximum */
     GATE_REFUSED_AVAILABLE = 11, /* limit 11 passed: its available energy */
-    GATE_REFUSED_BORDER = 12,    /* limit 12 passed: the sum of both capacities of its border, where both are published */
+    GATE_REFUSED_BORDER = 12,    /* limit 12 passed: the sum of both capacities of its border, where both are published; less the
+                                    agent's rights, never below 0, for a French unit without them */
+    GATE_REFUSED_RIGHTS = 15,    /* limit 15 of a unit with rights passed: its agent's rights on its side, 0 without a notice. Of registering
+                                    (hour 0): the agent has no French unit of that side without them */
     GATE_REFUSED_ABSENT = 13,    /* no such key, or lodging number (0 too) not standing at closing */
     GATE_REFUSED_SHORT = 14      /* writer's buffer too small */
 };
@@ -137,7 +141,8 @@ typedef struct GateUnit {
     uint32_t maximum; /* energy */
     bool purchase;    /* false: a sale */
     bool legacy;      /* contracts older than Law 54/97; borders 1 to 4 only */
-    uint16_t reserved;
+    bool rights;      /* with capacity rights; border 1 only, beside the agent's unit of that side without them */
+    uint8_t reserved;
 } GateUnit;
 
 /* An unavailability notice: `count` available energies of a unit, hour 1 first. A count that is not the day's is refused (4). */
@@ -146,6 +151,17 @@ typedef struct GateUnavailability {
     uint32_t unit;
     uint32_t energies[GATE_HOURS];
 } GateUnavailability;
+
+/* A rights notice: `count` energies of an agent's French units of a side, hour 1 first. It replaces the earlier one of the two. */
+typedef struct GateRights {
+    uint32_t agent;
+    bool purchase; /* false: sales */
+    uint8_t reserved;
+    uint16_t reserved2;
+    size_t count;
+    uint32_t energies[GATE_HOURS];
+    uint32_t reserved3;
+} GateRights;
 
 /* A direction of a capacity notice: absent (then count and energies are not looked at), which means no maximum, or `count` energies,
  * hour 1 first, of which 0 is a maximum too. Before the first notice every direction is absent. */
@@ -278,6 +294,7 @@ typedef struct GateSession {
     GateVerdict verdicts[GATE_LODGEMENTS];     /* by the lodgement's index, once closed */
     GateHourFigures figures[GATE_HOURS];           /* hour 1 first, once cleared */
     uint32_t reserved2;
+    GateNotice rights[GATE_UNITS];             /* of its agent and side, at each French unit's index */
 } GateSession;
 
 /* A date's answer, and its fresh session. */
@@ -293,8 +310,9 @@ GATE_ASSERT(sizeof(bool) == 1);
 GATE_ASSERT(sizeof(GateResponse) == 32 && offsetof(GateResponse, value) == 16 && offsetof(GateResponse, count) == 24);
 GATE_ASSERT(sizeof(GateDate) == 12);
 GATE_ASSERT(sizeof(GateClock) == 8 && offsetof(GateClock, second) == 4);
-GATE_ASSERT(sizeof(GateUnit) == 20 && offsetof(GateUnit, maximum) == 12 && offsetof(GateUnit, purchase) == 16 && offsetof(GateUnit, legacy) == 17);
+GATE_ASSERT(sizeof(GateUnit) == 20 && offsetof(GateUnit, maximum) == 12 && offsetof(GateUnit, purchase) == 16 && offsetof(GateUnit, legacy) == 17 && offsetof(GateUnit, rights) == 18);
 GATE_ASSERT(sizeof(GateUnavailability) == 112 && offsetof(GateUnavailability, unit) == 8 && offsetof(GateUnavailability, energies) == 12);
+GATE_ASSERT(sizeof(GateRights) == 120 && offsetof(GateRights, purchase) == 4 && offsetof(GateRights, count) == 8 && offsetof(GateRights, energies) == 16);
 GATE_ASSERT(sizeof(GatePublished) == 112 && offsetof(GatePublished, published) == 8 && offsetof(GatePublished, energies) == 12);
 GATE_ASSERT(sizeof(GateCapacities) == 896);
 GATE_ASSERT(sizeof(GateKey) == 12 && offsetof(GateKey, unit) == 4);
@@ -312,8 +330,9 @@ GATE_ASSERT(offsetof(GateSession, standing) == 8792 && offsetof(GateSession, lod
 GATE_ASSERT(offsetof(GateSession, energies) == 10848 && offsetof(GateSession, last) == 36448);
 GATE_ASSERT(offsetof(GateSession, closed) == 36452 && offsetof(GateSession, cleared) == 36453);
 GATE_ASSERT(offsetof(GateSession, verdicts) == 36456 && offsetof(GateSession, figures) == 37992);
-GATE_ASSERT(sizeof(GateSession) == 53296);
-GATE_ASSERT(sizeof(GateOpening) == 53328 && offsetof(GateOpening, session) == 32);
+GATE_ASSERT(offsetof(GateSession, rights) == 53296);
+GATE_ASSERT(sizeof(GateSession) == 59952);
+GATE_ASSERT(sizeof(GateOpening) == 59984 && offsetof(GateOpening, session) == 32);
 
 /* ------------------------------------------------------------------------------------------------ the archive */
 
@@ -353,17 +372,20 @@ GateWritten gate_write(GateFields fields, uint8_t *buffer, size_t length);
 
 /* Each changes the session in place, or is refused and leaves it as it was. */
 
-/* Registers a unit: accepted. Refused 2, 5, 7, 8, 9. */
+/* Registers a unit: accepted. Refused 2, 5, 7, 8, 9, 15. */
 GateResponse gate_register(GateSession *session, GateUnit unit);
 
 /* Takes an unavailability notice, which replaces the unit's earlier one: accepted. Refused 2, 4, 5, 6. */
 GateResponse gate_unavailability(GateSession *session, GateUnavailability notice);
 
+/* Takes a rights notice, which replaces the earlier one of the agent and side: accepted. Refused 2, 4, 5, 6. */
+GateResponse gate_rights(GateSession *session, GateRights notice);
+
 /* Takes a capacity notice, which replaces the one before it: accepted. Refused 2, 4, 5. */
 GateResponse gate_capacity(GateSession *session, GateCapacities notice);
 
-/* Lodges a message of `length` bytes: numbered, with the next lodging number. Refused 2, 3, 4, 5, 6, 9, 10, 11, 12; 10 to 12 with the
- * hour. */
+/* Lodges a message of `length` bytes: numbered, with the next lodging number. Refused 2, 3, 4, 5, 6, 9, 10, 11, 12, 15; 10, 11, 12 and 15
+ * with the hour. */
 GateResponse gate_lodge(GateSession *session, const uint8_t *message, size_t length);
 
 /* Annuls the lodgement of a key: accepted. Refused 2, 5, 6, 13. */

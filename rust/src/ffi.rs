@@ -83,8 +83,10 @@ pub struct Unit {
     pub purchase: Flag,
     /// The legacy mark.
     pub legacy: Flag,
+    /// The mark "with rights".
+    pub rights: Flag,
     /// Reserved.
-    pub reserved: u16,
+    pub reserved: u8,
 }
 
 /// A lodgement's key.
@@ -137,6 +139,26 @@ pub struct Availability {
     pub unit: u32,
     /// The energies.
     pub energies: [u32; MOST_HOURS],
+}
+
+/// A rights notice.
+#[repr(C)]
+#[derive(Clone, Copy, PartialEq, Eq)]
+pub struct Rights {
+    /// The agent.
+    pub agent: u32,
+    /// Of its purchases.
+    pub purchase: Flag,
+    /// Reserved.
+    pub reserved: u8,
+    /// Reserved.
+    pub reserved2: u16,
+    /// How many energies it has.
+    pub count: usize,
+    /// The energies.
+    pub energies: [u32; MOST_HOURS],
+    /// Reserved.
+    pub reserved3: u32,
 }
 
 /// A message's fields.
@@ -329,6 +351,8 @@ pub struct Session {
     pub figures: [HourFigures; 25],
     /// Reserved.
     pub reserved2: u32,
+    /// The units' rights.
+    pub rights: [Notice; 64],
 }
 
 /// A struct of numbers and flags in which no byte is padding: each pattern of bytes is a value of it.
@@ -373,11 +397,12 @@ plain! {
     Date { year, month, day }
     Clock { name, second, reserved, reserved2 }
     ClockName { row, name, second, reserved, reserved2 }
-    Unit { number, agent, border, maximum, purchase, legacy, reserved }
+    Unit { number, agent, border, maximum, purchase, legacy, rights, reserved }
     Key { execution, default, reserved, unit, contract }
     Published { count, published, reserved, reserved2, energies }
     Capacities { directions }
     Availability { count, unit, energies }
+    Rights { agent, purchase, reserved, reserved2, count, energies, reserved3 }
     Fields { execution, default, reserved, unit, contract, map, energies, prices }
     Reading { row, fields }
     Written { row, reserved, count }
@@ -390,7 +415,7 @@ plain! {
     HourFigures { price, market, bilateral, maxima, matched, executed }
     Session {
         date, hours, enrolled, units, notices, capacities, standing, lodgements, energies, last, closed, cleared, reserved,
-        verdicts, figures, reserved2
+        verdicts, figures, reserved2, rights
     }
 }
 
@@ -408,6 +433,7 @@ mod declared {
         pub fn gate_write(fields: Fields, buffer: *mut u8, length: usize) -> Written;
         pub fn gate_register(session: *mut Session, unit: Unit) -> Response;
         pub fn gate_unavailability(session: *mut Session, notice: Availability) -> Response;
+        pub fn gate_rights(session: *mut Session, notice: Rights) -> Response;
         pub fn gate_capacity(session: *mut Session, notice: Capacities) -> Response;
         pub fn gate_lodge(session: *mut Session, message: *const u8, length: usize) -> Response;
         pub fn gate_annul(session: *mut Session, key: Key) -> Response;
@@ -428,7 +454,7 @@ mod declared {
 // else, and bytes that are there up to their length. The interface asks for nothing more, so none of them has a condition.
 
 /// The version of `include/gate.h` that these declarations are of (`GATE_VERSION` there).
-pub const VERSION: u32 = 2;
+pub const VERSION: u32 = 3;
 
 /// Whether the archive that is linked is of this version, with sessions of this size.
 pub fn matches() -> bool {
@@ -484,6 +510,12 @@ pub fn register(session: &mut Session, unit: Unit) -> Response {
 pub fn unavailability(session: &mut Session, notice: Availability) -> Response {
     // SAFETY: the session is a reference's, lent to this call alone.
     unsafe { declared::gate_unavailability(session, notice) }
+}
+
+/// A rights notice.
+pub fn rights(session: &mut Session, notice: Rights) -> Response {
+    // SAFETY: the session is a reference's, lent to this call alone.
+    unsafe { declared::gate_rights(session, notice) }
 }
 
 /// A capacity notice.
@@ -587,8 +619,9 @@ impl Session {
         for unit in &mut self.units {
             mask(&mut unit.purchase);
             mask(&mut unit.legacy);
+            mask(&mut unit.rights);
         }
-        for notice in self.notices.iter_mut().chain(&mut self.capacities) {
+        for notice in self.notices.iter_mut().chain(&mut self.capacities).chain(&mut self.rights) {
             mask(&mut notice.given);
         }
         for lodgement in &mut self.lodgements {

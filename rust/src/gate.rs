@@ -6,7 +6,7 @@ use crate::types::*;
 
 /// A session of the proved gate: one delivery day from first lodgement to border balances.
 ///
-/// Every call is carried out or refused by the lowest number of document 01's table that applies; a refused call changes
+/// Every call is carried out or refused by the first row of document 01's table that applies; a refused call changes
 /// nothing, and nothing has to be tested before a call. Hours are numbers, 1 to 23, 24 or 25, never clock names. Energies
 /// are tenths of MWh, prices hundredths of a euro per MWh.
 ///
@@ -24,8 +24,8 @@ use crate::types::*;
 /// assert!(Gate::clock(day, 4)?.second);
 ///
 /// let mut gate = Gate::open(day)?;
-/// let plant = Unit { number: 1, agent: 1, border: 0, purchase: false, maximum: 300, legacy: false };
-/// let exporter = Unit { number: 7, agent: 7, border: 1, purchase: true, maximum: 200, legacy: false };
+/// let plant = Unit { number: 1, agent: 1, border: 0, purchase: false, maximum: 300, legacy: false, rights: false };
+/// let exporter = Unit { number: 7, agent: 7, border: 1, purchase: true, maximum: 200, legacy: false, rights: false };
 /// gate.register(plant)?;
 /// gate.register(exporter)?;
 /// assert_eq!(gate.register(plant), Err(Refusal::Taken));
@@ -83,6 +83,8 @@ fn refusal(row: u32, hour: u32) -> Refusal {
         10..=12 => Refusal::Limit { limit: limit(row), hour },
         13 => Refusal::Absent,
         14 => Refusal::Short,
+        15 if hour == 0 => Refusal::Partner,
+        15 => Refusal::Limit { limit: limit(row), hour },
         _ => panic!("the archive refuses with {row}, which the table lacks: it is not of this crate's interface"),
     };
     assert_eq!(refusal.hour(), hour, "an hour beside refusal {row}");
@@ -94,6 +96,7 @@ fn limit(row: u32) -> Limit {
         10 => Limit::Maximum,
         11 => Limit::Available,
         12 => Limit::Border,
+        15 => Limit::Rights,
         _ => panic!("the archive names limit {row}, which the table lacks: it is not of this crate's interface"),
     }
 }
@@ -236,11 +239,11 @@ impl Gate {
         }
     }
 
-    /// Registers a unit. Refused as 2, 5, 7, 8 or 9.
+    /// Registers a unit. Refused as 2, 5, 7, 8, 9 or 15.
     pub fn register(&mut self, unit: Unit) -> Result<(), Refusal> {
-        let Unit { number, agent, border, purchase, maximum, legacy } = unit;
-        let (purchase, legacy) = (purchase.into(), legacy.into());
-        let unit = ffi::Unit { number, agent, border, maximum, purchase, legacy, reserved: 0 };
+        let Unit { number, agent, border, purchase, maximum, legacy, rights } = unit;
+        let (purchase, legacy, rights) = (purchase.into(), legacy.into(), rights.into());
+        let unit = ffi::Unit { number, agent, border, maximum, purchase, legacy, rights, reserved: 0 };
         done(&ffi::register(&mut self.session, unit))
     }
 
@@ -256,7 +259,15 @@ impl Gate {
         done(&ffi::capacity(&mut self.session, ffi::Capacities { directions }))
     }
 
-    /// Lodges a message. Refused as 2, 3, 4, 5, 6, 9, 10, 11 or 12.
+    /// A rights notice of an agent's French units of a side; it replaces the earlier one of the two. Refused as 2, 4, 5 or 6.
+    pub fn rights(&mut self, agent: u32, purchase: bool, energies: &Energies) -> Result<(), Refusal> {
+        let (count, energies) = (energies.count(), *energies.values());
+        let purchase = purchase.into();
+        let notice = ffi::Rights { agent, purchase, reserved: 0, reserved2: 0, count, energies, reserved3: 0 };
+        done(&ffi::rights(&mut self.session, notice))
+    }
+
+    /// Lodges a message. Refused as 2, 3, 4, 5, 6, 9, 10, 11, 12 or 15.
     pub fn lodge(&mut self, message: &[u8]) -> Result<LodgingNumber, Refusal> {
         let response = &ffi::lodge(&mut self.session, message);
         match *response {
@@ -375,6 +386,9 @@ impl Exchange for Gate {
     }
     fn capacity(&mut self, capacities: &Capacities) -> Result<(), Refusal> {
         self.capacity(capacities)
+    }
+    fn rights(&mut self, agent: u32, purchase: bool, energies: &Energies) -> Result<(), Refusal> {
+        self.rights(agent, purchase, energies)
     }
     fn lodge(&mut self, message: &[u8]) -> Result<LodgingNumber, Refusal> {
         self.lodge(message)

@@ -1,11 +1,17 @@
 //! The rehearsal days of `tests/days`, played on the model and on the proved gate: every answer is the stored one.
 //!
-//! The line format is that of `docs/REHEARSAL.md`; lines are read here by a small parser of the tests' own.
+//! The line format is that of `docs/REHEARSAL.md`; lines are read here by a small parser of the tests' own. `DAYS=FOLDER` plays
+//! other days: `tests/models` has the Python model's answers to random lists there, and takes ours to others.
 
-use jeddyspangle::model::Session;
+mod common;
+
+use common::calls::{every_query, Entry, List, Query};
+use common::lists::list;
+use common::{setting, Rng};
+use jeddyspangle::model::{message, Session};
 use jeddyspangle::*;
 use std::fs;
-use std::path::Path;
+use std::path::{Path, PathBuf};
 
 /// A number of one to nine digits.
 fn number(word: &str) -> Option<u32> {
@@ -45,6 +51,10 @@ fn date(word: &str) -> Option<Date> {
 }
 
 fn unit(words: &[&str]) -> Option<Unit> {
+    let (words, rights) = match words {
+        [words @ .., "rights"] => (words, true),
+        _ => (words, false),
+    };
     let (head, legacy) = match words {
         [head @ .., "legacy"] => (head, true),
         _ => (words, false),
@@ -59,6 +69,7 @@ fn unit(words: &[&str]) -> Option<Unit> {
         purchase: *side == "purchase",
         maximum: number(maximum)?,
         legacy,
+        rights,
     })
 }
 
@@ -171,6 +182,9 @@ fn answer<E: Exchange>(session: &mut E, words: &[&str]) -> Option<String> {
         }
         ["register", rest @ ..] => made(session, Call::Register(unit(rest)?)),
         ["capacity", rest @ ..] => made(session, Call::Capacity(&capacities(rest)?)),
+        ["rights", agent, side @ ("sale" | "purchase"), list] => {
+            made(session, Call::Rights(number(agent)?, *side == "purchase", &energies(list)?))
+        }
         ["available", unit, list] => made(session, Call::Available(number(unit)?, &energies(list)?)),
         [kind @ ("offer" | "execution"), rest @ ..] => {
             let (key, hours) = key(*kind == "execution", rest)?;
@@ -234,14 +248,16 @@ fn play<E: Exchange>(day: &str) -> Vec<String> {
 }
 
 fn play_all<E: Exchange>() {
-    let folder = Path::new(env!("CARGO_MANIFEST_DIR")).join("../tests/days");
+    let given = std::env::var_os("DAYS").map(PathBuf::from);
+    let least = if given.is_some() { 1 } else { 28 };
+    let folder = given.unwrap_or_else(|| Path::new(env!("CARGO_MANIFEST_DIR")).join("../tests/days"));
     let mut days: Vec<_> = fs::read_dir(&folder)
         .expect("tests/days of the repository")
         .map(|entry| entry.unwrap().path())
         .filter(|path| path.extension().is_some_and(|extension| extension == "day"))
         .collect();
     days.sort();
-    assert!(days.len() >= 25, "only {} days in {}", days.len(), folder.display());
+    assert!(days.len() >= least, "only {} days in {}", days.len(), folder.display());
     let (mut lines, mut differences) = (0, Vec::new());
     for path in days {
         let stored = fs::read_to_string(path.with_extension("out")).unwrap();
@@ -261,6 +277,65 @@ fn play_all<E: Exchange>() {
     }
     assert!(differences.is_empty(), "{} of {lines} answers differ:\n{}", differences.len(), differences.join("\n"));
     println!("{lines} answers, none differs");
+}
+
+/// A random list as a day. Where it asks every query a part of them is asked, most in a few hours that lodgements name.
+fn told(seed: u64, list: &List) -> Vec<String> {
+    let mut rng = Rng::new(!seed);
+    let mut units: Vec<u32> = Vec::new();
+    let (mut lodged, mut map) = (0, 0);
+    for call in &list.calls {
+        match call {
+            Entry::Register(unit) => units.push(unit.number),
+            Entry::Lodge(bytes) => {
+                lodged += 1;
+                map |= message::read(bytes).map_or(0, |fields| fields.map);
+            }
+            _ => {}
+        }
+    }
+    units.sort_unstable();
+    units.dedup();
+    let named: Vec<u32> = (1..=25).filter(|hour| map >> (25 - hour) & 1 == 1).collect();
+    let near: Vec<u32> = (0..3).filter_map(|_| (!named.is_empty()).then(|| rng.pick(&named))).collect();
+    let mut lines = vec![format!("open {}", list.date)];
+    for call in &list.calls {
+        if !matches!(call, Entry::AskAll) {
+            // A message's fields stand behind it, for readers of a report.
+            lines.push(call.to_string().split("   #").next().unwrap().to_string());
+            continue;
+        }
+        every_query(&units, lodged, |query| {
+            let asked = match query {
+                Query::Verdict(_) => 60,
+                Query::Matched(_, hour) | Query::Executed(_, hour) | Query::Price(hour) if near.contains(&hour) => 50,
+                Query::Market(_, hour) | Query::Bilateral(_, hour) if near.contains(&hour) => 50,
+                Query::MarketMaximum(_, _, hour) | Query::BilateralMaximum(_, _, hour) if near.contains(&hour) => 50,
+                _ => 1,
+            };
+            if rng.chance(asked) {
+                lines.push(query.to_string());
+            }
+            true
+        });
+    }
+    // A number of a line has nine digits at most.
+    lines.iter().map(|line| line.replace(&u32::MAX.to_string(), "999999999")).collect()
+}
+
+/// Random lists as days, with the model's answers, into the folder `TOLD`.
+#[test]
+#[ignore = "tests/models runs it, and asks the Python model the same"]
+fn random_lists_are_told() {
+    let folder = PathBuf::from(std::env::var_os("TOLD").expect("TOLD=FOLDER"));
+    let (first, lists) = (setting("SEED", 0), setting("LISTS", 1_000));
+    for start in (first..first + lists).step_by(100) {
+        let seeds = start..(start + 100).min(first + lists);
+        let day = seeds.flat_map(|seed| told(seed, &list(seed))).collect::<Vec<_>>().join("\n");
+        let path = folder.join(format!("rust-{start:09}.day"));
+        fs::write(path.with_extension("out"), play::<Session>(&day).join("\n") + "\n").unwrap();
+        fs::write(path, day + "\n").unwrap();
+    }
 }
 
 #[test]

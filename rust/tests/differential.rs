@@ -40,7 +40,7 @@ fn random_lists_are_answered_alike() {
 /// 65,535 accepted lodgements, then a replacement, then one of a new key.
 #[test]
 fn numbers_run_out_alike() {
-    let unit = Unit { number: 7, agent: 1, border: 1, purchase: true, maximum: 500, legacy: false };
+    let unit = Unit { number: 7, agent: 1, border: 1, purchase: true, maximum: 500, legacy: false, rights: false };
     let offer = |default| Key { execution: false, default, unit: 7, contract: 0 };
     let message = |key, energy| packed(1, 0, &Fields::of(key).with(4, energy, 100));
     let mut calls = vec![Entry::Register(unit)];

@@ -126,7 +126,7 @@ fn plausible(session: &mut ffi::Session, rng: &mut Rng) {
         energies.energies.iter_mut().for_each(|energy| *energy = rng.below(most));
         energies.prices.iter_mut().for_each(|price| *price = rng.below(18_031));
     }
-    for notice in session.notices.iter_mut().chain(&mut session.capacities) {
+    for notice in session.notices.iter_mut().chain(&mut session.capacities).chain(&mut session.rights) {
         notice.energies.iter_mut().for_each(|energy| *energy = rng.below(most));
     }
 }

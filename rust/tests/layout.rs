@@ -22,8 +22,9 @@ fn mirrors() -> Vec<Layout> {
         layout!("GateResponse" Response { kind, row, hour, reserved, value, count }),
         layout!("GateDate" Date { year, month, day }),
         layout!("GateClock" Clock { name, second, reserved, reserved2 }),
-        layout!("GateUnit" Unit { number, agent, border, maximum, purchase, legacy, reserved }),
+        layout!("GateUnit" Unit { number, agent, border, maximum, purchase, legacy, rights, reserved }),
         layout!("GateUnavailability" Availability { count, unit, energies }),
+        layout!("GateRights" Rights { agent, purchase, reserved, reserved2, count, energies, reserved3 }),
         layout!("GatePublished" Published { count, published, reserved, reserved2, energies }),
         layout!("GateCapacities" Capacities { directions }),
         layout!("GateKey" Key { execution, default as "is_default", reserved, unit, contract }),
@@ -40,7 +41,7 @@ fn mirrors() -> Vec<Layout> {
         layout!("GateHourFigures" HourFigures { price, market, bilateral, maxima, matched, executed }),
         layout!("GateSession" Session {
             date, hours, enrolled, units, notices, capacities, standing, lodgements, energies, last, closed, cleared,
-            reserved, verdicts, figures, reserved2
+            reserved, verdicts, figures, reserved2, rights
         }),
         layout!("GateOpening" Opening { response, session }),
     ]
@@ -128,6 +129,8 @@ fn the_numbers_of_the_header_are_ours() {
         passed(Limit::Available),
         passed(Limit::Border),
         Refusal::Absent,
+        passed(Limit::Rights),
+        Refusal::Partner,
         Refusal::Short,
     ] {
         let name = format!("GATE_REFUSED_{}", refusal.word().to_uppercase());
@@ -141,7 +144,8 @@ fn a_day_runs_on_a_small_stack() {
     use jeddyspangle::*;
     let day = || {
         let mut gate = Gate::open(Date::new(2006, 10, 29)).unwrap();
-        gate.register(Unit { number: 1, agent: 1, border: 1, purchase: true, maximum: 9, legacy: false }).unwrap();
+        gate.register(Unit { number: 1, agent: 1, border: 1, purchase: true, maximum: 9, legacy: false, rights: false })
+            .unwrap();
         gate.capacity(&Capacities::none().with(1, Direction::Export, Energies::flat(5, 25))).unwrap();
         gate.unavailability(1, &Energies::flat(9, 25)).unwrap();
         let key = Key { execution: true, default: false, unit: 1, contract: 3 };

@@ -49,6 +49,9 @@ impl<const FAULT: u8> Exchange for Planted<FAULT> {
     fn capacity(&mut self, capacities: &Capacities) -> Result<(), Refusal> {
         self.session.capacity(capacities)
     }
+    fn rights(&mut self, agent: u32, purchase: bool, energies: &Energies) -> Result<(), Refusal> {
+        self.session.rights(agent, purchase, energies)
+    }
     fn lodge(&mut self, message: &[u8]) -> Result<LodgingNumber, Refusal> {
         self.session.lodge(message)
     }

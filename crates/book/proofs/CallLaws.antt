@@ -1,6 +1,7 @@
 -- Which call a record says, by its kind.
 use Prim.Native.Nat.{ℕ}
 use mathlib.Core.Path.{◌≡◌, refl, ap, sym}
+use mathlib.Core.Bool.{Bool, true, false, cond}
 use mathlib.Core.List.{List}
 use Rattle.rules.specs.Units.{TradingUnit, Capacities}
 use Rattle.rules.specs.Message.{Key}
@@ -12,7 +13,7 @@ use Rattle.session.specs.declared.Session.{Session}
 use Rattle.session.specs.declared.Effect.{Effect}
 use Rattle.book_log.specs.declared.Kind.{Kind}
 use Rattle.book_log.specs.Kinds.{number_of}
-use Rattle.book_log.specs.Calls.{call_of, unit_of, key_of, directions_of, numbers_at}
+use Rattle.book_log.specs.Calls.{call_of, unit_of, key_of, directions_of, mark_at, numbers_at}
 
 pub met-as : (s : Session) (c d : D.Call) (r : Effect) → c ≡ d → Met s c r → Met s d r
 met-as s c d r e m = rw (sym e) m
@@ -22,9 +23,10 @@ pub of-kind : (s : Session) (k n : Kind) (p : List ℕ) (r : Effect) → k ≡ n
 of-kind s k n p r e m = rw e m
 
 module _ (p : List ℕ) where
-  pub call-1 : (u : TradingUnit) → u ≡ unit_of p → D.register u ≡ call_of 1 p
+  pub call-1 : (marked : Bool) (u : TradingUnit) → u ≡ unit_of marked p → D.register u ≡ call_of (cond marked 9 1) p
   unfolding call_of
-  call-1 u e = ap D.register e
+  call-1 false u e = ap D.register e
+  call-1 true u e = ap D.register e
 
   pub call-2 : (cs : Capacities) → cs ≡ directions_of p → D.capacity cs ≡ call_of 2 p
   unfolding call_of
@@ -49,3 +51,8 @@ module _ (p : List ℕ) where
   pub call-7 : D.clear ≡ call_of 7 p
   unfolding call_of
   call-7 = refl
+
+  pub call-8 : (n m : ℕ) (purchase : Bool) (es : List ℕ) → n ≡ word_at p 0 → purchase ≡ mark_at p 4 → m ≡ word_at p 5 → es ≡ numbers_at p 9
+      → D.rights n purchase (counted m es) ≡ call_of 8 p
+  unfolding call_of
+  call-8 n m purchase es x w y z = rw (x, w, y, z)

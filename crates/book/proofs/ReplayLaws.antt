@@ -63,7 +63,9 @@ logged-typed k p =
     (λ c. by_bool (eqb k 4) (λ d. rw (a, b, c, d) (other _ refl))
     (λ d. by_bool (eqb k 5) (λ e. rw (a, b, c, d, e) (other _ refl))
     (λ e. by_bool (eqb k 6) (λ f. rw (a, b, c, d, e, f) (other _ refl))
-    (λ f. rw (a, b, c, d, e, f) (other _ refl)))))))
+    (λ f. by_bool (eqb k 7) (λ g. rw (a, b, c, d, e, f, g) (other _ refl))
+    (λ g. by_bool (eqb k 8) (λ h. rw (a, b, c, d, e, f, g, h) (other _ refl))
+    (λ h. rw (a, b, c, d, e, f, g, h) (other _ refl)))))))))
 
 -- The loop
 

@@ -137,4 +137,4 @@ module _ (b : Book) where
 -- a unit within its ranges has a number in its range
 pub number-good : (r : Registered) → bad_unit r.unit ≡ false → bad_number r.unit.number ≡ false
 unfolding bad_unit
-number-good r h = (neither _ _ (neither _ _ (neither _ _ (neither _ _ h).0).0).0).0
+number-good r h = (neither _ _ (neither _ _ (neither _ _ (neither _ _ (neither _ _ h).0).0).0).0).0

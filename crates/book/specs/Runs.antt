@@ -14,6 +14,8 @@ use Rattle.session.specs.declared.Unit.{Unit}
 use Rattle.session.specs.declared.Key.{Key}
 use Rattle.notify_unavailability.specs.Notices.{available_in}
 use Rattle.notify_unavailability.specs.declared.Availability.{Availability}
+use Rattle.notify_rights.specs.Rights.{rights_in}
+use Rattle.notify_rights.specs.declared.Rights.{Rights}
 use Rattle.notify_capacity.specs.Capacities.{capacity_in}
 use Rattle.notify_capacity.specs.declared.Capacities.{Capacities}
 
@@ -23,6 +25,7 @@ pub data Called (s : Session) : D.Call → Effect → Type 0 where
   registers : (u : Unit) {r : Effect} → Met s (D.register (unit_in u)) r → Called s (D.register (unit_in u)) r
   notifies : (n : Capacities) {r : Effect} → length n.directions ≡ 8 → Met s (capacity_in n) r → Called s (capacity_in n) r
   avails : (n : Availability) {r : Effect} → Met s (available_in n) r → Called s (available_in n) r
+  grants : (n : Rights) {r : Effect} → Met s (rights_in n) r → Called s (rights_in n) r
   lodges : (message : List ℕ) {r : Effect} → Met s (D.lodge message) r → Called s (D.lodge message) r
   annuls : (key : Key) {r : Effect} → Met s (D.annul (key_in key)) r → Called s (D.annul (key_in key)) r
   closes : {r : Effect} → Met s D.close r → Called s D.close r

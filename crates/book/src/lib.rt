@@ -2,7 +2,7 @@
 // calls, `replay_on` from a session: every answer and the session at its end are the day book's, so that a recovery can run on it.
 #![tactic(auto)]
 
-ghost use Rattle.std.specs.Prelude.{length};
+ghost use Rattle.std.specs.Prelude.{cond, length};
 ghost use Rattle.calendar.specs.View.{date_in};
 ghost use Rattle.session.specs.Steps.{Met};
 ghost use Rattle.book_log.specs.Calls.{call_of};
@@ -13,6 +13,7 @@ use answer::Response;
 use book_log::{Kind, answer_word};
 use calendar::Date;
 use notify_capacity::Capacities;
+use notify_rights::Rights;
 use notify_unavailability::Availability;
 use rules::row::Row;
 use session::{Effect, Session};
@@ -43,10 +44,11 @@ struct Head {
 
 // The calls that take more of a record than its bytes, each of its kind.
 
-fn run_register(s: Session, p: &[u8]) -> Effect
-    ensures { Met s (call_of 1 p.now) result }
+// A unit without rights or, where the mark says so, one "with rights".
+fn run_register(s: Session, rights: bool, p: &[u8]) -> Effect
+    ensures { Met s (call_of (cond rights 9 1) p.now) result }
 {
-    register::register(s, book_log::unit_of(p))
+    register::register(s, book_log::unit_of(rights, p))
 }
 
 fn run_capacity(s: Session, p: &[u8]) -> Effect
@@ -67,6 +69,21 @@ fn run_available(s: Session, p: &[u8]) -> Effect
     notify_unavailability::available(s, notice)
 }
 
+fn run_rights(s: Session, p: &[u8]) -> Effect
+    ensures { Met s (call_of 8 p.now) result }
+{
+    let notice = Rights {
+        agent: book_log::number_at(p, 0),
+        purchase: book_log::mark_at(p, 4),
+        reserved: 0,
+        reserved2: 0,
+        count: book_log::number_at(p, 5) as usize,
+        energies: book_log::numbers_at(p, 9),
+        reserved3: 0,
+    };
+    notify_rights::grant(s, notice)
+}
+
 fn run_annul(s: Session, p: &[u8]) -> Effect
     ensures { Met s (call_of 5 p.now) result }
 {
@@ -78,13 +95,15 @@ fn run_call(s: Session, kind: Kind, p: &[u8]) -> Effect
     ensures { Met s (call_of (number_of kind) p.now) result }
 {
     match kind {
-        Kind::Register => run_register(s, p),
+        Kind::Register => run_register(s, false, p),
         Kind::Capacity => run_capacity(s, p),
         Kind::Available => run_available(s, p),
         Kind::Lodge => lodge::lodge(s, p),
         Kind::Annul => run_annul(s, p),
         Kind::Close => close::close(s),
         Kind::Clear => clear::clear(s),
+        Kind::Rights => run_rights(s, p),
+        Kind::RegisterMarked => run_register(s, true, p),
     }
 }
 

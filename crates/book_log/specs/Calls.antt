@@ -1,11 +1,11 @@
 -- The call log: a call's record, and the calls of a log.
-use Rattle.std.specs.Prelude.{ℕ, zero, suc, ◌+◌, ◌*◌, min, Bool, true, cond, not, ◌&&◌, List, [], ◌∷◌, map, eqb, leb, get_or, take, drop, length}
+use Rattle.std.specs.Prelude.{ℕ, zero, suc, ◌+◌, ◌*◌, min, Bool, true, false, cond, not, ◌&&◌, List, [], ◌∷◌, map, eqb, leb, get_or, take, drop, length}
 use Rattle.std.proofs.Math.Option.{some, none}
 use Rattle.rules.specs.Lists.{from}
 use Rattle.rules.specs.Units.{TradingUnit, Published, Capacities}
 use Rattle.rules.specs.Message.{Key}
 use Rattle.rules.specs.Borders.{positive}
-use Rattle.rules.specs.DayBook.{Call, register, capacity, available, lodge, annul, close, clear}
+use Rattle.rules.specs.DayBook.{Call, register, capacity, available, rights, lodge, annul, close, clear}
 use Rattle.message_bits.specs.Bits.{word_at}
 use Rattle.answer.specs.declared.Response.{Response}
 use Rattle.session.specs.Laid.{counted}
@@ -24,15 +24,16 @@ number_in p i k = word_at p (i + k * 4)
 unfoldable pub numbers_at : List ℕ → ℕ → List ℕ
 numbers_at p i = map (number_in p i) (from 0 25)
 
--- number, agent, border, side (1 for a purchase), maximum, legacy mark
-unfoldable pub unit_of : List ℕ → TradingUnit
-unit_of p = record {
+-- number, agent, border, side (1 for a purchase), maximum, legacy mark; the mark "with rights" is the kind's
+unfoldable pub unit_of : Bool → List ℕ → TradingUnit
+unit_of marked p = record {
   number = word_at p 0;
   agent = word_at p 4;
   border = word_at p 8;
   purchase = mark_at p 12;
   maximum = word_at p 13;
   legacy = mark_at p 17;
+  rights = marked;
 }
 
 -- kind (1 for an execution), default mark, unit, contract
@@ -52,7 +53,7 @@ directions_of p = map (direction_in p) (from 0 8)
 -- Records
 
 -- whether the count of bytes that follow is that of the kind: register, capacity, available, lodge (a
--- message of any length), annul, close, clear
+-- message of any length), annul, close, clear, rights, register with the mark
 unfoldable pub is_call : ℕ → ℕ → Bool
 is_call kind size =
     cond (eqb kind 1) (eqb size 18)
@@ -61,18 +62,22 @@ is_call kind size =
     (cond (eqb kind 4) true
     (cond (eqb kind 5) (eqb size 10)
     (cond (eqb kind 6) (eqb size 0)
-    (eqb kind 7 && eqb size 0))))))
+    (cond (eqb kind 7) (eqb size 0)
+    (cond (eqb kind 8) (eqb size 109)
+    (eqb kind 9 && eqb size 18))))))))
 
 -- the call that the bytes say, of a kind and count that `is_call` admits
 unfoldable pub call_of : ℕ → List ℕ → Call
 call_of kind p =
-    cond (eqb kind 1) (register (unit_of p))
+    cond (eqb kind 1) (register (unit_of false p))
     (cond (eqb kind 2) (capacity (directions_of p))
     (cond (eqb kind 3) (available (word_at p 0) (counted (word_at p 4) (numbers_at p 8)))
     (cond (eqb kind 4) (lodge p)
     (cond (eqb kind 5) (annul (key_of p))
     (cond (eqb kind 6) close
-    clear)))))
+    (cond (eqb kind 7) clear
+    (cond (eqb kind 8) (rights (word_at p 0) (mark_at p 4) (counted (word_at p 5) (numbers_at p 9)))
+    (register (unit_of true p)))))))))
 
 -- the bytes that follow a record's head of three: its kind, and their count in two
 unfoldable pub size_of : List ℕ → ℕ

@@ -19,6 +19,8 @@ const UNIT_SIZE: usize = 18;
 
 const NOTICE_SIZE: usize = 108;
 
+const RIGHTS_SIZE: usize = 109;
+
 const KEY_SIZE: usize = 10;
 
 // A capacity notice has eight directions.
@@ -26,7 +28,7 @@ const DIRECTION_SIZE: usize = 105;
 
 const CAPACITY_SIZE: usize = DIRECTIONS * DIRECTION_SIZE;
 
-// What a record calls for. Its numbers are 1 to 7; queries have theirs from 101 on (crates/query_any).
+// What a record calls for. Its numbers are 1 to 9; queries have theirs from 101 on (crates/query_any).
 #[derive(Clone, Copy, Debug, PartialEq, Eq)]
 pub enum Kind {
     Register,
@@ -36,6 +38,9 @@ pub enum Kind {
     Annul,
     Close,
     Clear,
+    Rights,
+    // Of a unit "with rights": 1 stays the record of a unit without them.
+    RegisterMarked,
 }
 
 // A number that is no kind's; a type of its own, as `UnknownRow`.
@@ -56,6 +61,8 @@ impl TryFrom<u8> for Kind {
             5 => Ok(Kind::Annul),
             6 => Ok(Kind::Close),
             7 => Ok(Kind::Clear),
+            8 => Ok(Kind::Rights),
+            9 => Ok(Kind::RegisterMarked),
             _ => Err(UnknownKind(number)),
         }
     }
@@ -76,12 +83,13 @@ impl Kind {
         ensures { result ≡ has_size self size }
     {
         match self {
-            Kind::Register => size == UNIT_SIZE,
+            Kind::Register | Kind::RegisterMarked => size == UNIT_SIZE,
             Kind::Capacity => size == CAPACITY_SIZE,
             Kind::Available => size == NOTICE_SIZE,
             Kind::Lodge => true,
             Kind::Annul => size == KEY_SIZE,
             Kind::Close | Kind::Clear => size == 0,
+            Kind::Rights => size == RIGHTS_SIZE,
         }
     }
 }
@@ -126,7 +134,7 @@ pub fn number_at(p: &[u8], i: usize) -> u32
 
 // A mark is a byte: 0 for no.
 #[tactic(auto, unfolding(crate::specs::Calls::mark_at))]
-fn mark_at(p: &[u8], i: usize) -> bool
+pub fn mark_at(p: &[u8], i: usize) -> bool
     ensures { result ≡ mark_at p.now i }
 {
     byte_at(p, i) != 0
@@ -140,10 +148,10 @@ pub fn numbers_at(p: &[u8], i: usize) -> [u32; HOURS]
     std::array::from_fn(|k| number_at(p, i + k * 4))
 }
 
-// The unit that a registration is for.
+// The unit that a registration is for. The kind of its record says whether it is "with rights".
 #[tactic(auto, unfolding(crate::specs::Calls::unit_of))]
-pub fn unit_of(p: &[u8]) -> Unit
-    ensures { unit_in result ≡ unit_of p.now }
+pub fn unit_of(rights: bool, p: &[u8]) -> Unit
+    ensures { unit_in result ≡ unit_of rights p.now }
 {
     Unit {
         number: number_at(p, 0),
@@ -152,6 +160,7 @@ pub fn unit_of(p: &[u8]) -> Unit
         purchase: mark_at(p, 12),
         maximum: number_at(p, 13),
         legacy: mark_at(p, 17),
+        rights,
         reserved: 0,
     }
 }

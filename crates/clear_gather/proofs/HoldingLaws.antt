@@ -3,7 +3,7 @@ use Prim.Native.Nat.{ℕ, zero, suc, ◌+◌, ◌/◌, ◌%◌, ◌≤◌, ◌<�
 use mathlib.Core.Path.{◌≡◌, refl, sym, ap, ap₂, ◌∙◌}
 use mathlib.Core.Bool.{Bool, true, false, cond, not, ◌&&◌, beq, false≢true}
 use mathlib.Core.List.{List, [], ◌∷◌, map, map-id}
-use mathlib.Core.Option.{none as nothing}
+use mathlib.Core.Option.{Option as Maybe, some, none as nothing}
 use native.Mathlib.Omega.{arith}
 use lib.Dec.{ltb, eqb}
 use lib.ListN.{get_or, length, replicate, length-map, length-replicate}
@@ -249,6 +249,10 @@ module _ (h : Hour) (r : Ready h) where
     single = pairwise_map (λ y. unit_for y.holder) (λ y z n. apart-agents y.holder z.holder n) (last_apart same_unit ls);
     ranges = all-mapped (λ y. unit_for y.holder) (all-last-ones same_unit (all_map (λ y g. good-unit y.holder g) ranged));
     notices = all-mapped (λ y. unit_for y.holder) (all-every (λ y. S.absent) (last_ones same_unit ls));
+    granted = all-mapped (λ y. unit_for y.holder) (all-every (λ y. S.absent) (last_ones same_unit ls));
+    agreed = λ agent purchase. pairwise_map (λ y. unit_for y.holder) (λ y z n k l. refl) (last_apart same_unit ls);
+    foreign = all-mapped (λ y. unit_for y.holder) (all-every (λ y e. refl) (last_ones same_unit ls));
+    partnered = all-mapped (λ y. unit_for y.holder) (all-every (λ y e. absurd (false≢true e)) (last_ones same_unit ls));
   }
 
   -- a lodgement's unit is found
@@ -404,13 +408,19 @@ module _ (h : Hour) (r : Ready h) where
   unfolding B.limits_of book_of
   limits-held y f = ap (U.limits (record { capacities = notice })) f
 
+  -- without rights nothing is taken off
+  lessened-none : (s : Maybe ℕ) → U.lessened 0 s ≡ s
+  unfolding U.lessened
+  lessened-none nothing = refl
+  lessened-none (some s) = ap some (omega arith)
+
   limits-kept : (y : Execution) → y.holder.border < 5 → unit_energy ls y.holder.unit ≤ U.max_energy
       → U.passes (unit_energy ls y.holder.unit) (line_in (hour_in h).capacities y.holder.border) ≡ false
       → any (λ k. U.passes (unit_energy ls y.holder.unit) (k.at 1)) (U.limits (record { capacities = notice }) (unit_for y.holder)) ≡ false
-  unfolding U.limits U.own_limits U.border_limits U.maximum_limit U.available_limit U.border_limit U.available_at U.passes
+  unfolding U.limits U.own_limits U.border_limits U.maximum_limit U.available_limit U.border_limit U.rights_limit U.available_at U.rights_at U.passes
   limits-kept y l m q =
       let e = unit_energy ls y.holder.unit in
-      of-any-false (λ k. U.passes e (k.at 1)) (more (le-ltb U.max_energy e m) (more (le-ltb U.max_energy e m) (more (ap (U.passes e) (line-held y.holder.border l) ∙ q) none)))
+      of-any-false (λ k. U.passes e (k.at 1)) (more (le-ltb U.max_energy e m) (more (le-ltb U.max_energy e m) (more (ap (U.passes e) (lessened-none _ ∙ line-held y.holder.border l) ∙ q) (more refl none))))
 
   ceiling-held : (y : Execution) → U.unit_of us y.holder.unit ≡ unit_for y.holder → y.holder.border < 5 → unit_energy ls y.holder.unit ≤ U.max_energy
       → U.passes (unit_energy ls y.holder.unit) (line_in (hour_in h).capacities y.holder.border) ≡ false → unit_energy ls y.holder.unit ≤ B.ceiling_of (book_of h) y.holder.unit 1

@@ -3,7 +3,7 @@ use Prim.Native.Nat.{ℕ, zero, suc, ◌-◌, ◌≤◌, ◌<◌}
 use mathlib.Core.Path.{◌≡◌, refl, sym, ap, ap₂, subst, ◌∙◌}
 use mathlib.Core.Bool.{Bool, true, false, cond, not}
 use mathlib.Core.List.{List, [], ◌∷◌, ◌++◌, map, map-map, map-id}
-use mathlib.Core.Option.{some, none as nothing}
+use mathlib.Core.Option.{Option as Maybe, some, none as nothing}
 use native.Mathlib.Omega.{arith}
 use lib.Dec.{leb, ltb, eqb}
 use lib.ListN.{get_or, length}
@@ -173,12 +173,18 @@ module _ (b : B.Book) (sound : S.Sound b) (h : ℕ) (start : 1 ≤ h) where
       by_bool (leb h (B.hours b)) (λ t. accepted-within b sound.standing.rising u h start (leb-true h (B.hours b) t))
       (λ t. omega (arith, energy-beyond u (leb-false h (B.hours b) t)))
 
+  -- an energy that does not pass a lessened sum does not pass the sum
+  passes-whole : (n e : ℕ) (s : Maybe ℕ) → U.passes e (U.lessened n s) ≡ false → U.passes e s ≡ false
+  unfolding U.passes U.lessened
+  passes-whole n e nothing k = refl
+  passes-whole n e (some s) k = le-ltb s e (omega (arith, ltb-false (s - n) e k))
+
   -- an energy within the ceiling passes no limit
   unpassed : (u e : ℕ) → e ≤ B.ceiling_of b u h → (e ≤ (U.unit_of b.units u).unit.maximum) × (U.passes e (U.border_sum b.capacities (U.unit_of b.units u).unit.border h) ≡ false)
   unfolding B.limits_of U.limits U.own_limits U.border_limits U.maximum_limit U.available_limit U.border_limit U.passes
   unpassed u e l =
       let a = any_false (λ k. U.passes e (k.at h)) (B.limits_of b u) (sym (over-ceiling b u h e) ∙ le-ltb (B.ceiling_of b u h) e l) in
-      (ltb-false _ _ (all_head a), all_head (all_tail (all_tail a)))
+      (ltb-false _ _ (all_head a), passes-whole _ e _ (all_head (all_tail (all_tail a))))
 
   module _ (l : L.Lodgement) (p : Own l) where
     abbrev unit : U.TradingUnit

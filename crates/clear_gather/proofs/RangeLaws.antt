@@ -67,7 +67,8 @@ good-unit : (u : U.TradingUnit) → U.bad_unit u ≡ false → GoodUnit u
 unfolding U.bad_unit U.domestic
 good-unit u h =
     let n = U.bad_number u.number || U.bad_number u.agent in
-    let p = neither (n || ltb 4 u.border || ltb U.max_energy u.maximum) (u.legacy && eqb u.border 0) h in
+    let o = neither (n || ltb 4 u.border || ltb U.max_energy u.maximum || u.legacy && eqb u.border 0) (u.rights && not (U.french u)) h in
+    let p = neither (n || ltb 4 u.border || ltb U.max_energy u.maximum) (u.legacy && eqb u.border 0) o.0 in
     let q = neither (n || ltb 4 u.border) (ltb U.max_energy u.maximum) p.0 in
     let r = neither n (ltb 4 u.border) q.0 in
     record {

@@ -23,11 +23,12 @@ pub record Holding (b : B.Book) (h : Hour) : Type 0 where
 
 -- The book
 
--- each unit has an agent of its own, which has the unit's number, and the largest maximum
+-- each unit has an agent of its own, which has the unit's number, and the largest maximum; none has rights
 abbrev pub unit_for : Holder → U.Registered
 unit_for x = record {
-  unit = record { number = x.unit; agent = x.unit; border = x.border; purchase = x.purchase; maximum = U.max_energy; legacy = x.legacy };
+  unit = record { number = x.unit; agent = x.unit; border = x.border; purchase = x.purchase; maximum = U.max_energy; legacy = x.legacy; rights = false };
   available = none;
+  rights = none;
 }
 
 -- a normal lodgement that names hour 1 only; an execution's contract has the lodging number
@@ -63,7 +64,8 @@ published_for (Some energy) = some (replicate 24 energy)
 unfoldable pub notice_for : List (Option ℕ) → ℕ → U.Published
 notice_for cs d = published_for (get_or cs d None)
 
--- A closed book of an ordinary day. Its last number is the largest: sound, though calls leave it so only in some hours.
+-- A closed book of an ordinary day. Its last number is the largest, 65,535, so that it is above every lodgement's. The book is sound; that calls
+-- lead to it is not said.
 unfoldable pub book_of : Hour → B.Book
 book_of h = record {
   date = record { year = 2006; month = 6; day = 1 };

@@ -36,7 +36,7 @@ fn holder_of(units: &[Unit], lodgement: &Lodgement) -> Holder
     }
 }
 
-// The holders of some lodgements, each found once for all hours of the day. A slice's type does not tell that they are at most 128.
+// The holders of some lodgements, each found once for all hours of the day. (Lengths: DECISIONS.)
 pub fn holders_of(units: &[Unit], lodgements: &[Lodgement]) -> ArrayVec<Holder, LODGEMENTS>
     requires { length lodgements.now ≤ 128 }
     ensures { result.items ≡ map (holder_of units.now) lodgements.now }
@@ -55,8 +55,8 @@ fn counted(verdict: &Verdict, energy: u32) -> bool
     verdict.accepted && 0 < energy
 }
 
-// The capacity of a direction in the hour at index k: "Absent means no maximum". The direction and the hour are indices of C's arrays, whose
-// bounds no type of these indices has.
+// The capacity of a direction in the hour at index k: "Absent means no maximum". The direction and the hour are indices of C's arrays.
+// (Lengths: DECISIONS.)
 #[tactic(auto, unfolding(crate::specs::Built::capacity_on))]
 fn capacity_on(notices: &[Notice; DIRECTIONS], k: usize, direction: usize) -> Option<u32>
     requires { (k < 25) × (direction < 8) }
@@ -75,8 +75,8 @@ fn capacities_at(notices: &[Notice; DIRECTIONS], k: usize) -> [Option<u32>; DIRE
 }
 
 // The hour at index k: its accepted offers and executions by rising lodging number, and its published capacities. `holders` are those
-// of the standing lodgements (`holders_of`), at the index of each, which is also the lodgement's in three arrays of the session, as C has them. A slice's type does
-// not tell that they are at most 128.
+// of the standing lodgements (`holders_of`), at the index of each, which is also the lodgement's in three arrays of the session, as C has them.
+// (Lengths: DECISIONS.)
 pub fn hour_at(s: &Session, holders: &[Holder], k: usize) -> Hour
     requires { (length holders.now ≤ 128) × (k < 25) }
     ensures { Built s.now holders.now k result }

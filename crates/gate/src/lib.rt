@@ -13,6 +13,7 @@ ghost use Rattle.answer.specs.Told.{counted, named};
 ghost use Rattle.session.specs.Image.{unit_in, key_in};
 ghost use Rattle.session.specs.Steps.{Opens, Met};
 ghost use Rattle.notify_unavailability.specs.Notices.{available_in};
+ghost use Rattle.notify_rights.specs.Rights.{rights_in};
 ghost use Rattle.notify_capacity.specs.Capacities.{capacity_in};
 ghost use Rattle.query.specs.Replies.{Answered};
 
@@ -20,6 +21,7 @@ use answer::{ClockName, Response};
 use calendar::{Clock, Date};
 use message::{Fields, Reading, Written};
 use notify_capacity::Capacities;
+use notify_rights::Rights;
 use notify_unavailability::Availability;
 use session::{Key, Opened, Session, Unit};
 use session_changes::{perform, settle};
@@ -29,17 +31,17 @@ use session_changes::{perform, settle};
 // `GATE_VERSION` of include/gate.h. Each change of a name, a struct or a meaning there raises it.
 #[unsafe(no_mangle)]
 pub extern "C" fn gate_version() -> u32
-    ensures { result ≡ 2 }
+    ensures { result ≡ 3 }
 {
-    2
+    3
 }
 
 // The bytes of a session: the size of its type (`session-size` of proofs/SizeLaws.antt).
 #[unsafe(no_mangle)]
 pub extern "C" fn gate_session_size() -> u64
-    ensures { result ≡ 53296 }
+    ensures { result ≡ 59952 }
 {
-    53296
+    59952
 }
 
 // Dates
@@ -97,7 +99,7 @@ pub extern "C" fn gate_write(fields: Fields, buffer: &mut [u8]) -> Written
 
 // Calls
 
-// Registers a unit: 2, 5, 7, 8, 9.
+// Registers a unit: 2, 5, 7, 8, 9, 15.
 #[unsafe(no_mangle)]
 pub extern "C" fn gate_register(s: &mut Session, unit: Unit) -> Response
     ensures { Met s.old (register (unit_in unit)) (record { session = s.new; answer = result }) }
@@ -113,6 +115,14 @@ pub extern "C" fn gate_unavailability(s: &mut Session, notice: Availability) -> 
     perform(s, &notice)
 }
 
+// Takes a rights notice of an agent and side: 2, 4, 5, 6.
+#[unsafe(no_mangle)]
+pub extern "C" fn gate_rights(s: &mut Session, rights: Rights) -> Response
+    ensures { Met s.old (rights_in rights) (record { session = s.new; answer = result }) }
+{
+    perform(s, &rights)
+}
+
 // Takes a capacity notice, export and import of border 1, of 2, of 3, of 4: 2, 4, 5.
 #[unsafe(no_mangle)]
 pub extern "C" fn gate_capacity(s: &mut Session, notice: Capacities) -> Response
@@ -121,7 +131,7 @@ pub extern "C" fn gate_capacity(s: &mut Session, notice: Capacities) -> Response
     perform(s, &notice)
 }
 
-// Lodges a message: 2, 3, 4, 5, 6, 9, 10, 11, 12.
+// Lodges a message: 2, 3, 4, 5, 6, 9, 10, 11, 12, 15.
 #[unsafe(no_mangle)]
 pub extern "C" fn gate_lodge(s: &mut Session, message: &[u8]) -> Response
     ensures { Met s.old (lodge message.now) (record { session = s.new; answer = result }) }

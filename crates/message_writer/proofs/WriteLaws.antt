@@ -19,7 +19,7 @@ use Rattle.rules.proofs.MessageLaws.{of-writes, length-head, encode-length}
 use Rattle.message.specs.declared.Written.{Written}
 use Rattle.rules.specs.Rows.{number_of}
 use Rattle.rules.specs.declared.row.Row.{Row}
-use Rattle.rules.specs.declared.row.Row.TheVariants.{Date, Gate, Form as FormRow, Hour, Range, Unit, Taken, Second, Full, Maximum, Available, Border, Absent, Short}
+use Rattle.rules.specs.declared.row.Row.TheVariants.{Date, Gate, Form as FormRow, Hour, Range, Unit, Taken, Second, Full, Maximum, Available, Border, Absent, Short, Rights}
 use Rattle.rules.specs.Message.{buffer_after}
 use Rattle.message.specs.View.{written_as}
 use Rattle.message_pen.specs.Pens.{PenState, first, completed_at, AppendedAt, RoomAt, InRanges, slots_of}
@@ -49,6 +49,7 @@ row_positive = elim [
   | Border ↦ omega arith
   | Absent ↦ omega arith
   | Short ↦ omega arith
+  | Rights ↦ omega arith
 ]
 
 -- a refusal as C has it

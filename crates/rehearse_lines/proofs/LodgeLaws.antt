@@ -35,6 +35,7 @@ number_some R.Available = omega arith
 number_some R.Border = omega arith
 number_some R.Absent = omega arith
 number_some R.Short = omega arith
+number_some R.Rights = omega arith
 
 pub count-fits : (o : Outcome (List ℕ)) (old : List ℕ) → (written_as o).count ≤ length (buffer_after o old)
 unfolding written_as buffer_after

@@ -1,7 +1,7 @@
 -- The word of a row that was read by its number.
 use Rattle.std.proofs.Common.{ℕ, zero, suc, ◌≡◌, ◌≤◌, ◌<◌, [], refl, sym, ap, subst, arith}
 use Rattle.rules.specs.declared.row.Row.{Row}
-use Rattle.rules.specs.declared.row.Row.TheVariants.{Date, Gate, Form, Hour, Range, Unit, Taken, Second, Full, Maximum, Available, Border, Absent, Short}
+use Rattle.rules.specs.declared.row.Row.TheVariants.{Date, Gate, Form, Hour, Range, Unit, Taken, Second, Full, Maximum, Available, Border, Absent, Short, Rights}
 use Rattle.rules.specs.Rows.{number_of}
 use Rattle.std.specs.Prelude.{Some}
 use Rattle.std.proofs.lemmas.Option.{slice_get_past}
@@ -23,12 +23,13 @@ found = elim [
   | Border ↦ refl
   | Absent ↦ refl
   | Short ↦ refl
+  | Rights ↦ refl
 ]
 
 pub named : (row : Row) (n : ℕ) → number_of row ≡ n → words_of (Some row) ≡ row_words n
 named row n e = subst (λ k. words_of (Some row) ≡ row_words k) e (found row)
 
-pub unnamed : (n : ℕ) → (1 ≤ n → 14 < n) → [] ≡ row_words n
+pub unnamed : (n : ℕ) → (1 ≤ n → 15 < n) → [] ≡ row_words n
 unnamed zero h = refl
 unnamed (suc k) h = sym (ap words_of (slice_get_past table k (omega (arith, h (omega arith)))))
 

@@ -2,16 +2,16 @@
 use Rattle.std.specs.Prelude.{ℕ, zero, suc, List, [], ◌∷◌, ◌++◌, Option, Some, None, slice_get, codes, decimal}
 use Rattle.std.specs.Fmt.{signed_decimal}
 use Rattle.rules.specs.declared.row.Row.{Row}
-use Rattle.rules.specs.declared.row.Row.TheVariants.{Date, Gate, Form, Hour, Range, Unit, Taken, Second, Full, Maximum, Available, Border, Absent, Short}
+use Rattle.rules.specs.declared.row.Row.TheVariants.{Date, Gate, Form, Hour, Range, Unit, Taken, Second, Full, Maximum, Available, Border, Absent, Short, Rights}
 use Rattle.rules.specs.Rows.{word_of}
 use Rattle.answer.specs.declared.Response.{Response}
 use Rattle.answer.specs.declared.Kind.{Kind}
 use Rattle.answer.specs.declared.Kind.TheVariants as K
 use Rattle.answer.specs.Kinds.{kind_of}
 
--- the refusal table, its first row first
+-- the rows of the refusal table by their numbers, number 1 first
 abbrev pub table : List Row
-table = Date ∷ Gate ∷ Form ∷ Hour ∷ Range ∷ Unit ∷ Taken ∷ Second ∷ Full ∷ Maximum ∷ Available ∷ Border ∷ Absent ∷ Short ∷ []
+table = Date ∷ Gate ∷ Form ∷ Hour ∷ Range ∷ Unit ∷ Taken ∷ Second ∷ Full ∷ Maximum ∷ Available ∷ Border ∷ Absent ∷ Short ∷ Rights ∷ []
 
 -- its row of a number, if there is one
 abbrev pub row_of : ℕ → Option Row

@@ -7,12 +7,13 @@ use native.Mathlib.Omega.{arith}
 use lib.Dec.{ltb}
 use lib.ListN.{get_or, length, drop, drop_of_length-le}
 use borrow.Author.Tests.{ltb-false}
-use Rattle.std.specs.Prelude.{Some, None, is_some, IsTrue}
+use Rattle.std.specs.Prelude.{Option, Some, None, is_some, IsTrue}
+use Rattle.std.specs.Str.{bytes_eq}
 use Rattle.std.specs.List.{All, position_or_len}
 use Rattle.std.proofs.lemmas.List.Quantifiers.{position-Some}
 use Rattle.rules.proofs.BoolLaws.{by_bool}
 use Rattle.rehearse_words.specs.Blanks.{is_blank}
-use Rattle.rehearse_words.specs.Words.{word_start, from_word, first_word}
+use Rattle.rehearse_words.specs.Words.{word_start, from_word, first_word, behind_word, starts_with, behind_mark}
 
 abbrev is_part : ℕ → Bool
 is_part b = not (is_blank b)
@@ -50,3 +51,29 @@ first-none line h = let e : drop (length line) line ≡ [] = drop_of_length-le l
 
 pub start-some : (line : List ℕ) (i : ℕ) → word_start line ≡ Some i → from_word line ≡ drop i line
 start-some line i h = rw h refl
+
+-- Whether a line starts with a word
+
+module _ (word line : List ℕ) where
+  -- not where it is blank
+  pub blank-starts : All (λ b. IsTrue (is_blank b)) line → false ≡ starts_with word line
+  unfolding starts_with
+  blank-starts a = rw (none-of-blanks line a) refl
+
+  some-of : (o : Option ℕ) → word_start line ≡ o → (All (λ b. IsTrue (is_blank b)) line → true ≡ false) → is_some (word_start line) ≡ true
+  some-of None e h = absurd (true≢false (h (blanks-none line e)))
+  some-of (Some i) e h = rw e refl
+
+  -- else where its first word is this one
+  pub word-starts : (first : List ℕ) → (All (λ b. IsTrue (is_blank b)) line → true ≡ false) → first ≡ first_word line → bytes_eq first word ≡ starts_with word line
+  unfolding starts_with
+  word-starts first h e = rw (some-of (word_start line) refl h, e) refl
+
+  -- which is then taken
+  pub behind-taken : true ≡ starts_with word line → behind_word line ≡ behind_mark word line
+  unfolding behind_mark
+  behind-taken e = rw (← e) refl
+
+  pub behind-left : false ≡ starts_with word line → line ≡ behind_mark word line
+  unfolding behind_mark
+  behind-left e = rw (← e) refl

@@ -1,8 +1,9 @@
 -- The words of a line, blanks between them, and what a word says.
-use Rattle.std.specs.Prelude.{ℕ, Bool, not, ◌&&◌, cond, leb, List, take, drop, length, Option, Some, None}
+use Rattle.std.specs.Prelude.{ℕ, Bool, not, ◌&&◌, cond, leb, List, take, drop, length, Option, Some, None, is_some}
 use Rattle.std.specs.List.{position, list_all}
 use Rattle.std.specs.Option.{unwrap_or}
 use Rattle.std.specs.Char.{is_ascii_digit}
+use Rattle.std.specs.Str.{bytes_eq}
 use Rattle.std.specs.Str.Parse.{digits_value}
 use Rattle.rehearse_words.specs.Blanks.{is_blank}
 
@@ -24,6 +25,13 @@ first_word line = take (word_end (from_word line)) (from_word line)
 -- the rest of the line, after the blank that ends the word
 abbrev pub behind_word : List ℕ → List ℕ
 behind_word line = drop 1 (drop (word_end (from_word line)) (from_word line))
+
+-- whether a line's first word is this one, and the rest of the line where it may be left out
+unfoldable pub starts_with : List ℕ → List ℕ → Bool
+starts_with word line = is_some (word_start line) && bytes_eq (first_word line) word
+
+unfoldable pub behind_mark : List ℕ → List ℕ → List ℕ
+behind_mark word line = cond (starts_with word line) (behind_word line) line
 
 -- a number has one to nine digits
 abbrev pub is_number : List ℕ → Bool

@@ -1,7 +1,11 @@
 // A line that is a call.
+ghost use Rattle.std.specs.Prelude.{◌≡◌, IfSome, Some, cond, codes};
+ghost use Rattle.rehearse_words.specs.Words.{behind_mark, behind_word, first_word, number_in, starts_with};
+
 use crate::words::{Words, number, parted};
 use arrayvec::ArrayVec;
 use notify_capacity::Capacities;
+use notify_rights::Rights;
 use notify_unavailability::Availability;
 use rules::{DIRECTIONS, HOURS};
 use session::{Key, Published, Unit};
@@ -14,6 +18,7 @@ pub enum Call {
     Register(Unit),
     Capacity(Capacities),
     Available(Availability),
+    Rights(Rights),
     // lodge 10000E0000600000003C1194002F9130
     Lodge(ArrayVec<u8, MESSAGE>),
     Annul(Key),
@@ -21,7 +26,24 @@ pub enum Call {
     Clear,
 }
 
-// register 7 agent 100 border 1 purchase max 500 legacy
+// A unit's marks. Each may be left out.
+#[derive(Clone, Copy)]
+struct Marks {
+    legacy: bool,
+    rights: bool,
+}
+
+// legacy rights: in this order.
+fn unit_marks(words: &mut Words) -> Marks
+    ensures legacy { result.legacy ≡ starts_with (codes "legacy") words.old.rest.now }
+    ensures rights { result.rights ≡ starts_with (codes "rights") (behind_mark (codes "legacy") words.old.rest.now) }
+{
+    let legacy = words.take_if(b"legacy");
+    let rights = words.take_if(b"rights");
+    Marks { legacy, rights }
+}
+
+// register 7 agent 100 border 1 purchase max 500 legacy rights
 pub(crate) fn unit(words: &mut Words) -> Option<Unit> {
     let number = words.number()?;
     words.expect(b"agent")?;
@@ -31,7 +53,7 @@ pub(crate) fn unit(words: &mut Words) -> Option<Unit> {
     let purchase = words.either(b"sale", b"purchase")?;
     words.expect(b"max")?;
     let maximum = words.number()?;
-    let legacy = words.take_if(b"legacy");
+    let Marks { legacy, rights } = unit_marks(words);
     Some(Unit {
         number,
         agent,
@@ -39,6 +61,7 @@ pub(crate) fn unit(words: &mut Words) -> Option<Unit> {
         maximum,
         purchase,
         legacy,
+        rights,
         reserved: 0,
     })
 }
@@ -100,6 +123,25 @@ pub(crate) fn availability(words: &mut Words) -> Option<Availability> {
         count,
         unit,
         energies,
+    })
+}
+
+// rights 100 purchase 50x25
+pub(crate) fn rights(words: &mut Words) -> Option<Rights>
+    ensures agent { IfSome result (λ notice. number_in (first_word words.old.rest.now) ≡ Some notice.agent) }
+    ensures side { IfSome result (λ notice. first_word (behind_word words.old.rest.now) ≡ cond notice.purchase (codes "purchase") (codes "sale")) }
+{
+    let agent = words.number()?;
+    let side = words.either(b"sale", b"purchase")?;
+    let (count, energies) = energies(words.next()?)?;
+    Some(Rights {
+        agent,
+        purchase: side,
+        reserved: 0,
+        reserved2: 0,
+        count,
+        energies,
+        reserved3: 0,
     })
 }
 

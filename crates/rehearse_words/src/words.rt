@@ -1,12 +1,12 @@
 // The words of a line, and what a word says.
 
-ghost use Rattle.std.specs.Prelude.{◌≡◌, ◌⊎◌, ◌*◌, ◌<◌, ◌≤◌, [], ◌↔◌, length, All, IsTrue, IsSome, IsNone, IsErr, IfSome, OnSome, Ok, drop};
+ghost use Rattle.std.specs.Prelude.{◌≡◌, ◌⊎◌, ◌*◌, ◌<◌, ◌≤◌, [], ◌↔◌, length, All, IsTrue, IsSome, IsNone, IsErr, IfSome, OnSome, Ok, drop, cond};
 ghost use Rattle.std.specs.Char.{is_ascii_digit};
 ghost use Rattle.std.specs.Iterator.{at_most};
 ghost use Rattle.std.specs.List.{list_all, position};
 ghost use Rattle.hex.specs.Hex.{decode_of};
 ghost use Rattle.rehearse_words.specs.Blanks.{is_blank};
-ghost use Rattle.rehearse_words.specs.Words.{behind_word, first_word, is_number, number_in, word_end, word_start};
+ghost use Rattle.rehearse_words.specs.Words.{behind_mark, behind_word, first_word, is_number, number_in, starts_with, word_end, word_start};
 
 use arrayvec::ArrayVec;
 
@@ -95,9 +95,15 @@ impl<'a> Words<'a> {
     }
 
     // Whether the next word is this one, which is then taken.
-    pub(crate) fn take_if(&mut self, word: &[u8]) -> bool {
+    pub(crate) fn take_if(&mut self, word: &[u8]) -> bool
+        ensures word { result ≡ starts_with word.now self.old.rest.now }
+        ensures rest { self.new.rest.now ≡ behind_mark word.now self.old.rest.now }
+    {
         let mut ahead = *self;
-        let is_next = ahead.next() == Some(word);
+        let Some(next) = ahead.next() else {
+            return false;
+        };
+        let is_next = next == word;
         if is_next {
             *self = ahead;
         }
@@ -105,7 +111,10 @@ impl<'a> Words<'a> {
     }
 
     // The next word is one of two: that for no, or that for yes.
-    pub(crate) fn either(&mut self, no: &[u8], yes: &[u8]) -> Option<bool> {
+    pub(crate) fn either(&mut self, no: &[u8], yes: &[u8]) -> Option<bool>
+        ensures word { IfSome result (λ answer. first_word self.old.rest.now ≡ cond answer yes.now no.now) }
+        ensures rest { OnSome result (self.new.rest.now ≡ behind_word self.old.rest.now) }
+    {
         let word = self.next()?;
         if word == no {
             Some(false)

@@ -13,7 +13,7 @@ use std::time::Instant;
 const LONG_DAY: Date = Date::new(2006, 10, 29);
 
 fn unit(number: u32, border: u32, purchase: bool) -> Unit {
-    Unit { number, agent: number, border, purchase, maximum: LARGEST_ENERGY, legacy: false }
+    Unit { number, agent: number, border, purchase, maximum: LARGEST_ENERGY, legacy: false, rights: false }
 }
 
 fn offer(unit: u32) -> Key {
