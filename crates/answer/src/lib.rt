@@ -146,7 +146,7 @@ impl Response {
         plain(Kind::Accepted)
     }
 
-    // A refusal: the table's number and its hour. It takes any number, as it always did; of a `Refusal`, which has fourteen rows, it is `From`.
+    // A refusal: the table's number and its hour. It takes any number, since C's field holds any; of a `Refusal`, which has fifteen rows, it is `From`.
     pub fn refused(row: u32, hour: u32) -> Response
         ensures { result ≡ T.refused row hour }
     {
@@ -227,7 +227,7 @@ impl From<Row> for Response {
 }
 
 impl ClockName {
-    // No clock name: the refusal table's number, any, as it always did; of a row it is `From`.
+    // No clock name: the refusal table's number, any, since C's field holds any; of a row it is `From`.
     pub fn unnamed(row: u32) -> ClockName
         ensures { result ≡ T.unnamed row }
     {

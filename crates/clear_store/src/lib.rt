@@ -94,8 +94,8 @@ impl Slots {
         held.energy_of(unit) + energy_among(unit, self.others.as_slice())
     }
 
-    // Each unit's, at the unit's index. By index: there may be fewer units than places, so that `from_fn` would have to test each, and
-    // nothing is known of what a `zip` of `iter_mut` writes (`hour_share`).
+    // Each unit's, at the unit's index. There may be fewer units than indices, so that `from_fn` would have to test each.
+    // (By index: DECISIONS.)
     fn by_unit(&self, units: &[Unit]) -> [u32; UNITS]
         requires units { length units.now ≤ 64 }
         ensures { result ≡ pad 64 0 (map (λ u. energy_in u.number self.now) units.now) }

@@ -15,8 +15,7 @@ use arrayvec::ArrayVec;
 use hour_offers::{Execution, Offer};
 use rules::{DIRECTIONS, LODGEMENTS, MAX_ENERGY, UNITS};
 
-// Offers as executions are: a holder and an energy. A slice's type does not tell that they are at most 128. By a loop: `extend` would bring a
-// `Result` to let go.
+// Offers as executions are: a holder and an energy. By a loop: `extend` would bring a `Result` to let go. (Lengths: DECISIONS.)
 fn as_lodgements(offers: &[Offer]) -> ArrayVec<Execution, LODGEMENTS>
     requires { length offers.now ≤ 128 }
     ensures lodgements { executions_in result.items ≡ map lodgement_of (map fresh_in offers.now) }
@@ -105,7 +104,7 @@ fn own(x: &Execution, unit: u32) -> u32
     if x.holder.unit == unit { x.energy } else { 0 }
 }
 
-// A unit's energy among some lodgements. That it fits is asked, which a slice's type does not tell.
+// A unit's energy among some lodgements. That it fits is asked. (Lengths: DECISIONS.)
 fn energy_of(lodgements: &[Execution], unit: u32) -> u32
     requires { sum_by (λ x. cond (eqb x.holder.unit unit) x.energy 0) lodgements.now < 2 ^ 32 }
     ensures { result ≡ sum_by (λ x. cond (eqb x.holder.unit unit) x.energy 0) lodgements.now }

@@ -66,8 +66,8 @@ pub fn amount(holder: &Holder, energy: u32) -> Amount
     }
 }
 
-// The energy of some holders by direction: `of` says what each of them has, and in which direction it runs. That a closure can be called, and how
-// long a slice is, no type tells, so it is asked.
+// The energy of some holders by direction: `of` says what each of them has, and in which direction it runs.
+// (Lengths: DECISIONS.)
 fn flows<T, F: Fn(&T) -> Amount>(holders: &[T], of: F) -> [u32; DIRECTIONS]
     requires callable { F.IsAlwaysCallable of }
     requires few { length holders.now ≤ 128 }
@@ -88,8 +88,7 @@ fn flows<T, F: Fn(&T) -> Amount>(holders: &[T], of: F) -> [u32; DIRECTIONS]
 }
 
 // What is matched, by direction. Three functions over `flows`, market, legacy and executions: each says what it gives in the rules' words for a
-// list of its own, which one of a trait could not say more plainly. That a list is short and its energies in range is asked: a slice's type
-// has neither.
+// list of its own, which one of a trait could not say more plainly. (Lengths: DECISIONS.)
 pub fn market_flows(offers: &[Offer]) -> [u32; DIRECTIONS]
     requires few { length offers.now ≤ 128 }
     requires in_range { All (λ o. o.matched ≤ max_energy) (offers_in offers.now) }

@@ -15,7 +15,7 @@ use hour_offers::Execution;
 use rules::DIRECTIONS;
 
 // Market and executions together, by direction. "The bilateral maximum is E less the final market balance": the executions' balance passes it
-// by as much as the two together pass E. Flows are arrays of eight as the session has them: their type does not tell that two can be added.
+// by as much as the two together pass E. Two flows fit when added: that is asked. (Lengths: DECISIONS.)
 fn together(market: &[u32; DIRECTIONS], executions: &[u32; DIRECTIONS]) -> [u32; DIRECTIONS]
     requires market_small { Small market.now }
     requires executions_small { Small executions.now }
@@ -24,8 +24,7 @@ fn together(market: &[u32; DIRECTIONS], executions: &[u32; DIRECTIONS]) -> [u32;
     std::array::from_fn(|d| market[d] + executions[d])
 }
 
-// Each of the executions without what it loses. By index: the proof of a `zip` does not close, since nothing is known of what an adapter of
-// `iter_mut` writes, but for `enumerate`.
+// Each of the executions without what it loses. (By index: DECISIONS.)
 fn reduce(executions: &mut [Execution], lost: &[u32])
     requires { length lost.now ≡ length executions.old }
     ensures { executions_in executions.new ≡ less_each lost.now (executions_in executions.old) }
@@ -35,8 +34,8 @@ fn reduce(executions: &mut [Execution], lost: &[u32])
     }
 }
 
-// The executions after cuts, by the flows of the final match and of the executions before the cut. A slice's type does not tell that these are few and
-// in range.
+// The executions after cuts, by the flows of the final match and of the executions before the cut.
+// (Lengths: DECISIONS.)
 pub fn cut(
     executions: &mut [Execution],
     capacities: &[Option<u32>; DIRECTIONS],

@@ -26,8 +26,7 @@ pub struct Market {
 }
 
 // The market of an hour: first match, Split, withdrawal. `executions` are the flows of the hour's executions. "Split figures stay those of
-// the first match". What an offer has as matched at entry is not looked at. A slice of offers and arrays of eight as
-// the session has them: no type of theirs tells that energies are in range.
+// the first match". What an offer has as matched at entry is not looked at. (Lengths: DECISIONS.)
 pub fn clear(
     offers: &mut [Offer],
     capacities: &[Option<u32>; DIRECTIONS],

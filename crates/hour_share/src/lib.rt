@@ -46,7 +46,7 @@ fn pro_rata(r: u32, g: u32, m: u32) -> u32
     floor as u32
 }
 
-// The sum of some energies. That they are few and in range is asked, here and below: a slice's type has neither.
+// The sum of some energies. That they are few and in range is asked, here and below. (Lengths: DECISIONS.)
 fn total(energies: &[u32]) -> u32
     requires few { length energies.now ≤ 128 }
     requires ranged { Ranged energies.now }
@@ -55,9 +55,8 @@ fn total(energies: &[u32]) -> u32
     energies.iter().sum()
 }
 
-// The pro rata deductions, added to others index by index, and their sum. By index: the proof of a `zip` does not close, since nothing is
-// known of what an adapter of `iter_mut` writes, but for `enumerate`. That the two slices are of one length, and that there is room to add, no type
-// of theirs tells, so each function asks it.
+// The pro rata deductions, added to others index by index, and their sum. That the two slices are of one length, and that there is room to add,
+// is asked. (Lengths, By index: DECISIONS.)
 fn add_floors(r: u32, g: u32, amounts: &[u32], deductions: &mut [u32]) -> u32
     requires within { r ≤ g }
     requires few { length amounts.now ≤ 128 }
@@ -142,7 +141,7 @@ pub fn share(excess: u32, amounts: &[u32]) -> ArrayVec<u32, LODGEMENTS>
 }
 
 // What each of some holders counts for in direction d: `of` says what it has, and in which direction it gives way.
-// How long a slice is and what its numbers are, and that a closure can be called, no type tells, so each function asks it.
+// (Lengths: DECISIONS.)
 fn energies_in<T, F: Fn(&T) -> Amount>(d: usize, holders: &[T], of: &F) -> ArrayVec<u32, LODGEMENTS>
     requires callable { F.IsAlwaysCallable of.now }
     requires few { length holders.now ≤ 128 }

@@ -18,7 +18,7 @@ pub struct Abroad {
 }
 
 impl Abroad {
-    // Those of an hour's offers that are at a border. A slice's type does not tell that they are at most 128.
+    // Those of an hour's offers that are at a border. (Lengths: DECISIONS.)
     pub fn of(offers: &[Offer]) -> Abroad
         requires { length offers.now ≤ 128 }
         ensures { Beside (offers_in offers.now) result }
@@ -38,8 +38,7 @@ impl Abroad {
     }
 }
 
-// Some offers read again, each at its index. They are written by index: `iter_mut` under a `zip` was tried in `take_from` of withdraw_take,
-// and nothing is known there of what is written. `Names` relates the indices to a slice whose type has no length.
+// Some offers read again, each at its index. `Names`: the indices are those of the slice. (Lengths, By index: DECISIONS.)
 pub fn renew(abroad: &mut [Offer], offers: &[Offer], places: &[usize])
     requires names { Names (length offers.now) places.now }
     requires same_length { length abroad.old ≡ length places.now }

@@ -56,7 +56,7 @@ fn step(
     volume
 }
 
-// What is offered bounds the steps and never ends them (`withdraw-ends` of the rules). That the sum fits is asked: a slice's type does not tell it.
+// What is offered bounds the steps and never ends them (`withdraw-ends` of the rules). That the sum fits is asked. (Lengths: DECISIONS.)
 fn step_bound(offers: &[Offer]) -> u32
     requires { sum_by (λ o. o.offered) offers.now < 2 ^ 32 }
     ensures { result ≡ sum (map (λ o. o.offered) offers.now) }

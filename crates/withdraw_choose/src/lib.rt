@@ -49,7 +49,7 @@ fn highest_sale_price(offers: &[Offer], over: &[u32; DIRECTIONS]) -> Option<u32>
 }
 
 // What an offer has matched, where it counts. A sum of what each counts is how the contracts below say it; that it fits is
-// asked, which a slice's type does not tell.
+// asked. (Lengths: DECISIONS.)
 fn counted(counts: bool, matched: u32) -> u32
     ensures { result ≡ cond counts matched 0 }
 {

@@ -73,8 +73,7 @@ fn deductions(over: &[u32; DIRECTIONS], group: Group, offers: &[Offer]) -> Array
     hour_share::deductions(over, offers, move |offer| given(group, offer))
 }
 
-// 3. and 4. Each direction's excess is taken from those that give way in it. The deductions are read by index: `iter_mut` under a `zip` was
-// tried, and the proof does not close, since it has what the loop yields and not what the loop writes.
+// 3. and 4. Each direction's excess is taken from those that give way in it. (By index: DECISIONS.)
 pub fn take_from(offers: &mut [Offer], over: &[u32; DIRECTIONS], group: Group)
     requires few { length offers.old ≤ 128 }
     requires in_range { All (λ o. o.matched ≤ max_energy) (offers_in offers.old) }
