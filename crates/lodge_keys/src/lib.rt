@@ -55,7 +55,8 @@ pub fn hides(a: Key, b: Key) -> bool
     same_but_default(a, b) && !a.default && b.default
 }
 
-// The index of the lodgement of this key.
+// The index of the lodgement of this key. Not inlined: in the body of lodging the loop had too few registers, and lodging took two fifths longer.
+#[inline(never)]
 pub fn key_index(lodgements: &[Lodgement], key: Key) -> Option<usize>
     ensures { result ≡ position (of_key key) lodgements.now }
 {
