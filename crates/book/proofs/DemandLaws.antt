@@ -135,7 +135,7 @@ module _ (b : Book) (s : R.Sound b) (response : Q.Query → Response) (said : (q
       unfolding M.crossing
       uncut-as = ap (λ m. toward export (m +ℤ execution_balance border (M.executions_at b h))) market-as
 
-      carried : M.Kept (direction border export capacity) (figures_at b h).offers (M.executions_at b h) (figures_at b h).executions → Carried b response h border export capacity
+      carried : M.BorderCleared (direction border export capacity) (figures_at b h).offers (M.executions_at b h) (figures_at b h).executions → Carried b response h border export capacity
       carried k = record {
         within = rw crossing-as k.within;
         cut = (

@@ -10,7 +10,7 @@ use Rattle.rules.specs.Book.{Book, hours, lines_of}
 use Rattle.rules.specs.Borders.{positive, toward, execution_balance}
 use Rattle.rules.specs.Queries as Q
 use Rattle.rules.specs.DayBook as D
-use Rattle.rules.specs.Demands.{Got, ClosedIn, Passes, ChosenAt, CutDown, Kept, executions_at, accepted_executed}
+use Rattle.rules.specs.Demands.{Got, ClosedIn, Passes, ChosenAt, CutDown, BorderCleared, executions_at, accepted_executed}
 use Rattle.rules.specs.Clearing.{figures_at, day_steps}
 use Rattle.answer.specs.Told.{told, shown, accepted, hidden, limit, steps}
 use Rattle.answer.specs.declared.Response.{Response}
@@ -75,7 +75,7 @@ module _ (b : Book) (response : Q.Query → Response) where
       -- "and the cut sum then stands at it"
       pub stands : pos capacity <ℤ uncut_at border export → crossing_at border export ≡ pos capacity
       -- "by the papers' Share": each execution loses what Share takes from it
-      pub share : Kept (record { border = border; export = export; energy = capacity }) (figures_at b h).offers (executions_at b h) (figures_at b h).executions
+      pub share : BorderCleared (record { border = border; export = export; energy = capacity }) (figures_at b h).offers (executions_at b h) (figures_at b h).executions
 
     pub record Holds : Type 0 where
       -- "Matched sales equal matched purchases"

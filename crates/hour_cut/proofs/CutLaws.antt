@@ -21,7 +21,7 @@ use Rattle.rules.proofs.BoolLaws.{by_bool}
 use Rattle.rules.proofs.ListLaws.{all_map, all_head, all_tail}
 use Rattle.rules.proofs.ShareLaws.{share-length}
 use Rattle.rules.proofs.BalanceLaws.{bilateral-flows}
-use Rattle.rules.proofs.BorderLaws.{Fits, Kept, excess-le, amounts-flow}
+use Rattle.rules.proofs.BorderLaws.{Fits, BorderCleared, excess-le, amounts-flow}
 use Rattle.rules.proofs.IndexLaws.{from_all}
 use Rattle.hour_offers.specs.declared.Execution.{Execution as CodeExecution}
 use Rattle.hour_offers.specs.Sound.{ExecutionInRange}
@@ -41,8 +41,8 @@ pub enough-fits : (os : List Offer) (xs : List Execution) {cs : List Directed} �
 enough-fits os xs = all_map (λ c f. omega (arith, excess-le os xs c f, amounts-flow c xs))
 
 -- and so it is in a cleared hour
-pub enough-kept : (os : List Offer) (xs ys : List Execution) {cs : List Directed} → All (λ c. Kept c os xs ys) cs → All (Enough os xs) cs
-enough-kept os xs ys = all_map (λ c k. k.enough)
+pub enough-cleared : (os : List Offer) (xs ys : List Execution) {cs : List Directed} → All (λ c. BorderCleared c os xs ys) cs → All (Enough os xs) cs
+enough-cleared os xs ys = all_map (λ c k. k.enough)
 
 -- A direction with no excess takes nothing
 

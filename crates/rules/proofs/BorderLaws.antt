@@ -12,7 +12,7 @@ use Rattle.rules.specs.Lists.{All, none, more, keep, any, sum, sum_of, add_each}
 use Rattle.rules.specs.Match.{Offer}
 use Rattle.rules.specs.Borders.{Directed, Execution, runs, at_border, keeps, flow}
 use Rattle.rules.specs.Executions.{bilateral_excess, cuts, all_cuts, less_each, cut_all}
-pub use Rattle.rules.specs.Demands.{CutDown, SomeCut, this, another, amounts_on, Kept}
+pub use Rattle.rules.specs.Demands.{CutDown, SomeCut, this, another, amounts_on, BorderCleared}
 unfoldable pub use Rattle.rules.specs.Demands.{deducted}
 use Rattle.rules.proofs.BoolLaws.{by_bool, not-both, of-not}
 use Rattle.rules.proofs.ElementLaws.{all_both, empty, ahead, Each, each0, each, each-refl}
@@ -230,9 +230,9 @@ module _ (os : List Offer) (xs : List Execution) {cs : List Directed} (once : On
     at_after h = omega (arith, flow-in, flow-against, after-flow c.border (not c.export), bilateral-flows os xs c)
 
     -- all that holds there
-    kept : Kept c os xs after
+    border-cleared : BorderCleared c os xs after
     unfolding cuts
-    kept =
+    border-cleared =
         record {
           within = rw (crossing-flows c os after) (sub-le _ _ _ within-after);
           cut = (
@@ -245,9 +245,9 @@ module _ (os : List Offer) (xs : List Execution) {cs : List Directed} (once : On
         }
 
   -- every published direction, where the market alone fits
-  pub all-kept : All (λ c. Kept c os xs (cut_all os cs xs)) cs
+  pub borders-cleared : All (λ c. BorderCleared c os xs (cut_all os cs xs)) cs
   unfolding cut_all
-  all-kept = all_both kept fits (passing-cuts os xs once fits)
+  borders-cleared = all_both border-cleared fits (passing-cuts os xs once fits)
 
   -- an execution in no published direction keeps its energy
   pub all-uncut : Each (λ x y. any (λ c. runs c.border c.export x.holder) cs ≡ false → y.energy ≡ x.energy) xs (cut_all os cs xs)

@@ -74,9 +74,9 @@ module _ (b : Book) (s : Sound b) where
       )
 
   -- "no unit's energy passes its ceiling"
-  pub ceilings-kept : (u h : ℕ) → 1 ≤ h → h ≤ hours b → matched_at b u h + executed_at b u h ≤ ceiling_of b u h
+  pub within-ceilings : (u h : ℕ) → 1 ≤ h → h ≤ hours b → matched_at b u h + executed_at b u h ≤ ceiling_of b u h
   unfolding matched_at executed_at
-  ceilings-kept u h low high =
+  within-ceilings u h low high =
       omega (arith, unit-energy (figures-cleared b h s.standing.rising) u, hour-energy u h, accepted-within b s.standing.rising u h low high)
 
 -- Borders
@@ -151,7 +151,7 @@ hour-demanded b s h low high =
     let k = figures-cleared b h s.standing.rising in
     record {
       balanced = k.balanced;
-      ceilings = λ u. ceilings-kept b s u h low high;
+      ceilings = λ u. within-ceilings b s u h low high;
       executions = k.executions;
       withdrawal = record { none_over = k.no-overrun; counted = k.steps };
       borders = λ border export es l u e. of-capacities b.capacities h border export es l u e k.borders;

@@ -23,7 +23,7 @@ use Rattle.rules.proofs.BalanceLaws.{execution_flow, execution-toward}
 use Rattle.rules.proofs.DirectionLaws.{same_direction, Once}
 use Rattle.rules.proofs.WithdrawalLaws.{Lowered, lowered-trans, lowered-total, match-lowered}
 use Rattle.rules.proofs.EndLaws.{match-settled, settled-within, settled-volume, excess-none, none-excess, none_passes, Ended, withdraw-ends}
-use Rattle.rules.proofs.BorderLaws.{CutDown, Kept, Fits, all-kept, all-uncut, all-down}
+use Rattle.rules.proofs.BorderLaws.{CutDown, BorderCleared, Fits, borders-cleared, all-uncut, all-down}
 
 -- What an hour of the day book is: the offers' lodging numbers rise, and each border and direction is published at most once.
 pub record Sound (x : Hour) : Type 0 where
@@ -53,7 +53,7 @@ pub record HourCleared (x : Hour) (f : Figures) : Type 0 where
   pub executions : Each CutDown x.executions f.executions
   pub uncut : Each (λ e g. any (λ c. runs c.border c.export e.holder) x.capacities ≡ false → g.energy ≡ e.energy) x.executions f.executions
   -- in each published direction of a border: within its capacity, cut exactly when the sum with none cut passes it, and then at it
-  pub borders : All (λ c. Kept c f.offers x.executions f.executions) x.capacities
+  pub borders : All (λ c. BorderCleared c f.offers x.executions f.executions) x.capacities
   -- no more withdrawal steps than tenths of MWh were offered
   pub steps : f.steps ≤ step_bound x.offers
 
@@ -117,7 +117,7 @@ module _ (x : Hour) (s : Sound x) where
         maxima = none_passes _ maxima ended-hour.none_over;
         executions = all-down _ x.capacities x.executions;
         uncut = all-uncut _ x.executions s.once fit;
-        borders = all-kept _ x.executions s.once fit;
+        borders = borders-cleared _ x.executions s.once fit;
         steps = omega (arith, ended-hour.counted, lowered-total (match-lowered x.offers));
       }
 

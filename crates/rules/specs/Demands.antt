@@ -108,7 +108,7 @@ deducted c (x ∷ xs) (y ∷ ys) =
     cond (runs c.border c.export x.holder) (at_border x.holder x.energy - at_border y.holder y.energy) 0 ∷ deducted c xs ys
 
 -- What holds at a border in a direction with a capacity, of the final offers, the executions, and the executions after cuts.
-pub record Kept (c : Directed) (os : List Offer) (before after : List Execution) : Type 0 where
+pub record BorderCleared (c : Directed) (os : List Offer) (before after : List Execution) : Type 0 where
   -- "Market plus bilateral balance at each border keeps within each published capacity."
   pub within : crossing c os after ≤ℤ pos c.energy
   -- "Some execution there in a direction is cut [..] exactly when the sum with none cut would pass that direction's capacity"
@@ -146,7 +146,7 @@ pub record Cleared (b : Book) (h : ℕ) : Type 0 where
   -- "Market plus bilateral balance at each border keeps within each published capacity", and what is cut there: at each of
   -- the 4 borders in each direction for which the notice has energies es
   pub borders : (border : ℕ) (export : Bool) (es : List ℕ) → 1 ≤ border → border ≤ 4 → capacity_of b.capacities border export ≡ some es
-      → Kept (record { border = border; export = export; energy = hourly es h }) (figures_at b h).offers (executions_at b h) (figures_at b h).executions
+      → BorderCleared (record { border = border; export = export; energy = hourly es h }) (figures_at b h).offers (executions_at b h) (figures_at b h).executions
   -- "Absent means no maximum": in a direction without capacity no execution is cut
   pub uncut : (border : ℕ) (export : Bool) → capacity_of b.capacities border export ≡ none → Each (Uncut border export) (executions_at b h) (figures_at b h).executions
 
