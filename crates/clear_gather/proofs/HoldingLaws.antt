@@ -141,8 +141,8 @@ unit-parts a b c d = rw (a, b, c, d)
 unit-same : (x y : Holder) → x.unit ≡ y.unit → SameUnit x y → unit_for x ≡ unit_for y
 unit-same x y e s = unit-parts e s.border s.purchase s.legacy
 
-apart-agents : (x y : Holder) → eqb x.unit y.unit ≡ false → U.same_border_side (unit_for x).unit (unit_for y).unit ≡ false
-unfolding U.same_border_side U.domestic
+apart-agents : (x y : Holder) → eqb x.unit y.unit ≡ false → U.is_second_to (unit_for x).unit (unit_for y).unit ≡ false
+unfolding U.is_second_to U.domestic
 apart-agents x y n = by_bool (eqb x.border 0) (λ t. rw t) (λ t. rw (t, n))
 
 good-unit : (x : Holder) → HolderWithin 0 x → U.bad_unit (unit_for x).unit ≡ false

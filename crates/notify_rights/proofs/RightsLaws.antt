@@ -123,7 +123,7 @@ module _ (agent : ℕ) (purchase : Bool) where
   french_at r = U.french_of agent purchase r.unit
 
   -- are at most two: one is marked, one is not
-  french-twice : {us : List U.Registered} → Pairwise (λ r s. U.same_border_side r.unit s.unit ≡ false) us → Twice french_at us
+  french-twice : {us : List U.Registered} → Pairwise (λ r s. U.is_second_to r.unit s.unit ≡ false) us → Twice french_at us
   french-twice empty = twice0
   french-twice (ahead {x} a t) =
       twice (λ e. pairwise-with (λ y z k l m f. of-not (french_at z) (λ g. no-three x.unit.rights y.unit.rights z.unit.rights

@@ -44,8 +44,8 @@ use Rattle.session.proofs.ImageLaws.{closed-as, enrolled-as, units-as, rights-as
 
 -- of one agent and side, number 8 tells two of them apart by their marks
 pub french-beside : (agent : ℕ) (purchase : Bool) (u v : U.TradingUnit) → U.french_of agent purchase u ≡ true → U.french_of agent purchase v ≡ true
-    → U.same_border_side u v ≡ beq u.rights v.rights
-unfolding U.same_border_side U.domestic U.french
+    → U.is_second_to u v ≡ beq u.rights v.rights
+unfolding U.is_second_to U.domestic U.french
 french-beside agent purchase u v h k =
     let x = french-parts agent purchase u h in
     let y = french-parts agent purchase v k in
@@ -74,7 +74,7 @@ any-alike p q none = refl
 any-alike p q (more h t) = rw (h, any-alike p q t)
 
 -- beside a marked unit that is no second one they are its partners
-partner-shares : (u : U.TradingUnit) → u.rights ≡ true → U.french u ≡ true → (r : U.Registered) → U.same_border_side u r.unit ≡ false
+partner-shares : (u : U.TradingUnit) → u.rights ≡ true → U.french u ≡ true → (r : U.Registered) → U.is_second_to u r.unit ≡ false
     → D.is_partner u.agent u.purchase r ≡ shares u r
 unfolding D.is_partner
 partner-shares u e f r k =
@@ -113,7 +113,7 @@ and_alike true f = f refl
 and_alike false f = refl
 
 -- a partner stands at an index of the list
-partner-at : (us : List U.Registered) (u : U.TradingUnit) → U.bad_unit u ≡ false → any (λ r. U.same_border_side u r.unit) us ≡ false
+partner-at : (us : List U.Registered) (u : U.TradingUnit) → U.bad_unit u ≡ false → any (λ r. U.is_second_to u r.unit) us ≡ false
     → (u.rights && not (any (D.is_partner u.agent u.purchase) us)) ≡ (u.rights && is_none (position (shares u) us))
 partner-at us u k g =
     and_alike u.rights (λ e.

@@ -3,7 +3,7 @@
 
 ghost use Rattle.std.specs.Prelude.{◌≡◌, ◌<◌, ◌&&◌, ◌||◌, not, take, position, IfSome, is_none};
 ghost use Rattle.std.specs.List.{list_any};
-ghost use Rattle.rules.specs.Units.{bad_unit, domestic, french, french_of, same_border_side};
+ghost use Rattle.rules.specs.Units.{bad_unit, domestic, french, french_of, is_second_to};
 ghost use Rattle.rules.specs.DayBook.{register};
 ghost use Rattle.session.specs.Image.{unit_in};
 ghost use Rattle.session.specs.Steps.{Met};
@@ -37,9 +37,9 @@ fn bad_unit(u: Unit) -> bool
 }
 
 // Whether v is of the agent, border (1 to 4), side and mark of u: no equality of units, since nothing else of them counts.
-#[tactic(auto, unfolding(rules::specs::Units::same_border_side, rules::specs::Units::domestic))]
-fn same_border_side(u: Unit, v: Unit) -> bool
-    ensures { result ≡ same_border_side (unit_in u) (unit_in v) }
+#[tactic(auto, unfolding(rules::specs::Units::is_second_to, rules::specs::Units::domestic))]
+fn is_second_to(u: Unit, v: Unit) -> bool
+    ensures { result ≡ is_second_to (unit_in u) (unit_in v) }
 {
     u.border != 0
         && u.agent == v.agent
@@ -75,7 +75,7 @@ fn is_taken(units: &[Unit], number: u32) -> bool
 fn has_second(units: &[Unit], u: Unit) -> bool
     ensures { result ≡ list_any (beside_unit (unit_in u)) units.now }
 {
-    units.iter().any(|v| same_border_side(u, *v))
+    units.iter().any(|v| is_second_to(u, *v))
 }
 
 // The index of the first unit that has the rights of u.

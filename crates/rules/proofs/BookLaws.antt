@@ -12,7 +12,7 @@ use borrow.Author.Tests.{leb-false, ltb-true, ltb-false, eqb-true, eqb-false, eq
 use Rattle.rules.specs.Lists.{All, none, more, Pairwise, empty, ahead, keep, any, first, sum_of, from, hourly}
 use Rattle.rules.specs.Refusals.{Row, row, first_row}
 use Rattle.rules.specs.Hours.{unfold_hours, Date, is_date, date_row}
-use Rattle.rules.specs.Units.{TradingUnit, Registered, Published, Capacities, max_energy, domestic, bad_unit, bad_number, bad_energies, bad_published, not_of_hours, same_border_side, french, french_of, has_number, is_registered, unit_of, nobody}
+use Rattle.rules.specs.Units.{TradingUnit, Registered, Published, Capacities, max_energy, domestic, bad_unit, bad_number, bad_energies, bad_published, not_of_hours, is_second_to, french, french_of, has_number, is_registered, unit_of, nobody}
 use Rattle.rules.specs.Message.{Key, Fields, names, message_of, wrong_form, bad_map, bad_key, bad_fields, wrong_range}
 use Rattle.rules.specs.Lodging.{Lodgement, energy_at, same_key, stands, without, names_beyond}
 use Rattle.rules.specs.Book.{Book, hours, limits_of, fresh, Frozen, frozen}
@@ -48,10 +48,10 @@ notice-good H cs h k = all_both (published-good H) (any_false (not_of_hours H) c
 -- Units
 
 -- an agent's border and side: the order does not matter
-second-sym : (u v : TradingUnit) → same_border_side u v ≡ false → same_border_side v u ≡ false
-unfolding same_border_side domestic
+second-sym : (u v : TradingUnit) → is_second_to u v ≡ false → is_second_to v u ≡ false
+unfolding is_second_to domestic
 second-sym u v h =
-    of-not (same_border_side v u) (λ k.
+    of-not (is_second_to v u) (λ k.
     let m = both (not (domestic v) && eqb v.agent u.agent && eqb v.border u.border && beq v.purchase u.purchase) (beq v.rights u.rights) k in
     let a = both (not (domestic v) && eqb v.agent u.agent && eqb v.border u.border) (beq v.purchase u.purchase) m.0 in
     let b = both (not (domestic v) && eqb v.agent u.agent) (eqb v.border u.border) a.0 in
@@ -106,14 +106,14 @@ foreign-none us u e = rw e
 
 -- a unit that is registered: its rows 7, 8 and 15 do not apply
 register-sound : (H : ℕ) (us : List Registered) (u : TradingUnit) → UnitsSound H us → bad_unit u ≡ false → is_registered us u.number ≡ false
-    → any (λ r. same_border_side u r.unit) us ≡ false → length us < 64 → (u.rights ≡ true → any (is_partner u.agent u.purchase) us ≡ true)
+    → any (λ r. is_second_to u r.unit) us ≡ false → length us < 64 → (u.rights ≡ true → any (is_partner u.agent u.purchase) us ≡ true)
     → UnitsSound H (us ++ (record { unit = u; available = nothing; rights = rights_on_side us u } ∷ []))
 unfolding is_registered has_number
 register-sound H us u s good new second room partner =
     record {
       room = rw length-append (omega arith);
       distinct = pairwise-last s.distinct (all_map (λ r e. eqb-false r.unit.number u.number e) (any_false (has_number u.number) us new));
-      single = pairwise-last s.single (all_map (λ r e. second-sym u r.unit e) (any_false (λ r. same_border_side u r.unit) us second));
+      single = pairwise-last s.single (all_map (λ r e. second-sym u r.unit e) (any_false (λ r. is_second_to u r.unit) us second));
       ranges = all-last s.ranges good;
       notices = all-last s.notices absent;
       granted = all-last s.granted (partner-granted H us u s);

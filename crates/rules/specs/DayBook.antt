@@ -4,7 +4,7 @@ use Rattle.std.proofs.Math.Option.{Option, some, none}
 use Rattle.rules.specs.Lists.{any, first}
 use Rattle.rules.specs.Refusals.{Row, row, first_row}
 use Rattle.rules.specs.Hours.{Date, date_row}
-use Rattle.rules.specs.Units.{TradingUnit, Registered, Capacities, bad_unit, bad_number, bad_energies, bad_published, not_of_hours, same_border_side, french, french_of, has_number, nobody, is_registered, unit_of}
+use Rattle.rules.specs.Units.{TradingUnit, Registered, Capacities, bad_unit, bad_number, bad_energies, bad_published, not_of_hours, is_second_to, french, french_of, has_number, nobody, is_registered, unit_of}
 use Rattle.rules.specs.Message.{Key, Fields, message_of, wrong_form, bad_map, bad_key, wrong_range}
 use Rattle.rules.specs.Lodging.{Lodgement, stands, without, judged_at, judged_by, limit_rows, names_beyond, domestic_execution}
 use Rattle.rules.specs.Book.{Book, hours, lines_of, fresh}
@@ -43,7 +43,7 @@ bad_holder b k = unregistered b k.unit || domestic_execution k (unit_of b.units 
 
 -- 8, second: "agent has that border (1 to 4) and side"; K1: "number 8 counts marked and unmarked units apart"
 unfoldable pub is_second : Book → TradingUnit → Bool
-is_second b u = any (λ r. same_border_side u r.unit) b.units
+is_second b u = any (λ r. is_second_to u r.unit) b.units
 
 -- 6, unit: "the agent has no French unit on that side"
 unfoldable pub no_french : Book → ℕ → Bool → Bool

@@ -5,7 +5,7 @@ use Rattle.std.proofs.Math.Option.{some, none}
 use Rattle.rules.specs.Lists.{All, Pairwise, any, hourly}
 use Rattle.rules.specs.Refusals.{given}
 use Rattle.rules.specs.Hours.{is_date}
-use Rattle.rules.specs.Units.{Registered, Published, Capacities, max_energy, bad_unit, same_border_side, french, french_of, unit_of, is_registered}
+use Rattle.rules.specs.Units.{Registered, Published, Capacities, max_energy, bad_unit, is_second_to, french, french_of, unit_of, is_registered}
 use Rattle.rules.specs.Message.{Key, Fields, bad_key, names, top_price, read}
 use Rattle.rules.specs.Lodging.{Lodgement, energy_at, same_key, names_beyond, domestic_execution}
 use Rattle.rules.specs.Book.{Book, hours}
@@ -22,7 +22,7 @@ pub record UnitsSound (H : ℕ) (us : List Registered) : Type 0 where
   -- no number is registered twice
   pub distinct : Pairwise (λ r s. r.unit.number ≡ s.unit.number → ⊥) us
   -- "An agent has one unit per border 1 to 4 and side", of each mark
-  pub single : Pairwise (λ r s. same_border_side r.unit s.unit ≡ false) us
+  pub single : Pairwise (λ r s. is_second_to r.unit s.unit ≡ false) us
   -- each unit's values are within their ranges
   pub ranges : All (λ r. bad_unit r.unit ≡ false) us
   -- "An unavailability notice gives H available energies for one unit"

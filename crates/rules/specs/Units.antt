@@ -39,8 +39,8 @@ bad_unit u =
     || (u.legacy && domestic u) || (u.rights && not (french u))
 
 -- "An agent has one unit per border 1 to 4 and side (001); domestic units are not so limited." K1: "number 8 counts marked and unmarked units apart"
-unfoldable pub same_border_side : TradingUnit → TradingUnit → Bool
-same_border_side u v =
+unfoldable pub is_second_to : TradingUnit → TradingUnit → Bool
+is_second_to u v =
     not (domestic u) && eqb u.agent v.agent && eqb u.border v.border && beq u.purchase v.purchase
     && beq u.rights v.rights
 
@@ -179,5 +179,5 @@ unfoldable pub is_registered : List Registered → ℕ → Bool
 is_registered us n = any (has_number n) us
 
 unfoldable pub unfold_units : Unit {0}
-unfolding bad_number domestic french bad_unit same_border_side french_of direction capacity_of not_of_hours bad_energies bad_published available_at rights_at both_at border_sum maximum_limit available_limit own_limits lessened border_limit rights_limit border_limits limits passes least_of ceiling has_number unit_of is_registered
+unfolding bad_number domestic french bad_unit is_second_to french_of direction capacity_of not_of_hours bad_energies bad_published available_at rights_at both_at border_sum maximum_limit available_limit own_limits lessened border_limit rights_limit border_limits limits passes least_of ceiling has_number unit_of is_registered
 unfold_units = tt
