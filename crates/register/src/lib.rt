@@ -12,7 +12,7 @@ ghost use Rattle.register.specs.Registry.{beside_unit, shares_rights, rights_fro
 
 use answer::Response;
 use rules::row::Row;
-use rules::{LAST_BORDER, UNITS, bad_number};
+use rules::{FRANCE, LAST_BORDER, UNITS, bad_number};
 use session::{Effect, Notice, Session, Unit, no_notice};
 use session_changes::{Call, RegistryChange, Step, run};
 
@@ -21,7 +21,7 @@ use session_changes::{Call, RegistryChange, Step, run};
 fn bad_marks(u: Unit) -> bool
     ensures { result ≡ ((u.legacy && domestic (unit_in u)) || (u.rights && not (french (unit_in u)))) }
 {
-    u.legacy && u.border == 0 || u.rights && u.border != 1
+    u.legacy && u.border == 0 || u.rights && u.border != FRANCE
 }
 
 // Row 5: a value outside its range, or a mark that the unit cannot have.
@@ -53,7 +53,7 @@ fn is_second_to(u: Unit, v: Unit) -> bool
 pub fn french_of(v: Unit, agent: u32, purchase: bool) -> bool
     ensures { result ≡ french_of agent purchase (unit_in v) }
 {
-    v.border == 1 && v.agent == agent && v.purchase == purchase
+    v.border == FRANCE && v.agent == agent && v.purchase == purchase
 }
 
 // Whether u and v are French units of one agent and side: these have the same rights.
@@ -61,7 +61,7 @@ pub fn french_of(v: Unit, agent: u32, purchase: bool) -> bool
 fn shares_rights(u: Unit, v: Unit) -> bool
     ensures { result ≡ shares_rights (unit_in u) v }
 {
-    u.border == 1 && french_of(v, u.agent, u.purchase)
+    u.border == FRANCE && french_of(v, u.agent, u.purchase)
 }
 
 // Row 7: one of the units has the number. (Not by `units::index`: the row asks no index.)

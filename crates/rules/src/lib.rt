@@ -26,6 +26,9 @@ pub const BORDERS: usize = 4;
 // A unit's border is 0 to 4, and the border of a notice or a balance 1 to 4.
 pub const LAST_BORDER: u32 = 4;
 
+// The border whose units can be marked "with rights".
+pub const FRANCE: u32 = 1;
+
 // "A capacity notice covers the 4 borders in 2 directions"
 pub const DIRECTIONS: usize = 8;
 
