@@ -23,7 +23,7 @@ use Rattle.session_changes.specs.Changes.{with_rights, rights_with}
 use Rattle.session_changes.specs.Effects.{done}
 use Rattle.answer.specs.Told.{told, is_refusal, accepted}
 use Rattle.session.specs.Parts.{index_of, JudgesRow, given_by, Entered}
-use Rattle.register.proofs.RegisterLaws.{french-beside, position-none, none-passes, found-at, position-map}
+use Rattle.register.proofs.RegisterLaws.{french-beside}
 use Rattle.notify_unavailability.specs.Notices.{over_limit, stored_as}
 use Rattle.notify_unavailability.proofs.NoticeLaws.{bad-counted, stored-as, others, set-index, count-fits}
 use Rattle.notify_rights.specs.Rights.{rights_in, french_unit, next_index}
@@ -40,7 +40,7 @@ use Rattle.std.specs.List.{position, list_any}
 use Rattle.rules.specs.declared.row.Row as R
 use Rattle.rules.specs.declared.row.Row.TheVariants.{Gate, Hour, Range}
 use Rattle.session.proofs.LaidLaws.{length-counted}
-use Rattle.session.proofs.IndexLaws.{Once, indexed, unindexed, position-as}
+use Rattle.session.proofs.IndexLaws.{Once, indexed, unindexed, position-as, position-none, none-passes, found-at, position-map}
 use Rattle.session.proofs.ImageLaws.{closed-as, hours-as, units-as}
 use Rattle.session.proofs.StepLaws.{open_row}
 use Rattle.session.proofs.SoundLaws.{open-stage}

@@ -8,11 +8,10 @@ use native.Mathlib.Omega.{arith}
 use lib.Dec.{ltb}
 use lib.ListN.{take, length, get_or, length-map}
 use lib.Seq.{get_or-take}
-use borrow.Author.Tests.{le-leb, lt-leb, lt-ltb, le-ltb, ltb-true, eqb-true, eq-eqb, not-false}
+use borrow.Author.Tests.{le-leb, lt-leb, eqb-true, eq-eqb, not-false}
 use Rattle.std.specs.Prelude.{Some, None, is_none}
 use Rattle.std.specs.declared.option.Option.{Option}
 use Rattle.std.specs.List.{list_any, position}
-use Rattle.std.proofs.lemmas.Option.{cond_some}
 use Rattle.rules.specs.Lists.{All, none, more, any, first}
 use Rattle.rules.proofs.BoolLaws.{by_bool, not-both, of-not, neither, of-beq}
 use Rattle.rules.proofs.ListLaws.{all_map, any_false, of-any-false, any-list, first-none}
@@ -26,7 +25,7 @@ use Rattle.session.specs.Image.{image, verdicts_in, hours_in, unit_as, unit_of, 
 use Rattle.session_changes.specs.Changes.{registry_with}
 use Rattle.session_changes.specs.Effects.{done}
 use Rattle.answer.specs.Told.{told, is_refusal, accepted}
-use Rattle.session.specs.Parts.{number_is, index_of, JudgesRow, given_by, Entered}
+use Rattle.session.specs.Parts.{number_is, JudgesRow, given_by, Entered}
 use Rattle.register.specs.Registry.{beside_unit, shares_rights, rights_from}
 use Rattle.session.specs.declared.Session.{Session}
 use Rattle.session.specs.declared.Notice.{Notice}
@@ -35,7 +34,7 @@ use Rattle.std.specs.declared.result.Result.TheVariants.{Ok, Err}
 use Rattle.rules.specs.declared.row.Row as Code
 use Rattle.rules.specs.declared.row.Row.TheVariants.{Gate, Range, Taken, Second, Full, Rights}
 use Rattle.session.proofs.LaidLaws.{any-map, map_last, length_last, set-pad}
-use Rattle.session.proofs.IndexLaws.{indexed, unindexed, index-first, index-map, get_or-map, position-as}
+use Rattle.session.proofs.IndexLaws.{index-first, get_or-map, position-none, none-passes, found-at, position-map}
 use Rattle.session.proofs.StepLaws.{open_row}
 use Rattle.session.proofs.SoundLaws.{open-stage}
 use Rattle.session.proofs.ImageLaws.{closed-as, enrolled-as, units-as, rights-as, registered-as}
@@ -88,25 +87,6 @@ unfolding D.is_second
 second-as s b e u = rw (units-as s b e) (sym (any-map unit_of (beside_unit u) b.units))
 
 -- The unit whose rights a new one gets
-
-module _ {A : Type 0} (p : A → Bool) where
-  -- none is found exactly where none passes
-  pub position-none : (xs : List A) → is_none (position p xs) ≡ not (any p xs)
-  position-none xs =
-      rw (position-as p xs)
-      (by_bool (any p xs) (λ e. rw (lt-ltb (index_of p xs) (length xs) (indexed p xs e), e)) (λ e. rw (le-ltb (index_of p xs) (length xs) (omega (arith, unindexed p xs e)), e)))
-
-  pub none-passes : (xs : List A) → position p xs ≡ None → any p xs ≡ false
-  none-passes xs h = of-not (any p xs) (λ e. not-both (sym (position-none xs) ∙ ap is_none h) (ap not e))
-
-  -- what is found is the index of the first that passes
-  pub found-at : (xs : List A) (at : ℕ) → position p xs ≡ Some at → (index_of p xs < length xs) × (index_of p xs ≡ at)
-  found-at xs at h =
-      let k = cond_some (ltb (index_of p xs) (length xs)) (index_of p xs) at (sym (position-as p xs) ∙ h) in
-      (ltb-true (index_of p xs) (length xs) k.0, k.1)
-
-pub position-map : {A B : Type 0} (f : A → B) (p : B → Bool) (xs : List A) → position p (map f xs) ≡ position (λ x. p (f x)) xs
-position-map f p xs = rw (position-as p (map f xs), position-as (λ x. p (f x)) xs, index-map f p xs, length-map xs f)
 
 and_alike : (a : Bool) {b c : Bool} → (a ≡ true → b ≡ c) → (a && b) ≡ (a && c)
 and_alike true f = f refl

@@ -1,18 +1,19 @@
 -- The index of the first element that passes a test.
 use Prim.Native.Nat.{ℕ, zero, suc, ◌+◌, ◌≤◌, ◌<◌}
-use mathlib.Core.Path.{◌≡◌, refl, sym, ap}
-use mathlib.Core.Bool.{Bool, true, false, cond, false≢true}
-use Rattle.std.specs.Prelude.{Some, None}
+use mathlib.Core.Path.{◌≡◌, refl, sym, ap, ◌∙◌}
+use mathlib.Core.Bool.{Bool, true, false, cond, not, false≢true}
+use Rattle.std.specs.Prelude.{Some, None, is_none}
 use Rattle.std.specs.List.{position, position_or_len}
+use Rattle.std.proofs.lemmas.Option.{cond_some}
 use mathlib.Core.List.{List, [], ◌∷◌, map}
 use native.Mathlib.Omega.{arith}
 use native.Mathlib.Numerals.{add-one}
 use lib.Dec.{ltb}
-use lib.ListN.{length, get_or, take, drop, length-take, drop_of_length-le}
+use lib.ListN.{length, get_or, take, drop, length-map, length-take, drop_of_length-le}
 use lib.Seq.{get_or-take, drop-cons}
-use borrow.Author.Tests.{lt-ltb, le-ltb}
+use borrow.Author.Tests.{lt-ltb, le-ltb, ltb-true}
 use Rattle.rules.specs.Lists.{Pairwise, any, first}
-use Rattle.rules.proofs.BoolLaws.{by_bool}
+use Rattle.rules.proofs.BoolLaws.{by_bool, not-both, of-not}
 use Rattle.session.specs.Parts.{index_of}
 
 -- at most one passes
@@ -89,3 +90,22 @@ module _ {A : Type 0} (p : A → Bool) where
 
   pub position-as : (xs : List A) → position p xs ≡ cond (ltb (index_of p xs) (length xs)) (Some (index_of p xs)) None
   position-as xs = rw (at-first xs) refl
+
+  -- none is found exactly where none passes
+  pub position-none : (xs : List A) → is_none (position p xs) ≡ not (any p xs)
+  position-none xs =
+      rw (position-as xs)
+      (by_bool (any p xs) (λ e. rw (lt-ltb (index_of p xs) (length xs) (indexed p xs e), e)) (λ e. rw (le-ltb (index_of p xs) (length xs) (omega (arith, unindexed p xs e)), e)))
+
+  pub none-passes : (xs : List A) → position p xs ≡ None → any p xs ≡ false
+  none-passes xs h = of-not (any p xs) (λ e. not-both (sym (position-none xs) ∙ ap is_none h) (ap not e))
+
+  -- what is found is the index of the first that passes
+  pub found-at : (xs : List A) (at : ℕ) → position p xs ≡ Some at → (index_of p xs < length xs) × (index_of p xs ≡ at)
+  found-at xs at h =
+      let k = cond_some (ltb (index_of p xs) (length xs)) (index_of p xs) at (sym (position-as xs) ∙ h) in
+      (ltb-true (index_of p xs) (length xs) k.0, k.1)
+
+-- a mapped list is searched as the list is
+pub position-map : {A B : Type 0} (f : A → B) (p : B → Bool) (xs : List A) → position p (map f xs) ≡ position (λ x. p (f x)) xs
+position-map f p xs = rw (position-as p (map f xs), position-as (λ x. p (f x)) xs, index-map f p xs, length-map xs f)
