@@ -1,31 +1,28 @@
 -- Rights notices: each way out.
-use Prim.Native.Nat.{ℕ, zero, suc, ◌+◌, ◌≤◌}
+use Prim.Native.Nat.{ℕ, zero, suc, ◌+◌}
 use mathlib.Core.Path.{◌≡◌, refl, sym, ap, ap₂, ◌∙◌}
-use mathlib.Core.Bool.{Bool, true, false, cond, ◌||◌, beq, false≢true}
+use mathlib.Core.Bool.{Bool, true, false, cond, beq, false≢true}
 use mathlib.Core.List.{List, [], ◌∷◌, ◌++◌, map}
-use mathlib.Core.Option.{some, none as nothing}
+use mathlib.Core.Option.{some}
 use native.Mathlib.Omega.{arith}
-use lib.Dec.{eqb}
 use lib.ListN.{take, drop, length, set, length-map}
 use borrow.Author.Tests.{lt-ltb, le-ltb, not-false}
 use Rattle.rules.specs.Lists.{Pairwise, empty, ahead, any}
-use Rattle.rules.specs.Refusals.{row, first_row}
 use Rattle.rules.specs.Units as U
 use Rattle.rules.specs.Book as B
 use Rattle.rules.specs.DayBook as D
 use Rattle.rules.proofs.BoolLaws.{by_bool, of-not}
-use Rattle.rules.proofs.ListLaws.{any_false, all_head, all_tail}
+use Rattle.rules.proofs.ListLaws.{any_false}
 use Rattle.rules.proofs.ElementLaws.{pairwise-with}
-use Rattle.rules.proofs.RefusalLaws.{accepted-rows}
 use Rattle.session.specs.Laid.{pad, counted}
 use Rattle.session.specs.Image.{image, Sound, verdicts_in, hours_in, unit_of, notice_of, rights_of, notice_as, no_notice}
 use Rattle.session_changes.specs.Changes.{with_rights, rights_with}
 use Rattle.session_changes.specs.Effects.{done}
 use Rattle.answer.specs.Told.{told, is_refusal, accepted}
-use Rattle.session.specs.Parts.{index_of, JudgesRow, given_by, Entered}
+use Rattle.session.specs.Parts.{index_of, Entered}
 use Rattle.register.proofs.RegisterLaws.{french-beside}
-use Rattle.notify_unavailability.specs.Notices.{over_limit, stored_as}
-use Rattle.notify_unavailability.proofs.NoticeLaws.{bad-counted, stored-as, others, set-index, count-fits}
+use Rattle.notify_unavailability.specs.Notices.{stored_as}
+use Rattle.notify_unavailability.proofs.NoticeLaws.{IsNotice, stored-as, others, set-index, count-fits}
 use Rattle.notify_rights.specs.Rights.{rights_in, french_unit, next_index}
 use Rattle.notify_rights.specs.declared.Rights.{Rights}
 use Rattle.session.specs.declared.Session.{Session}
@@ -33,15 +30,9 @@ use Rattle.session.specs.declared.Unit.{Unit}
 use Rattle.session.specs.declared.Notice.{Notice}
 use Rattle.std.specs.Prelude.{Some, None, is_none}
 use Rattle.std.specs.declared.option.Option.{Option}
-use Rattle.std.specs.declared.result.Result.{Result}
-use Rattle.std.specs.declared.result.Result.TheVariants.{Ok, Err}
-use Rattle.std.specs.Option.{ok_or}
-use Rattle.std.specs.List.{position, list_any}
-use Rattle.rules.specs.declared.row.Row as R
-use Rattle.rules.specs.declared.row.Row.TheVariants.{Gate, Hour, Range}
-use Rattle.session.proofs.LaidLaws.{length-counted}
-use Rattle.session.proofs.IndexLaws.{Once, indexed, unindexed, position-as, position-none, none-passes, found-at, position-map}
-use Rattle.session.proofs.ImageLaws.{closed-as, hours-as, units-as}
+use Rattle.std.specs.List.{position}
+use Rattle.session.proofs.IndexLaws.{Once, indexed, unindexed, position-as, position-none, found-at, position-map}
+use Rattle.session.proofs.ImageLaws.{units-as}
 use Rattle.session.proofs.StepLaws.{open_row}
 use Rattle.session.proofs.SoundLaws.{open-stage}
 
@@ -168,63 +159,18 @@ module _ (agent : ℕ) (purchase : Bool) where
 
 -- Judging
 
-module _ (s : Session) (n : Rights) where
-  -- the judgement is the table's
-  abbrev ByTable : Result ℕ R.Row → Type 0
-  ByTable j = JudgesRow s (rights_in n) j
+pub rights-notice : (n : Rights) → IsNotice (rights_in n) n.count n.agent n.energies (λ b. D.no_french b n.agent n.purchase)
+unfolding D.rows_of D.gate_row D.call_rows
+rights-notice n = record { rows = λ b. refl }
 
-  abbrev bad : Bool
-  bad = U.bad_number n.agent || list_any over_limit (take n.count n.energies)
-
-  abbrev first_found : Option ℕ
-  first_found = position (french_unit n.agent n.purchase) (take s.enrolled s.units)
-
-  pub rights-2 : s.closed ≡ true → ByTable (Err Gate)
-  unfolding D.rows_of D.gate_row D.call_rows D.change_row row first_row given_by
-  rights-2 h b e = rw (closed-as s b e, h)
-
-  pub rights-4 : s.closed ≡ false → eqb n.count s.hours ≡ false → ByTable (Err Hour)
-  unfolding D.rows_of D.gate_row D.call_rows D.change_row row first_row given_by
-  rights-4 h k b e = rw (length-counted n.count n.energies, hours-as s b e, k, closed-as s b e, h)
-
-  pub rights-5 : s.closed ≡ false → eqb n.count s.hours ≡ true → bad ≡ true → ByTable (Err Range)
-  unfolding D.rows_of D.gate_row D.call_rows D.change_row row first_row given_by
-  rights-5 h k r b e = rw (length-counted n.count n.energies, hours-as s b e, k, bad-counted n.count n.energies, r, closed-as s b e, h)
-
-  some-french : (b : B.Book) → s ≡ image b → (at : ℕ) → first_found ≡ Some at → any (french_at n.agent n.purchase) b.units ≡ true
-  some-french b e at t =
-      not-false _ (sym (position-none (french_at n.agent n.purchase) b.units) ∙ ap is_none (sym (found-as n.agent n.purchase s b e) ∙ t))
-
-  module _ (h : s.closed ≡ false) (k : eqb n.count s.hours ≡ true) (r : bad ≡ false) where
-    rights-6 : first_found ≡ None → ByTable (Err R.TheVariants.Unit)
-    unfolding D.rows_of D.gate_row D.call_rows D.change_row D.no_french row first_row given_by
-    rights-6 t b e =
-        rw (
-          length-counted n.count n.energies,
-          hours-as s b e,
-          k,
-          bad-counted n.count n.energies,
-          r,
-          none-passes (french_at n.agent n.purchase) b.units (sym (found-as n.agent n.purchase s b e) ∙ t),
-          closed-as s b e,
-          h,
-        )
-
-    rights-0 : (at : ℕ) → first_found ≡ Some at → ByTable (Ok at)
-    unfolding D.rows_of D.gate_row D.call_rows D.change_row D.no_french row first_row given_by
-    rights-0 at t b e =
-        rw (length-counted n.count n.energies, hours-as s b e, k, bad-counted n.count n.energies, r, some-french b e at t, closed-as s b e, h)
-
-    -- the unit that was looked for is found, or refused
-    pub rights-found : (o : Option ℕ) → o ≡ first_found → ByTable (ok_or o R.TheVariants.Unit)
-    rights-found None q = rights-6 (sym q)
-    rights-found (Some at) q = rights-0 at (sym q)
+-- the agent has no French unit there where none is found
+pub no-french-as : (s : Session) (agent : ℕ) (purchase : Bool) (o : Option ℕ) → o ≡ position (french_unit agent purchase) (take s.enrolled s.units)
+    → (b : B.Book) → s ≡ image b → D.no_french b agent purchase ≡ is_none o
+unfolding D.no_french
+no-french-as s agent purchase o q b e =
+    sym (position-none (french_at agent purchase) b.units) ∙ ap is_none (sym (q ∙ found-as agent purchase s b e))
 
 -- Entering
-
-fits : (b : B.Book) (agent : ℕ) (purchase : Bool) (count : ℕ) (es : List ℕ) → first_row (D.rows_of b (D.rights agent purchase (counted count es))) ≡ nothing → count ≤ 25
-unfolding D.rows_of D.gate_row D.call_rows row
-fits b agent purchase count es o = count-fits b count es (all_head (all_tail (accepted-rows _ o)))
 
 -- rights at the indices that were found
 pub rights-entered : (s : Session) (n : Rights) (at : ℕ) → position (french_unit n.agent n.purchase) (take s.enrolled s.units) ≡ Some at
@@ -237,9 +183,10 @@ rights-entered s n at h = record {
   book = λ b sound o e.
       let p = french_at n.agent n.purchase in
       let es = counted n.count n.energies in
-      let k = stored-as n.count n.energies (fits b n.agent n.purchase n.count n.energies o) in
-      let i = (found-at p b.units at (sym (found-as n.agent n.purchase s b e) ∙ h)).1 in
-      let some_one = some-french s n b e at h in
+      let k = stored-as n.count n.energies (count-fits b (rights-notice n) o) in
+      let found = sym (found-as n.agent n.purchase s b e) ∙ h in
+      let some_one : any p b.units ≡ true = not-false _ (sym (position-none p b.units) ∙ ap is_none found) in
+      let i = (found-at p b.units at found).1 in
       let second : second_of p b.units ≡ next_index p b.units at = sym (second-found p b.units some_one) ∙ ap (next_index p b.units) i in
       record {
         answer = refl;

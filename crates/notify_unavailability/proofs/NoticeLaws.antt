@@ -33,8 +33,8 @@ use Rattle.session.specs.declared.Notice.{Notice}
 use Rattle.session.specs.declared.Holder.{Holder}
 use Rattle.std.specs.declared.option.Option.{Option}
 use Rattle.std.specs.declared.option.Option.TheVariants.{Some, None}
-use Rattle.std.specs.declared.result.Result.{Result}
-use Rattle.std.specs.declared.result.Result.TheVariants.{Ok, Err}
+use Rattle.std.specs.Prelude.{is_none}
+use Rattle.std.specs.declared.result.Result.TheVariants.{Err}
 use Rattle.std.specs.Option.{ok_or, option_map}
 use Rattle.std.specs.List.{position, list_any}
 use Rattle.std.proofs.lemmas.Option.{none-some, same_Some}
@@ -69,41 +69,44 @@ stored-pad n es h = front-end 25 0 es _ n 25 (padded 25 n es (omega (arith, h)))
 
 -- Judging
 
-module _ (s : Session) (a : Availability) where
-  -- the judgement is the table's
-  abbrev ByTable : Result Holder R.Row → Type 0
-  ByTable j = JudgesRow s (available_in a) j
+-- A call that is a notice of energies: its rows are by its count, by its number and its energies, and by whether whom it is for is missing.
+pub record IsNotice (call : D.Call) (count number : ℕ) (es : List ℕ) (missing : B.Book → Bool) : Type 0 where
+  pub rows : (b : B.Book) → D.rows_of b call
+      ≡ D.change_row b ∷ row 4 (not (eqb (length (counted count es)) (B.hours b))) ∷ row 5 (U.bad_number number || U.bad_energies (counted count es)) ∷ row 6 (missing b) ∷ []
 
-  abbrev bad : Bool
-  bad = U.bad_number a.unit || list_any over_limit (take a.count a.energies)
+abbrev bad_notice : ℕ → ℕ → List ℕ → Bool
+bad_notice number count es = U.bad_number number || list_any over_limit (take count es)
 
-  pub available-2 : s.closed ≡ true → ByTable (Err Gate)
-  unfolding D.rows_of D.gate_row D.call_rows D.change_row row first_row given_by
-  available-2 h b e = rw (closed-as s b e, h)
+-- the judgement of one is the table's
+module _ (A : Type 0) (s : Session) {call : D.Call} {count number : ℕ} {es : List ℕ} {missing : B.Book → Bool} (n : IsNotice call count number es missing) where
+  pub notice-2 : s.closed ≡ true → JudgesRow {A = A} s call (Err Gate)
+  unfolding D.change_row row first_row given_by
+  notice-2 h b e = rw (n.rows b, closed-as s b e, h)
 
-  pub available-4 : s.closed ≡ false → eqb a.count s.hours ≡ false → ByTable (Err Hour)
-  unfolding D.rows_of D.gate_row D.call_rows D.change_row row first_row given_by
-  available-4 h k b e = rw (length-counted a.count a.energies, hours-as s b e, k, closed-as s b e, h)
+  pub notice-4 : s.closed ≡ false → eqb count s.hours ≡ false → JudgesRow {A = A} s call (Err Hour)
+  unfolding D.change_row row first_row given_by
+  notice-4 h k b e = rw (n.rows b, length-counted count es, hours-as s b e, k, closed-as s b e, h)
 
-  pub available-5 : s.closed ≡ false → eqb a.count s.hours ≡ true → bad ≡ true → ByTable (Err Range)
-  unfolding D.rows_of D.gate_row D.call_rows D.change_row row first_row given_by
-  available-5 h k r b e = rw (length-counted a.count a.energies, hours-as s b e, k, bad-counted a.count a.energies, r, closed-as s b e, h)
+  pub notice-5 : s.closed ≡ false → eqb count s.hours ≡ true → bad_notice number count es ≡ true → JudgesRow {A = A} s call (Err Range)
+  unfolding D.change_row row first_row given_by
+  notice-5 h k r b e = rw (n.rows b, length-counted count es, hours-as s b e, k, bad-counted count es, r, closed-as s b e, h)
 
-  module _ (h : s.closed ≡ false) (k : eqb a.count s.hours ≡ true) (r : bad ≡ false) where
-    available-6 : held (take s.enrolled s.units) a.unit ≡ None → ByTable (Err R.TheVariants.Unit)
-    unfolding D.rows_of D.gate_row D.call_rows D.change_row D.unregistered row first_row given_by
-    available-6 t b e =
-        rw (length-counted a.count a.energies, hours-as s b e, k, bad-counted a.count a.energies, r, holder-none s b e a.unit t, closed-as s b e, h)
+  -- whom it is for is found, or refused
+  pub notice-found : s.closed ≡ false → eqb count s.hours ≡ true → bad_notice number count es ≡ false → (o : Option A) → ((b : B.Book) → s ≡ image b → missing b ≡ is_none o)
+      → JudgesRow s call (ok_or o R.TheVariants.Unit)
+  unfolding D.change_row row first_row given_by
+  notice-found h k r None m b e = rw (n.rows b, length-counted count es, hours-as s b e, k, bad-counted count es, r, m b e, closed-as s b e, h)
+  notice-found h k r (Some x) m b e = rw (n.rows b, length-counted count es, hours-as s b e, k, bad-counted count es, r, m b e, closed-as s b e, h)
 
-    available-0 : (x : Holder) → held (take s.enrolled s.units) a.unit ≡ Some x → ByTable (Ok x)
-    unfolding D.rows_of D.gate_row D.call_rows D.change_row D.unregistered row first_row given_by
-    available-0 x t b e =
-        rw (length-counted a.count a.energies, hours-as s b e, k, bad-counted a.count a.energies, r, holder-registered s b e a.unit x t, closed-as s b e, h)
+pub available-notice : (a : Availability) → IsNotice (available_in a) a.count a.unit a.energies (λ b. D.unregistered b a.unit)
+unfolding D.rows_of D.gate_row D.call_rows
+available-notice a = record { rows = λ b. refl }
 
-    -- the unit that was looked for is found, or refused
-    pub available-found : (o : Option Holder) → o ≡ held (take s.enrolled s.units) a.unit → ByTable (ok_or o R.TheVariants.Unit)
-    available-found None q = available-6 (sym q)
-    available-found (Some x) q = available-0 x (sym q)
+-- its unit is missing where none is found
+pub unregistered-as : (s : Session) (n : ℕ) (o : Option Holder) → o ≡ held (take s.enrolled s.units) n → (b : B.Book) → s ≡ image b → D.unregistered b n ≡ is_none o
+unfolding D.unregistered
+unregistered-as s n None q b e = ap not (holder-none s b e n (sym q))
+unregistered-as s n (Some x) q b e = ap not (holder-registered s b e n x (sym q))
 
 -- Entering
 
@@ -151,15 +154,12 @@ module _ (n : ℕ) (es : List ℕ) where
       rw (← at, same_units b.units, same-rights b.units, noticed (once-numbered sound.ranges.units.distinct) (rw (← at) at h), length-map b.units (D.notify n es), k, open-stage b sound k)
 
 -- a count that no row refuses is the day's
-pub count-fits : (b : B.Book) (count : ℕ) (es : List ℕ) → not (eqb (length (counted count es)) (B.hours b)) ≡ false → count ≤ 25
-unfolding B.hours
-count-fits b count es o =
-    let k = not-false (eqb (length (counted count es)) (B.hours b)) o in
+pub count-fits : (b : B.Book) {call : D.Call} {count number : ℕ} {es : List ℕ} {missing : B.Book → Bool} → IsNotice call count number es missing
+    → first_row (D.rows_of b call) ≡ nothing → count ≤ 25
+unfolding row B.hours
+count-fits b {call} {count} {number} {es} n o =
+    let k = not-false (eqb (length (counted count es)) (B.hours b)) (all_head (all_tail (accepted-rows _ (rw (n.rows b) at o)))) in
     omega (arith, eqb-true (length (counted count es)) (B.hours b) k, length-counted count es, hours-most b.date)
-
-count-of-hours : (b : B.Book) (n count : ℕ) (es : List ℕ) → first_row (D.rows_of b (D.available n (counted count es))) ≡ nothing → count ≤ 25
-unfolding D.rows_of D.gate_row D.call_rows row
-count-of-hours b n count es o = count-fits b count es (all_head (all_tail (accepted-rows _ o)))
 
 -- the index of a unit found is one of those it was looked for among
 module _ (us : List Unit) (n : ℕ) (x : Holder) where
@@ -183,7 +183,7 @@ available-entered s a x h = record {
   book = λ b sound o e.
       let n = a.unit in
       let es = counted a.count a.energies in
-      let k = stored-as a.count a.energies (count-of-hours b n a.count a.energies o) in
+      let k = stored-as a.count a.energies (count-fits b (available-notice a) o) in
       let early = open_row b _ o in
       let m = enrolled-as s b e in
       let at = holder-at s b e n x h in

@@ -1,18 +1,19 @@
 use mathlib.Core.Path.{sym, ◌∙◌}
+use Rattle.session.specs.declared.Holder.{Holder}
 use borrow.Author.Tests.{eq-eqb, ne_eqb}
-use Rattle.notify_unavailability.proofs.NoticeLaws.{available-2, available-4, available-5, available-found}
+use Rattle.notify_unavailability.proofs.NoticeLaws.{notice-2, notice-4, notice-5, notice-found, available-notice, unregistered-as}
 use Rattle.notify_unavailability.proofs.AvailabilityCall.judge.Goals as goal
 use Rattle.notify_unavailability.proofs.AvailabilityCall.judge.Goals.{then-bad_number-via-then-bad_number, then-bad_number-via-else-bad_number+then-bad_energies}
 
 pub returns-then-s-clause-judges : goal.returns-then-s-clause-judges
-returns-then-s-clause-judges c = available-2 _ _ c.if-s.true
+returns-then-s-clause-judges c = notice-2 Holder _ (available-notice c.args.self.now) c.if-s.true
 
 pub returns-then-self-s-clause-judges : goal.returns-then-self-s-clause-judges
-returns-then-self-s-clause-judges c = available-4 _ _ c.if-s.false (ne_eqb _ _ c.if-self-s.true)
+returns-then-self-s-clause-judges c = notice-4 Holder _ (available-notice c.args.self.now) c.if-s.false (ne_eqb _ _ c.if-self-s.true)
 
 pub returns-then-bad_number-clause-judges : goal.returns-then-bad_number-clause-judges
 returns-then-bad_number-clause-judges c =
-    available-5 _ _ c.if-s.false (eq-eqb _ _ c.if-self-s.false)
+    notice-5 Holder _ (available-notice c.args.self.now) c.if-s.false (eq-eqb _ _ c.if-self-s.false)
     (elim c.then-bad_number.branch [
       | then-bad_number-via-then-bad_number w ↦ rw (sym c.bad_number.ensures ∙ w.if-bad_number.true)
       | then-bad_number-via-else-bad_number+then-bad_energies w ↦ rw (sym c.bad_number.ensures ∙ w.if-bad_number.false, sym (rw w.front.ensures at w.bad_energies.ensures) ∙ w.if-bad_energies.true)
@@ -20,5 +21,5 @@ returns-then-bad_number-clause-judges c =
 
 pub returns-clause-judges : goal.returns-clause-judges
 returns-clause-judges c =
-    rw c.ok_or.ensures.value (available-found _ _ c.if-s.false (eq-eqb _ _ c.if-self-s.false)
-    (rw (sym c.bad_number.ensures ∙ c.if-bad_number.false, sym (rw c.front.ensures at c.bad_energies.ensures) ∙ c.if-bad_energies.false)) _ c.holder_of.ensures)
+    rw c.ok_or.ensures.value (notice-found _ _ (available-notice c.args.self.now) c.if-s.false (eq-eqb _ _ c.if-self-s.false)
+    (rw (sym c.bad_number.ensures ∙ c.if-bad_number.false, sym (rw c.front.ensures at c.bad_energies.ensures) ∙ c.if-bad_energies.false)) _ (unregistered-as _ _ _ c.holder_of.ensures))
