@@ -1,7 +1,7 @@
 -- Limit 12 of an hour's capacities, and a unit's energy.
 use Prim.Native.Nat.{ℕ, ◌+◌, ◌-◌, ◌*◌, ◌/◌, ◌^◌, ◌≤◌, ◌<◌}
 use mathlib.Core.Path.{◌≡◌, refl, sym, ap, ap₂, ◌∙◌}
-use mathlib.Core.Bool.{Bool, false, cond, ◌&&◌}
+use mathlib.Core.Bool.{Bool, false, cond, ◌&&◌, ◌||◌}
 use mathlib.Core.List.{List, [], ◌∷◌, map}
 use native.Mathlib.Omega.{arith}
 use lib.Dec.{eqb, ltb}
@@ -12,7 +12,7 @@ use Rattle.std.specs.List.{list_any, sum_by}
 use Rattle.std.proofs.lemmas.List.Sums.{sum_by-cons}
 use Rattle.std.specs.Prelude.{is_some, Option, None}
 use Rattle.rules.specs.Lists.{All, none, more, any, keep, sum, sum_of}
-use Rattle.rules.specs.Units.{direction, max_energy}
+use Rattle.rules.specs.Units.{direction, max_energy, passes}
 use Rattle.rules.specs.Borders.{Directed, Execution}
 use Rattle.rules.proofs.ListLaws.{all_keep, any-list}
 use Rattle.rules.proofs.IndexLaws.{from_all}
@@ -24,7 +24,7 @@ use Rattle.hour_borders.specs.Directions.{directed, energies_of, published_in}
 use Rattle.hour_borders.proofs.DirectionLaws.{direction-small, direction-border, direction-export}
 use Rattle.hour.specs.View.{energy_among}
 use Rattle.session.proofs.LaidLaws.{any-map}
-use Rattle.hour.specs.Units.{unit_energy, is_over}
+use Rattle.hour.specs.Units.{unit_energy, line_in, beyond, is_over}
 use Rattle.hour.proofs.LaidLaws.{energy-published}
 
 -- no direction has a border of which none of some indices is
@@ -83,3 +83,10 @@ module _ (u : ℕ) where
 -- read through the code's lodgements
 pub over_each : (cs : List Directed) (es : List Execution) (xs : List Lodgement) → any (is_over cs es) (executions_in xs) ≡ list_any (λ x. is_over cs es (execution_in x)) xs
 over_each cs es xs = any-map execution_in (is_over cs es) xs ∙ any-list (λ x. is_over cs es (execution_in x)) xs
+
+-- the test of a lodgement's unit: `above` of whether its energy is above the largest maximum
+pub is-over : (cs : List Directed) (xs : List Lodgement) (x : Execution) (e : ℕ) (above : Bool) → e ≡ sum_by (λ y. cond (eqb y.holder.unit x.holder.unit) y.energy 0) xs → ltb max_energy e ≡ above
+    → (above || passes e (line_in cs x.holder.border)) ≡ is_over cs (executions_in xs) x
+unfolding is_over beyond
+is-over cs xs x e above q a =
+    ap (λ b. b || passes e (line_in cs x.holder.border)) (sym a) ∙ ap (beyond cs x.holder.border) (q ∙ energy_summed x.holder.unit xs)

@@ -9,13 +9,13 @@ use Rattle.rules.specs.Lists.{hourly}
 use Rattle.session.specs.declared.Energies.{Energies}
 use Rattle.judge_loads.specs.Loads.{load_by}
 use mathlib.Core.Option.{Option}
-use Rattle.session.specs.declared.Notice.{Notice}
+use Rattle.session.specs.Bare.{bare_notice}
 use Rattle.session.specs.declared.Session.{Session}
 use Rattle.judge_loads.specs.Loads.{IndicesIn}
 use Rattle.judge_loads.proofs.LoadLaws.{indices-in}
 use Rattle.lodge_pending.specs.Awaiting.{Awaits}
 use Rattle.lodge_pending.specs.declared.Pending.{Pending}
-use Rattle.lodge_limits.specs.Judging.{load_for, passed_for, judged_with}
+use Rattle.lodge_limits.specs.Judging.{load_for, passed_for, judged_for}
 use Rattle.judge_limits.specs.Limits.{first_passed, judged_in}
 use Rattle.judge_limits.specs.declared.Limit.{Limit}
 use Rattle.judge_limits.proofs.IndexLaws.{load-indices, passed-same}
@@ -47,6 +47,7 @@ module _ (s : Session) (p : Pending) (a : Awaits s p) (long : length s.energies 
       (λ h i k. load-sums s.energies ps p.fields.energies sums h i (omega (arith, a.within.hours)) t ∙ load-is h) limits
 
 -- by whether it is a default one
-module _ (s : Session) (p : Pending) (n g : Notice) where
-  pub by-default : (default : Bool) → p.fields.default ≡ default → judged_in p.holder.unit n g s.capacities default s.hours p.fields.energies (load_for s p) ≡ judged_with s p n g
-  by-default default e = ap (λ (d : Bool). judged_in p.holder.unit n g s.capacities d s.hours p.fields.energies (load_for s p)) (sym e)
+pub by-default : (s : Session) (p : Pending) (default : Bool) → p.fields.default ≡ default
+    → judged_in p.holder.unit (get_or s.notices p.holder.at bare_notice) (get_or s.rights p.holder.at bare_notice) s.capacities default s.hours p.fields.energies (load_for s p) ≡ judged_for s p
+by-default s p default e =
+    ap (λ (d : Bool). judged_in p.holder.unit (get_or s.notices p.holder.at bare_notice) (get_or s.rights p.holder.at bare_notice) s.capacities d s.hours p.fields.energies (load_for s p)) (sym e)
