@@ -23,7 +23,7 @@ pub fn lodge_change(s: &Session, message: &[u8]) -> Result<Step<StandingChange>,
 {
     let p = pend(s, message)?;
     judge(s, &p)?;
-    Ok(enter(s, &p.fields, p.replaces))
+    Ok(enter(s, &p))
 }
 
 // Lodges a message: 2, 3, 4, 5, 6, 9, 10, 11, 12, 15.

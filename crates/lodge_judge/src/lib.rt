@@ -10,12 +10,12 @@ ghost use Rattle.lodge_keys.specs.Keys.{key_for, key_index};
 ghost use Rattle.lodge_keys.specs.Holding.{Holding};
 ghost use Rattle.lodge_judge.specs.Judging.{full_at, GivesRow, Room};
 
-use lodge_keys::{holder_for, key_of};
+use lodge_keys::holder_for;
 use message::Fields;
 use message_ranges::bad_map;
 use rules::LONG_DAY;
 use rules::row::Row;
-use session::{Holder, Session};
+use session::{Holder, Key, Session};
 
 // The map names an hour beyond H: hour 25 is its lowest bit. No type says that H is at most 25: C's session has a plain number.
 fn names_beyond(hours: u32, map: u32) -> bool
@@ -46,13 +46,14 @@ fn is_full(n: usize, last: u32, at: Option<usize>) -> bool
 pub fn judge_fields(
     s: &Session,
     m: &Fields,
+    key: Key,
     out_of_range: bool,
     replaces: Option<usize>,
 ) -> Result<Holder, Row>
-    requires { Within s.now × (replaces ≡ key_index s.now (key_for m.now)) }
+    requires { Within s.now × (key ≡ key_for m.now) × (replaces ≡ key_index s.now key) }
     ensures rows { (top : ℕ) → out_of_range ≡ bad_fields top (fields_in m.now) → GivesRow s.now top m.now result }
-    ensures held { IfOk result (λ h. Holding s.now (key_for m.now) h) }
-    ensures room { OnOk result (Room s.now (key_for m.now)) }
+    ensures held { IfOk result (λ h. Holding s.now key h) }
+    ensures room { OnOk result (Room s.now key) }
 {
     if bad_hours(s.hours, m.map) {
         return Err(Row::Hour);
@@ -60,7 +61,7 @@ pub fn judge_fields(
     if out_of_range {
         return Err(Row::Range);
     }
-    let holder = holder_for(s, key_of(m))?;
+    let holder = holder_for(s, key)?;
     if is_full(s.standing, s.last, replaces) {
         return Err(Row::Full);
     }

@@ -22,15 +22,16 @@ use Rattle.lodge_pending.specs.declared.Pending.{Pending}
 -- what judging asks of a message once it is read
 pub record Awaits (s : Session) (p : Pending) : Type 0 where
   pub within : Within s
-  pub replaced : p.replaces ≡ key_index s (key_for p.fields)
+  pub key : p.key ≡ key_for p.fields
+  pub replaced : p.replaces ≡ key_index s p.key
   pub holder : FoundAt s p.fields.unit p.holder
-  pub room : Room s (key_for p.fields)
+  pub room : Room s p.key
   pub beside : CountedOf (marks_for s p.fields) s.standing p.beside.items
   pub notice : p.holder.at < 64
 
 -- its unit may hold its key
 abbrev pub HoldsIts : Session → Pending → Type 0
-HoldsIts s p = (b : Book) → s ≡ image b → D.bad_holder b (key_in (key_for p.fields)) ≡ false
+HoldsIts s p = (b : Book) → s ≡ image b → D.bad_holder b (key_in p.key) ≡ false
 
 -- a message of the right form, by its fields
 pub record Found (s : Session) (m : Fields) (p : Pending) : Type 0 where

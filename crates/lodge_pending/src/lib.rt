@@ -16,12 +16,13 @@ use message::Fields;
 use message_reader::{InForm, in_form};
 use rules::LODGEMENTS;
 use rules::row::Row;
-use session::{Holder, Session};
+use session::{Holder, Key, Session};
 
-// Its fields, the index of the lodgement that it replaces, its unit, and the indices of those that are counted beside it.
+// Its fields and their key, the index of the lodgement that it replaces, its unit, and the indices of those that are counted beside it.
 #[derive(Drop)]
 pub struct Pending {
     pub fields: Fields,
+    pub key: Key,
     pub replaces: Option<usize>,
     pub holder: Holder,
     pub beside: ArrayVec<usize, LODGEMENTS>,
@@ -36,10 +37,11 @@ fn found(s: &Session, m: InForm) -> Result<Pending, Row>
     let key = key_of(&m.fields);
     let standing = &s.lodgements[..s.standing];
     let replaces = key_index(standing, key);
-    let holder = judge_fields(s, &m.fields, m.out_of_range, replaces)?;
+    let holder = judge_fields(s, &m.fields, key, m.out_of_range, replaces)?;
     let beside = beside_of(standing, key);
     Ok(Pending {
         fields: m.fields,
+        key,
         replaces,
         holder,
         beside,
