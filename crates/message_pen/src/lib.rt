@@ -7,6 +7,27 @@ ghost use Rattle.message.specs.View.{fields_in};
 ghost use Rattle.message_pen.specs.Pens.{Appended, InRanges, Room, SlotFits, SlotWord, completed, first, state_of, stored};
 
 use message::Fields;
+use message::form::{KIND_WIDTH, MARK_WIDTH, NUMBER_WIDTH, PRICE_WIDTH};
+
+// "form 4 bits": 1.
+const FORM: u64 = 1;
+
+// How many values a field has: what stands before it is multiplied by that, so that the field has its bits to itself.
+const KIND_VALUES: u64 = 1 << KIND_WIDTH;
+
+const MARK_VALUES: u64 = 1 << MARK_WIDTH;
+
+const NUMBER_VALUES: u64 = 1 << NUMBER_WIDTH;
+
+const PRICE_VALUES: u64 = 1 << PRICE_WIDTH;
+
+// The bits of a byte, and its values.
+const BYTE: usize = 8;
+
+const BYTE_VALUES: u64 = 1 << BYTE;
+
+// The bytes of a number that is put.
+const WORD_BYTES: usize = 8;
 
 // A message being written into the caller's buffer: `pos` bits so far, of which the last pos % 8 are no whole byte yet and wait in the low bits of `acc`.
 #[derive(Drop)]
@@ -39,7 +60,7 @@ impl<'a> Pen<'a> {
         ensures buffer { self.new.buffer.now ≡ stored self.old.buffer.now from v n }
     {
         let bytes = v.to_be_bytes();
-        self.buffer[from..from + n].copy_from_slice(&bytes[8 - n..]);
+        self.buffer[from..from + n].copy_from_slice(&bytes[WORD_BYTES - n..]);
     }
 
     // v in w bits after those that are written. Whole bytes are stored, the rest waits. The room that is asked differs with each call, so that the
@@ -51,10 +72,10 @@ impl<'a> Pen<'a> {
         ensures { Appended self.old (bits w v) self.new }
     {
         let all = (self.acc << w) + v;
-        let n = self.pos % 8 + w;
-        self.put_bytes(self.pos / 8, all >> (n % 8), n / 8);
+        let n = self.pos % BYTE + w;
+        self.put_bytes(self.pos / BYTE, all >> (n % BYTE), n / BYTE);
         self.pos += w;
-        self.acc = all % 256;
+        self.acc = all % BYTE_VALUES;
     }
 
     // Zero bits fill the last byte.
@@ -62,9 +83,9 @@ impl<'a> Pen<'a> {
         requires { Room self 0 }
         ensures { self.exit.0.now ≡ completed self.entry [] }
     {
-        let left = self.pos % 8;
+        let left = self.pos % BYTE;
         if left != 0 {
-            self.buffer[self.pos / 8] = ((self.acc << (8 - left)) % 256) as u8;
+            self.buffer[self.pos / BYTE] = ((self.acc << (BYTE - left)) % BYTE_VALUES) as u8;
         }
     }
 }
@@ -76,10 +97,10 @@ pub fn head_word(m: &Fields) -> u64
     ensures small { result < 2 ^ 39 }
     ensures bits { bits 39 result ++ hour_bits m.now.map ≡ head_bits form1 (fields_in m.now) }
 {
-    let kind = 4 + u64::from(m.execution);
-    let marked = kind * 2 + u64::from(m.default);
-    let unit = marked * 65536 + u64::from(m.unit);
-    unit * 65536 + u64::from(m.contract)
+    let kind = FORM * KIND_VALUES + u64::from(m.execution);
+    let marked = kind * MARK_VALUES + u64::from(m.default);
+    let unit = marked * NUMBER_VALUES + u64::from(m.unit);
+    unit * NUMBER_VALUES + u64::from(m.contract)
 }
 
 // An energy and, for an offer, a price as one number.
@@ -89,6 +110,6 @@ pub fn slot_word(execution: bool, energy: u32, price: u32) -> u64
     if execution {
         u64::from(energy)
     } else {
-        u64::from(energy) * 32768 + u64::from(price)
+        u64::from(energy) * PRICE_VALUES + u64::from(price)
     }
 }

@@ -12,5 +12,5 @@ pub returns-clause-bits : goal.returns-clause-bits
 returns-clause-bits c =
     let x = bit-of c.args.m.now.execution in
     let d = bit-of c.args.m.now.default in
-    rw (c.from-2.ensures, c.from-3.ensures)
-    (head-word-alone form1 max_energy _ _ _ refl (c.from-kind.ensures ∙ x.0) (c.from.ensures ∙ d.0) (rw c.from-kind.ensures x.1) (rw c.from.ensures d.1) c.requires.values)
+    rw (c.from-3.ensures, c.from-4.ensures)
+    (head-word-alone form1 max_energy _ _ _ refl (c.from.ensures ∙ x.0) (c.from-2.ensures ∙ d.0) (rw c.from.ensures x.1) (rw c.from-2.ensures d.1) c.requires.values)
