@@ -260,18 +260,17 @@ impl Session {
     }
 }
 
-// "Beside a refused date stands the fresh session of 2002-01-01."
+// "Beside a refused date stands the fresh session of 2002-01-01." One session is made for both, where it stays: it is long, and was written twice.
 pub fn open(date: Date) -> Opened
     ensures { Opens (date_in date) result }
 {
-    if !calendar::is_date(date) {
-        return Opened {
-            answer: Response::from(Row::Date),
-            session: Session::fresh(FIRST),
-        };
-    }
+    let (answer, day) = if calendar::is_date(date) {
+        (Response::accepted(), date)
+    } else {
+        (Response::from(Row::Date), FIRST)
+    };
     Opened {
-        answer: Response::accepted(),
-        session: Session::fresh(date),
+        answer,
+        session: Session::fresh(day),
     }
 }

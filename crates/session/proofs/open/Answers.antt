@@ -1,9 +1,10 @@
 use mathlib.Core.Path.{sym, ◌∙◌}
 use Rattle.session.proofs.OpenLaws.{open-0, open-1}
 use Rattle.session.proofs.open.Goals as goal
-
-pub returns-then-not-is_date : goal.returns-then-not-is_date
-returns-then-not-is_date c = open-1 _ _ _ (sym c.is_date.ensures ∙ c.if-not-is_date.true) c.from.ensures c.fresh.ensures
+use Rattle.session.proofs.open.Goals.{then-is_date, else-is_date}
 
 pub returns : goal.returns
-returns c = open-0 _ _ _ (sym c.is_date.ensures ∙ c.if-not-is_date.false) c.accepted.ensures c.fresh-2.ensures
+returns c = elim c.if-is_date.branch [
+  | then-is_date w ↦ rw w.t-6-is (open-0 _ _ _ (sym c.is_date.ensures ∙ w.if-is_date.true) w.accepted.ensures (rw w.t-6-is at c.fresh.ensures))
+  | else-is_date w ↦ rw w.t-6-is (open-1 _ _ _ (sym c.is_date.ensures ∙ w.if-is_date.false) w.from.ensures (rw w.t-6-is at c.fresh.ensures))
+]
