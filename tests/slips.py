@@ -29,6 +29,11 @@ class Function:
     end: int
 
 
+def all_edits(crate):
+    """The files of a crate's wrong programs: `must-fail/NAME.edit` holds one, which `rt ci` tries, and `slips/first.slips` and the like hold several."""
+    return [*crate.glob("must-fail/*.edit"), *crate.glob("slips/*.slips")]
+
+
 def read(edit):
     """The slips of an edit. One that has no line `slip:` is a slip by itself, named as its file."""
     lines = edit.read_text(encoding="utf-8").split("\n")
