@@ -13,6 +13,8 @@ pub enum Call<'a> {
     Capacity(&'a Capacities),
     /// A rights notice of an agent, for its purchases (else its sales).
     Rights(u32, bool, &'a Energies),
+    /// Sets the loss of a border.
+    Loss(u32, u32),
     /// Lodges a message.
     Lodge(&'a [u8]),
     /// Annuls the lodgement of a key.
@@ -62,6 +64,7 @@ pub trait Exchange: Sized {
             Call::Available(unit, energies) => self.unavailability(unit, energies).map(done),
             Call::Capacity(capacities) => self.capacity(capacities).map(done),
             Call::Rights(agent, purchase, energies) => self.rights(agent, purchase, energies).map(done),
+            Call::Loss(border, loss) => self.loss(border, loss).map(done),
             Call::Lodge(message) => self.lodge(message).map(Accepted::Number),
             Call::Annul(key) => self.annul(key).map(done),
             Call::Close => self.close().map(done),
@@ -81,6 +84,9 @@ pub trait Exchange: Sized {
     /// A rights notice: the rights of an agent's French units that buy (else of those that sell); it replaces the earlier one for
     /// the two.
     fn rights(&mut self, agent: u32, purchase: bool, energies: &Energies) -> Result<(), Refusal>;
+
+    /// Sets the loss of a border's exports, in hundredths of a percent, up to 2,000; it replaces the border's earlier one.
+    fn loss(&mut self, border: u32, loss: u32) -> Result<(), Refusal>;
 
     /// Lodges a message.
     fn lodge(&mut self, message: &[u8]) -> Result<LodgingNumber, Refusal>;
@@ -103,7 +109,8 @@ pub trait Exchange: Sized {
     /// A unit's executed energy in an hour, after clearing.
     fn executed(&self, unit: u32, hour: u32) -> Result<u32, Refusal>;
 
-    /// A border's final market balance in an hour, exports less imports, after clearing.
+    /// A border's final market balance in an hour, exports less imports, after clearing. Balances and maxima are counted at the
+    /// border: an export there less its loss.
     fn market_balance(&self, border: u32, hour: u32) -> Result<i64, Refusal>;
 
     /// A border's final balance of executions in an hour, exports less imports, after clearing.

@@ -8,6 +8,8 @@ pub const MOST_HOURS: usize = 25;
 pub const LARGEST_ENERGY: u32 = 99_999;
 /// The highest price, in hundredths of a euro per MWh.
 pub const HIGHEST_PRICE: u32 = 18_030;
+/// The largest loss of a border, in hundredths of a percent.
+pub const LARGEST_LOSS: u32 = 2_000;
 /// The most units of a session.
 pub const MOST_UNITS: usize = 64;
 /// The most lodgements that stand at once.
@@ -228,7 +230,8 @@ pub enum Limit {
     Maximum,
     /// 11, its available energy.
     Available,
-    /// 12, the sum of its border's two capacities; of a French unit without rights less its agent's rights on its side.
+    /// 12, the sum of its border's two capacities, of a purchase unit raised by the border's loss; of a French unit without rights
+    /// less its agent's rights on its side.
     Border,
     /// 15, its agent's rights on its side, of a unit with rights.
     Rights,

@@ -1,5 +1,5 @@
 #!/usr/bin/env python3
-"""A reference model of the day-ahead gate, from document 01 alone, with K1 of document 02 (capacity rights).
+"""A reference model of the day-ahead gate, from document 01 alone, with K1 (capacity rights) and K2 (losses on exports) of document 02.
 
     gate.py rehearse FILE    read a rehearsal day, print every answer
     gate.py selftest         see that the model agrees with itself and the paper
@@ -17,6 +17,7 @@ import report
 
 ENERGY_MOST = 99_999            # tenths of MWh
 PRICE_MOST = 18_030             # hundredths of a euro per MWh
+LOSS_MOST, LOSS_WHOLE = 2_000, 10_000   # hundredths of a percent
 NUMBER_MOST = 65_535            # unit, agent, contract and lodging numbers
 UNITS_MOST = 64
 LODGEMENTS_MOST = 128
@@ -305,21 +306,62 @@ def share(r, amounts):
     g = sum(amounts.values())
     if g == 0:
         return {n: 0 for n in amounts}
-    losses = {n: r * m // g for n, m in amounts.items()}
-    left = r - sum(losses.values())
+    taken = {n: r * m // g for n, m in amounts.items()}
+    left = r - sum(taken.values())
     for n in hand_out(left, {n for n, m in amounts.items() if m > 0}):
-        losses[n] += 1
-    return losses
+        taken[n] += 1
+    return taken
+
+
+# ---------------------------------------------------------------- Losses on exports
+
+NO_LOSSES = {border: 0 for border in BORDERS}
+
+
+def increased(total, loss):
+    """The border sum of a purchase unit, which brings the losses too."""
+    return total * (LOSS_WHOLE + loss) // LOSS_WHOLE
+
+
+def border_figure(energy, loss):
+    """What an export counts at its border: rounded up."""
+    whole = LOSS_WHOLE + loss
+    return (energy * LOSS_WHOLE + whole - 1) // whole
+
+
+def kept_of(energy, taken, loss):
+    """The largest energy, no more than this one, that has the border figure left to it.
+
+    k has a figure of at most f exactly when k * 10,000 <= f * (10,000 + loss).
+    """
+    left = border_figure(energy, loss) - taken
+    return min(energy, left * (LOSS_WHOLE + loss) // LOSS_WHOLE)
+
+
+class AtBorders:
+    """What offers and executions count at their borders: an export by its border's loss, an import as it is. At home nothing is lost."""
+
+    def __init__(self, losses):
+        self.losses = losses
+
+    def loss(self, border, direction):
+        return self.losses[border] if border != 0 and direction == EXPORT else 0
+
+    def figure(self, border, direction, energy):
+        return border_figure(energy, self.loss(border, direction))
+
+    def kept(self, border, direction, energy, taken):
+        return kept_of(energy, taken, self.loss(border, direction))
 
 
 # ---------------------------------------------------------------- Clearing: withdrawal, executions
 
 def balances(amounts):
-    """Exports less imports by border; amounts are (border, direction, energy)."""
+    """Exports less imports by border; amounts are (border, direction, border figure)."""
     result = {border: 0 for border in BORDERS}
-    for border, direction, energy in amounts:
+    for border, direction, figure in amounts:
         if border != 0:
-            result[border] += energy if direction == EXPORT else -energy
+            result[border] += figure if direction == EXPORT else -figure
     return result
 
 
@@ -327,8 +369,13 @@ def direction_of_offer(offer):
     return EXPORT if offer.side == PURCHASE else IMPORT
 
 
-def market_balances(offers, matched):
-    return balances((o.border, direction_of_offer(o), matched[o.number]) for o in offers)
+def market_figures(offers, matched, at):
+    """What is matched of each offer, as it counts at its border."""
+    return {o.number: at.figure(o.border, direction_of_offer(o), matched[o.number]) for o in offers}
+
+
+def market_balances(offers, figures):
+    return balances((o.border, direction_of_offer(o), figures[o.number]) for o in offers)
 
 
 def overruns(market, maxima):
@@ -341,8 +388,9 @@ def overruns(market, maxima):
     return over
 
 
-def withdrawal_step(offers, matched, over):
-    """Steps 1 to 4: what each number offers afterwards."""
+def withdrawal_step(offers, matched, over, at):
+    """Steps 1 to 4: what each number offers afterwards. C and V' are energies; what is taken are border figures."""
+    figures = market_figures(offers, matched, at)
     offered = {o.number: o.energy for o in offers}
 
     def there(direction, legacy):
@@ -374,12 +422,12 @@ def withdrawal_step(offers, matched, over):
             price = min(prices_out) if goes == EXPORT else max(prices_in)
             group = [o for o in there(direction, False) if o.border == border
                      and o.price == price and matched[o.number] > 0]
-            taken_in_all = min(excess, sum(matched[o.number] for o in group))
+            taken_in_all = min(excess, sum(figures[o.number] for o in group))
         else:
             continue
-        taken = share(taken_in_all, {o.number: matched[o.number] for o in group})
+        taken = share(taken_in_all, {o.number: figures[o.number] for o in group})
         for o in group:
-            offered[o.number] = matched[o.number] - taken[o.number]
+            offered[o.number] = at.kept(border, direction, matched[o.number], taken[o.number])
     return offered
 
 
@@ -387,16 +435,22 @@ HourFigures = namedtuple(
     "HourFigures", "matched executed market bilateral market_maxima bilateral_maxima price steps")
 
 
-def clear_hour(offers, executions, capacity, match=match_by_runs):
-    """One hour. capacity: (border, direction) -> energy, or None when absent."""
+def clear_hour(offers, executions, capacity, match=match_by_runs, losses=NO_LOSSES):
+    """One hour. capacity: (border, direction) -> energy, or None when absent. losses: border -> its loss.
+
+    Offers, the match and what is matched or executed are energies; balances and maxima are counted at the borders.
+    """
+    at = AtBorders(losses)
     matched, price = match(offers)
 
-    b = balances((x.border, x.direction, x.energy) for x in executions)
-    market = market_balances(offers, matched)
+    executed_figures = {x.number: at.figure(x.border, x.direction, x.energy) for x in executions}
+    b = balances((x.border, x.direction, executed_figures[x.number]) for x in executions)
+    figures = market_figures(offers, matched, at)
+    market = market_balances(offers, figures)
     l = {place: 0 for place in capacity}
     for o in offers:
         if o.legacy:
-            l[o.border, direction_of_offer(o)] += matched[o.number]
+            l[o.border, direction_of_offer(o)] += figures[o.number]
     maxima = {}
     for (border, direction), most in capacity.items():
         sign = 1 if direction == EXPORT else -1
@@ -405,12 +459,12 @@ def clear_hour(offers, executions, capacity, match=match_by_runs):
 
     steps = 0
     while over := overruns(market, maxima):
-        offered = withdrawal_step(offers, matched, over)
+        offered = withdrawal_step(offers, matched, over, at)
         if sum(offered.values()) >= sum(o.energy for o in offers):
             raise AssertionError("a withdrawal step took nothing")     # it would never end
         offers = [o._replace(energy=offered[o.number]) for o in offers]
         matched, price = match(offers)                                  # 5
-        market = market_balances(offers, matched)
+        market = market_balances(offers, market_figures(offers, matched, at))
         steps += 1
 
     executed = {x.number: x.energy for x in executions}
@@ -423,11 +477,11 @@ def clear_hour(offers, executions, capacity, match=match_by_runs):
         bilateral_maxima[border, direction] = most - sign * market[border]
         excess = sign * b[border] - bilateral_maxima[border, direction]
         if excess > 0:
-            group = {x.number: x.energy for x in executions
-                     if x.border == border and x.direction == direction}
-            for number, loss in share(excess, group).items():
-                executed[number] -= loss
-    bilateral = balances((x.border, x.direction, executed[x.number]) for x in executions)
+            group = [x for x in executions if x.border == border and x.direction == direction]
+            taken = share(excess, {x.number: executed_figures[x.number] for x in group})
+            for x in group:
+                executed[x.number] = at.kept(border, direction, x.energy, taken[x.number])
+    bilateral = balances((x.border, x.direction, at.figure(x.border, x.direction, executed[x.number])) for x in executions)
     return HourFigures(matched, executed, market, bilateral, maxima, bilateral_maxima, price, steps)
 
 
@@ -443,6 +497,7 @@ class DayBook:
         self.capacities = {}            # (border, direction) -> H energies; the rest are absent
         self.availables = {}            # unit number -> H energies
         self.rights = {}                # (agent, side) -> H energies
+        self.losses = NO_LOSSES         # border -> its loss
         self.standing = {}              # key -> Lodgement
         self.last_number = 0
         self.verdicts = None            # number -> verdict, once closed
@@ -484,7 +539,7 @@ class DayBook:
     def limits(self, number, hour):
         """Limits 10, 11, 12 and 15 of a unit in an hour; its ceiling is their least.
 
-        The agent's rights of the unit's side are limit 15 of a French unit with rights, and come off the border sum
+        A purchase unit brings its border's loss to the border sum. The agent's rights of the unit's side are limit 15 of a French unit with rights, and come off the border sum
         of one without. Where the sum is no limit, nothing comes off.
         """
         unit = self.units[number]
@@ -494,6 +549,8 @@ class DayBook:
         out = self.capacity_at(unit.border, EXPORT, hour)
         into = self.capacity_at(unit.border, IMPORT, hour)
         both = None if out is None or into is None else out + into
+        if both is not None and direction_of(unit) == EXPORT:
+            both = increased(both, self.losses[unit.border])
         rights = None
         if unit.rights:
             rights = self.rights_at(unit.agent, unit.side, hour)
@@ -537,6 +594,12 @@ class DayBook:
         refuse_if(any(not 0 <= e <= ENERGY_MOST for e in energies), RANGE)
         refuse_if(not self.french_units(agent, side), UNIT)
         self.rights[agent, side] = tuple(energies)
+
+    def loss(self, border, loss):
+        """Sets the loss of a border's exports, in hundredths of a percent; the one set before is gone."""
+        self.refuse_a_change_after_closing()
+        refuse_if(border not in BORDERS or not 0 <= loss <= LOSS_MOST, RANGE)
+        self.losses = {**self.losses, border: loss}
 
     # -- calls: lodging and annulling
 
@@ -618,7 +681,7 @@ class DayBook:
 
     def clear(self, match=match_by_runs):
         refuse_if(self.verdicts is None or self.figures is not None, GATE)
-        self.figures = {h: clear_hour(*self.hour_input(h), match=match)
+        self.figures = {h: clear_hour(*self.hour_input(h), match=match, losses=self.losses)
                         for h in range(1, self.hours + 1)}
         return sum(f.steps for f in self.figures.values())
 
@@ -668,7 +731,7 @@ class DayBook:
 # A call of a list as a value: its name, then its arguments.
 CALLS = {
     "register": DayBook.register, "capacity": DayBook.capacity_notice, "available": DayBook.unavailability_notice,
-    "rights": DayBook.rights_notice, "lodge": DayBook.lodge, "annul": DayBook.annul, "close": DayBook.close, "clear": DayBook.clear,
+    "rights": DayBook.rights_notice, "loss": DayBook.loss, "lodge": DayBook.lodge, "annul": DayBook.annul, "close": DayBook.close, "clear": DayBook.clear,
 }
 
 
@@ -838,6 +901,10 @@ class Rehearsal:
             energies = energy_list(words.next())
             words.end()
             return self.plain("rights", agent, side, energies)
+        if name == "loss":
+            border, loss = words.number(), words.number()
+            words.end()
+            return self.plain("loss", border, loss)
         if name in ("offer", "execution"):
             message = message_of_line(words, OFFER if name == "offer" else EXECUTION)
             return lambda: self.write_and_lodge(message)

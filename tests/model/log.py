@@ -1,14 +1,14 @@
 """The call log (docs/LOG.md): a call as a record's bytes, and a log's calls made on a day book.
 
 Written from that description, without looking at the program. A call is a tuple, as gate.make takes it. A unit "with rights" (K1
-of document 02) is registered by a record of a kind of its own, laid out as that of a unit without them.
+of document 02) is registered by a record of a kind of its own, laid out as that of a unit without them. Kind 10 is a loss (K2).
 """
 
 import gate
 
-REGISTER, CAPACITY, AVAILABLE, LODGE, ANNUL, CLOSE, CLEAR, RIGHTS, REGISTER_MARKED = range(1, 10)
+REGISTER, CAPACITY, AVAILABLE, LODGE, ANNUL, CLOSE, CLEAR, RIGHTS, REGISTER_MARKED, LOSS = range(1, 11)
 # a message has any size
-SIZES = {REGISTER: 18, CAPACITY: 840, AVAILABLE: 108, ANNUL: 10, CLOSE: 0, CLEAR: 0, RIGHTS: 109, REGISTER_MARKED: 18}
+SIZES = {REGISTER: 18, CAPACITY: 840, AVAILABLE: 108, ANNUL: 10, CLOSE: 0, CLEAR: 0, RIGHTS: 109, REGISTER_MARKED: 18, LOSS: 8}
 HEAD = 3
 
 
@@ -42,6 +42,9 @@ def bytes_of(name, *arguments):
     if name == "rights":
         agent, side, energies = arguments
         return RIGHTS, number(agent) + bytes([side == gate.PURCHASE]) + numbers(energies)
+    if name == "loss":
+        border, loss = arguments
+        return LOSS, number(border) + number(loss)
     if name == "lodge":
         return LODGE, arguments[0]
     if name == "annul":
@@ -98,6 +101,8 @@ def call_of(kind, data):
         return "available", r.number(), r.numbers()
     if kind == RIGHTS:
         return "rights", r.number(), r.side(), r.numbers()
+    if kind == LOSS:
+        return "loss", r.number(), r.number()
     if kind == LODGE:
         return "lodge", data
     if kind == ANNUL:

@@ -20,7 +20,8 @@ def report(book, gate):
     if book.figures is None:
         yield "  not cleared"
         return
-    yield "  Energies in tenths of MWh, prices in hundredths of a euro per MWh, balances exports less imports."
+    counted = "; balances and maxima as counted at the border" if any(book.losses.values()) else ""
+    yield f"  Energies in tenths of MWh, prices in hundredths of a euro per MWh, balances exports less imports{counted}."
     yield ""
     yield from hours(book, gate)
     yield ""

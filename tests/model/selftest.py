@@ -2,18 +2,20 @@
 
 A second, slow telling of the rules stands here (SlowBook). It keeps only the
 list of accepted calls, tells every fact anew from it, gathers all refusals that
-apply and takes the first of the table, reads bits as text, and lays energy out
-place by place. The model must agree with it. Besides: the paper's twelve figures, the
+apply and takes the first of the table, reads bits as text, lays energy out
+place by place, and looks for the largest energy of a border figure among all. The model must agree with it. Besides: the paper's twelve figures, the
 clauses of demand 3 stated by themselves, message round trips, hour numbering.
 """
 
 import copy
 import datetime
 import functools
+import math
 import random
 import sys
 import time
 from collections import Counter
+from fractions import Fraction
 
 import gate
 import held
@@ -54,16 +56,42 @@ def first_of(no):
 
 
 def slow_share(r, amounts):
-    """amounts: list of (lodging number, m). Losses by number."""
+    """amounts: list of (lodging number, m). What is taken, by number."""
     g = sum(m for _, m in amounts)
-    losses = {}
+    taken = {}
     for n, m in amounts:
-        losses[n] = 0 if g == 0 else (r * m - (r * m) % g) // g
+        taken[n] = 0 if g == 0 else (r * m - (r * m) % g) // g
     if g:
         for n, m in sorted(amounts):
-            if sum(losses.values()) < r and m > 0:
-                losses[n] += 1
-    return losses
+            if sum(taken.values()) < r and m > 0:
+                taken[n] += 1
+    return taken
+
+
+@functools.lru_cache(maxsize=None)
+def slow_figure(energy, loss):
+    """e x 10,000 / (10,000 + l), up to the next whole number."""
+    whole, rest = divmod(energy * 10_000, 10_000 + loss)
+    return whole + 1 if rest else whole
+
+
+def slow_increased(total, loss):
+    return math.floor(total * (1 + Fraction(loss, 10_000)))
+
+
+@functools.lru_cache(maxsize=None)
+def slow_kept(energy, taken, loss):
+    """Of all energies up to this one, from above, the first whose figure is the one left."""
+    left = slow_figure(energy, loss) - taken
+    for k in range(energy, -1, -1):
+        if slow_figure(k, loss) == left:
+            return k
+    raise Wrong(f"no energy has the figure {left} of {energy} at {loss}")
+
+
+def own_loss(losses, border, side):
+    """A purchase at a border loses there; an import and what stays at home lose nothing."""
+    return losses[border] if border and side == PURCHASE else 0
 
 
 def slow_maximum(capacity, b, m, l):
@@ -103,18 +131,39 @@ def slow_match(offers):
     return price
 
 
-def slow_hour(offers, executions, capacity, seen=None):
-    """All figures of an hour. offers, executions: lists of dicts."""
+def slow_hour(offers, executions, capacity, seen=None, losses=gate.NO_LOSSES):
+    """All figures of an hour. offers, executions: lists of dicts. Offered, matched and left are energies."""
     seen = Counter() if seen is None else seen
 
+    def at_border(x, what):
+        return slow_figure(x[what], x["loss"])
+
     def market(border):
-        return (sum(o["matched"] for o in offers if o["border"] == border and o["side"] == PURCHASE)
-                - sum(o["matched"] for o in offers if o["border"] == border and o["side"] == SALE))
+        return (sum(at_border(o, "matched") for o in offers if o["border"] == border and o["side"] == PURCHASE)
+                - sum(at_border(o, "matched") for o in offers if o["border"] == border and o["side"] == SALE))
 
     def executions_balance(border, what):
-        return (sum(x[what] for x in executions if x["border"] == border and x["side"] == PURCHASE)
-                - sum(x[what] for x in executions if x["border"] == border and x["side"] == SALE))
+        return (sum(at_border(x, what) for x in executions if x["border"] == border and x["side"] == PURCHASE)
+                - sum(at_border(x, what) for x in executions if x["border"] == border and x["side"] == SALE))
 
+    def give_way(group, most, what, left):
+        """The group gives so much of its border figures, and each keeps the largest energy with the figure left."""
+        there = sum(at_border(x, what) for x in group)
+        check(most <= there, "more is taken than there is")
+        taken = slow_share(most, [(x["number"], at_border(x, what)) for x in group])
+        for x in group:
+            before, figure = x[what], at_border(x, what)
+            x[left] = slow_kept(before, taken[x["number"]], x["loss"])
+            same(at_border(x, left), figure - taken[x["number"]], "the figure left")
+            if x["loss"]:
+                seen["gave way with a loss"] += taken[x["number"]] > 0
+                seen["gave more energy than figure"] += before - x[left] > taken[x["number"]] > 0
+                seen["gave nothing, below the largest of its figure"] += (
+                    taken[x["number"]] == 0 and slow_figure(before + 1, x["loss"]) == figure)
+                seen["gave way whole"] += x[left] == 0 < before
+
+    for x in offers + executions:
+        x["loss"] = own_loss(losses, x["border"], x["side"])
     for o in offers:
         o["offered"] = o["energy"]
     price = slow_match(offers)
@@ -123,11 +172,12 @@ def slow_hour(offers, executions, capacity, seen=None):
         m, b = market(border), executions_balance(border, "energy")
         for direction, side, g in ((EXPORT, PURCHASE, 1), (IMPORT, SALE, -1)):
             k = capacity[border, direction]
-            legacy = sum(o["matched"] for o in offers
+            legacy = sum(at_border(o, "matched") for o in offers
                          if o["border"] == border and o["side"] == side and o["legacy"])
             top[border, direction] = None if k is None else slow_maximum(k, g * b, g * m, legacy)
             if k is not None and g * b > 0 and legacy:
                 seen["split with legacy"] += 1
+                seen["split with legacy exports and a loss"] += side == PURCHASE and losses[border] > 0
 
     steps = 0
     while True:
@@ -151,30 +201,29 @@ def slow_hour(offers, executions, capacity, seen=None):
             for over, there in ((over_out, purchases), (over_in, sales)):
                 for border, excess in over.items():
                     group = [o for o in there if o["border"] == border and o["legacy"]]
-                    check(excess <= sum(o["matched"] for o in group), "step 4 takes more than there is")
                     if any(not o["matched"] for o in group):
                         seen["unmatched legacy in a legacy step"] += 1
-                    losses = slow_share(excess, [(o["number"], o["matched"]) for o in group])
-                    for o in group:
-                        o["offered"] = o["matched"] - losses[o["number"]]
+                    seen["legacy step with a loss"] += any(o["loss"] for o in group)
+                    give_way(group, excess, "matched", "offered")
         else:
             if low is not None and high is not None:
                 c = sum(o["matched"] for o in offers if o["side"] == PURCHASE and o["price"] < low)
                 v = sum(o["matched"] for o in offers if o["side"] == SALE and o["price"] > high)
                 out_goes = c <= v
                 seen["C > V'" if c > v else "C = V'" if c == v else "C < V'"] += 1
+                by_figures = sum(at_border(o, "matched") for o in offers if o["side"] == PURCHASE and o["price"] < low)
+                seen["C would go otherwise by figures"] += (by_figures <= v) != out_goes
             else:
                 out_goes = low is not None
             over, there, at = (over_out, purchases, low) if out_goes else (over_in, sales, high)
             for border, excess in over.items():
                 group = [o for o in there if o["border"] == border and not o["legacy"]
                          and o["price"] == at]
-                energy = sum(o["matched"] for o in group)
-                if not energy:
+                figures = sum(at_border(o, "matched") for o in group)
+                if not figures:
                     seen["border without energy at the price"] += 1
-                losses = slow_share(min(excess, energy), [(o["number"], o["matched"]) for o in group])
-                for o in group:
-                    o["offered"] = o["matched"] - losses[o["number"]]
+                seen["an excess above the figures, not above the energy"] += figures < excess <= sum(o["matched"] for o in group)
+                give_way(group, min(excess, figures), "matched", "offered")
         price = slow_match(offers)
     if steps > 5:
         seen["more than five steps"] += 1
@@ -194,10 +243,8 @@ def slow_hour(offers, executions, capacity, seen=None):
             if excess > 0:
                 seen["cut in " + direction] += 1
                 group = [x for x in executions if x["border"] == border and x["side"] == side]
-                check(excess <= sum(x["energy"] for x in group), "cut of more than there is")
-                losses = slow_share(excess, [(x["number"], x["energy"]) for x in group])
-                for x in group:
-                    x["left"] -= losses[x["number"]]
+                seen["cut in export with a loss"] += any(x["loss"] for x in group)
+                give_way(group, excess, "energy", "left")
     return {
         "matched": {o["number"]: o["matched"] for o in offers},
         "executed": {x["number"]: x["left"] for x in executions},
@@ -285,12 +332,22 @@ class SlowBook:
         return 0
 
     @told_anew
+    def losses(self):
+        losses = {}
+        for c in self.past[::-1]:
+            if c[0] == "loss":
+                losses.setdefault(*c[1:])
+        return {border: losses.get(border, 0) for border in BORDERS}
+
+    @told_anew
     def limits(self, unit, hour):
         u = self.units()[unit]
         border = u["border"]
         limits = {10: u["maximum"], 11: self.available(unit, hour)}
         if border and None not in [self.capacity(border, d, hour) for d in DIRECTIONS]:
             limits[12] = sum(self.capacity(border, d, hour) for d in DIRECTIONS)
+            if u["side"] == PURCHASE:
+                limits[12] = slow_increased(limits[12], self.losses()[border])
         if border == 1:
             held = self.rights(u["agent"], u["side"], hour)
             if u["rights"]:
@@ -376,6 +433,9 @@ class SlowBook:
                     no.add((5, 0))
                 if not self.french(*call[1:3]):
                     no.add((6, 0))
+        elif name == "loss":
+            if call[1] not in (1, 2, 3, 4) or call[2] not in range(2001):
+                no.add((5, 0))
         elif name == "annul":
             _, kind, default, unit, contract = call
             if unit not in range(1, 65536) or (kind == OFFER and contract != 0):
@@ -454,7 +514,7 @@ class SlowBook:
                          "energy": f["energies"][hour], "price": f["prices"].get(hour)}
                 (executions if f["kind"] else offers).append(entry)
         capacity = {(b, d): self.capacity(b, d, hour) for b in BORDERS for d in DIRECTIONS}
-        return slow_hour(offers, executions, capacity, self.seen)
+        return slow_hour(offers, executions, capacity, self.seen, self.losses())
 
     def query(self, query):
         name = query[0]
@@ -517,6 +577,11 @@ def message_bytes(kind, default, unit, contract, named):
 DATES = [((2006, 10, 29), 25), ((2006, 3, 26), 23), ((2006, 6, 1), 24), ((2099, 10, 25), 25)]
 
 
+def random_loss(rng):
+    """A loss as a call gives it."""
+    return rng.choice([0, 0, 1, 300, 777, 1500, 2000, rng.randint(0, 2000)])
+
+
 def random_list(rng, most=40):
     """(date, hours, calls, hours of interest)"""
     date, hours = rng.choice(DATES)
@@ -536,6 +601,8 @@ def random_list(rng, most=40):
                       side if rng.random() < 0.95 else rng.choice([SALE, PURCHASE]),
                       rng.choice([most, 2 * most]), rng.random() < 0.2, True)
             units.insert(len(units) if rng.random() < 0.9 else rng.randint(0, len(units)), marked)
+    if rng.random() < 0.4:      # a large buyer, at whose limits the border sum is the least
+        units.append((500, 190, busy[0], PURCHASE, 5 * most, rng.random() < 0.2))
     if rng.random() < 0.85:     # something to sell and something to buy at home
         units.append((1, 1, 0, SALE, 5 * most, False))
         units.append((2, 1, 0, PURCHASE, 5 * most, False))
@@ -556,6 +623,8 @@ def random_list(rng, most=40):
         for b in BORDERS:
             published = rng.choice([(), (EXPORT,), (EXPORT,), (IMPORT,), (IMPORT,), DIRECTIONS, DIRECTIONS])
             narrow = rng.choice(DIRECTIONS)
+            if b == busy[0] and 500 in known and rng.random() < 0.6:
+                published = DIRECTIONS
             for d in published:
                 low = rng.choice([0, most // 8, most // 4, most // 2, most])
                 if len(published) == 2 and d != narrow and rng.random() < 0.7:
@@ -578,6 +647,13 @@ def random_list(rng, most=40):
                 energies[-1] = 100000
         return ("rights", agent, side, tuple(energies))
 
+    def loss():
+        """A border's loss, now and then of none or too large."""
+        border, most_lost = rng.choice(busy + busy + list(BORDERS)), random_loss(rng)
+        if rng.random() < 0.12:
+            border, most_lost = rng.choice([0, 5, 65536, border]), rng.choice([2001, 10000, 65536, most_lost])
+        return ("loss", border, most_lost)
+
     def price(unit):
         half = len(prices) // 2
         if rng.random() < 0.6:
@@ -594,6 +670,17 @@ def random_list(rng, most=40):
         if rng.random() < 0.03:
             named[rng.choice(outside)] = (rng.randint(1, most), 0)
         return message_bytes(kind, default, unit, 0 if kind == OFFER else rng.randint(1, 3), named)
+
+    def at_the_sum(unit):
+        """An offer of a unit that buys abroad, of exactly the increased border sum, or one more."""
+        lines = next((c[1] for c in reversed(calls) if c[0] == "capacity" and all(len(es) == hours for es in c[1].values())), {})
+        loss = next((c[2] for c in reversed(calls) if c[0] == "loss" and c[1] == unit[2] and c[2] <= 2000), 0)
+        both = [lines.get((unit[2], d)) for d in DIRECTIONS]
+        if unit[3] == PURCHASE and None not in both and rng.random() < 0.9:
+            h = rng.choice(pool)
+            energy = slow_increased(both[0][h - 1] + both[1][h - 1], loss) + rng.choice([0, 0, 0, 1])
+            if 0 < energy <= unit[4]:
+                yield message_bytes(OFFER, False, unit[0], 0, {h: (energy, prices[-1])})
 
     def spoilt():
         data = bytearray(lodging())
@@ -614,8 +701,10 @@ def random_list(rng, most=40):
         if turn < 0.73:
             return ("annul", rng.choice([OFFER, EXECUTION]), rng.random() < 0.3,
                     rng.choice(known + [0, 65536]), rng.choice([0, 0, 1, 2, 3]))
-        if turn < 0.77:
+        if turn < 0.76:
             return rights()
+        if turn < 0.78:
+            return loss()
         if turn < 0.82:
             energies = list(around(5 * most, lambda: rng.choice([most, 5 * most, most // 8])))
             if rng.random() < 0.1:
@@ -643,16 +732,26 @@ def random_list(rng, most=40):
         calls.append(("register",) + unit)
         if unit[2] == 1 and rng.random() < 0.3:
             calls.append(rights())
+    if rng.random() < 0.3:
+        calls += [loss() for _ in range(rng.randint(1, 4))]
     if rng.random() < 0.9:
         calls.append(("capacity", notice()))
+    if rng.random() < 0.5:
+        calls += [loss() for _ in range(rng.randint(1, 4))]
     if rng.random() < 0.6:
         calls += [("rights", u[1], u[3], around(rng.choice([most // 2, most, 2 * most]), lambda: rng.randint(0, most)))
                   for u in units if len(u) == 7 and rng.random() < 0.8]
     if rng.random() < 0.8:
         calls += [("lodge", lodging(u[0], OFFER, False)) for u in units]
+    if rng.random() < 0.5:
+        calls += [("lodge", data) for u in units for data in at_the_sum(u) if rng.random() < 0.6]
     calls += [any_call() for _ in range(rng.randint(1, 10))]
     if rng.random() < 0.4:      # late
         calls += [rights() for _ in range(rng.randint(1, 3))]
+    if rng.random() < 0.2:
+        calls.append(loss())
+    if rng.random() < 0.4:
+        calls += [("lodge", data) for u in units if u[0] == 500 for data in at_the_sum(u)]
     if rng.random() < 0.95:
         calls.append(("close",))
         if rng.random() < 0.2:
@@ -665,7 +764,7 @@ def random_list(rng, most=40):
 
 
 def random_hour(rng, most):
-    """(offers, executions, capacity) of an hour."""
+    """(offers, executions, capacity, losses) of an hour."""
     offers, executions = [], []
     prices = [0, 1, 2, 3, 4] if rng.random() < 0.6 else list(range(40))
     numbers = rng.sample(range(1, 60), rng.randint(0, 14))
@@ -678,7 +777,7 @@ def random_hour(rng, most):
         else:
             offers.append(Offer(n, side, border, border > 0 and rng.random() < 0.4,
                                 rng.choice(prices), rng.randint(1, most)))
-    if rng.random() < 0.2:      # imports that leave with the exports of their border: many steps
+    if rng.random() < 0.3:      # imports that leave with the exports of their border: many steps
         border, n = rng.choice(BORDERS), rng.randint(1, most)
         offers.append(Offer(63, SALE, 0, False, 0, rng.randint(1, 3)))
         offers.append(Offer(64, SALE, border, False, prices[-1], n))
@@ -688,7 +787,36 @@ def random_hour(rng, most):
         offers.append(Offer(62, PURCHASE, 0, False, rng.choice(prices[-3:]), rng.randint(most, 4 * most)))
     capacity = {(b, d): rng.choice([None, 0, rng.randint(0, most), rng.randint(0, most)])
                 for b in BORDERS for d in DIRECTIONS}
-    return offers, executions, capacity
+    losses = {b: rng.choice([random_loss(rng), 1500, 2000]) for b in BORDERS} if rng.random() < 0.75 else gate.NO_LOSSES
+    if rng.random() < 0.3:      # exports of one price, nearly all of which the border carries
+        border = rng.choice(BORDERS)
+        wanted = [Offer(70 + i, PURCHASE, border, False, prices[-1], rng.choice([5, 11, rng.randint(1, most)]))
+                  for i in range(rng.randint(2, 8))]
+        offers += [Offer(69, SALE, 0, False, 0, 10 * most), *wanted]
+        wished = sum(slow_figure(o.energy, losses[border]) for o in wanted)
+        there = sum(slow_figure(o.energy, losses[border]) for o in offers if o.border == border and o.side == PURCHASE)
+        if rng.random() < 0.4:      # their figures are hardly enough, and legacy ones are beside them
+            offers.append(Offer(80, PURCHASE, border, True, prices[-1], rng.randint(1, most)))
+            there += rng.randint(0, 2)
+            capacity[border, EXPORT] = max(there - wished, 0)
+        else:
+            capacity[border, EXPORT] = max(there - rng.randint(1, 5), 0)
+    return offers, executions, capacity, losses
+
+
+def hour_of_two_prices(rng, most):
+    """An hour in which one border is over by exports and another by imports, C and V' near each other. C is legacy exports."""
+    out, back = rng.sample(BORDERS, 2)
+    losses = {b: rng.choice([random_loss(rng), 2000]) for b in BORDERS}
+    wanted, legacy, imported = (rng.randint(1, most) for _ in range(3))
+    dear = max(rng.randint(slow_figure(legacy, losses[out]) - 1, legacy + 1), 1)
+    cheap = wanted + legacy + rng.randint(1, most)
+    at_home = cheap + imported + dear - wanted - legacy
+    offers = [Offer(1, SALE, 0, False, 0, cheap), Offer(2, SALE, back, False, 1, imported), Offer(3, SALE, 0, False, 2, dear),
+              Offer(4, PURCHASE, 0, False, 9, at_home), Offer(5, PURCHASE, out, False, 8, wanted), Offer(6, PURCHASE, out, True, 7, legacy)]
+    capacity = dict.fromkeys(((b, d) for b in BORDERS for d in DIRECTIONS))
+    capacity[out, EXPORT], capacity[back, IMPORT] = rng.randint(0, wanted), rng.randint(0, imported - 1)
+    return offers, [], capacity, losses
 
 
 # ---------------------------------------------------------------- the tests
@@ -758,6 +886,56 @@ def test_twelve_figures(_rng):
                   book.market(1, 1) + book.bilateral(1, 1)), (71, 29, 71, 100), "figure 12")
         else:
             same(book.matched(2, 1), 100, "figure 11")
+    for loss, kept, executed in ((0, 71, 29), (1, 71, 29), (2000, 85, 34)):     # figure 12 again
+        book = DayBook(2006, 6, 1)
+        for call in (("loss", 1, loss), ("register", 1, 1, 0, SALE, 300, False), ("register", 2, 2, 1, PURCHASE, 150, False),
+                     ("register", 3, 3, 0, PURCHASE, 100, False), ("register", 4, 4, 1, PURCHASE, 60, False),
+                     ("capacity", {(1, EXPORT): [100] * 24}), ("lodge", message_bytes(OFFER, False, 1, 0, {1: (300, 3000)})),
+                     ("lodge", message_bytes(OFFER, False, 2, 0, {1: (150, 5000)})), ("lodge", message_bytes(OFFER, False, 3, 0, {1: (100, 4000)})),
+                     ("lodge", message_bytes(EXECUTION, False, 4, 1, {1: (60, 0)})), ("close",), ("clear",)):
+            check(not isinstance(call_model(book, *call), tuple), "figure 12 with a loss", call)
+        same((book.matched(2, 1), book.executed(4, 1), book.market(1, 1), book.bilateral(1, 1)), (kept, executed, 71, 29), "figure 12", loss)
+
+
+def test_losses(rng):
+    """Border figures and the energies kept against the words, by search."""
+    same([gate.border_figure(e, 2000) for e in (0, 1, 5, 6, 11, 12, 13)], [0, 1, 5, 5, 10, 10, 11], "figures at 2,000")
+    same([gate.border_figure(e, 1) for e in (1, 10000, 10001, 10002, 20002, 99999)], [1, 10000, 10000, 10001, 20000, 99990], "figures at 1")
+    same([gate.increased(s, l) for s, l in ((71, 2000), (71, 1970), (9999, 1), (10000, 1), (199998, 2000))], [85, 84, 9999, 10001, 239997])
+    for loss in (0, 1, 2, 300, 777, 999, 1000, 1500, 1999, 2000):
+        for energy in range(130):
+            figure = slow_figure(energy, loss)
+            same(gate.border_figure(energy, loss), figure, "figure", energy, loss)
+            for taken in range(figure + 1):
+                same(gate.kept_of(energy, taken, loss), slow_kept(energy, taken, loss), "kept", energy, taken, loss)
+    for _ in range(100):
+        energy, loss = rng.randint(0, 99999), rng.randint(0, 2000)
+        figure = slow_figure(energy, loss)
+        taken = rng.choice([0, 1, rng.randint(0, figure), rng.randint(0, figure // 20), figure])
+        same(gate.kept_of(energy, taken, loss), slow_kept(energy, taken, loss), "kept", energy, taken, loss)
+        total = rng.randint(0, 199998)
+        same(gate.increased(total, loss), slow_increased(total, loss), "increased", total, loss)
+    # the largest of which an energy is the figure is what that sum is when increased
+    for _ in range(2000):
+        total, loss = rng.randint(0, 199998), rng.randint(0, 2000)
+        most = slow_increased(total, loss)
+        check(slow_figure(most, loss) <= total < slow_figure(most + 1, loss), "increased", total, loss)
+    slow_figure.cache_clear()
+    slow_kept.cache_clear()
+    book = DayBook(2006, 6, 1)
+    for border, loss, answer in ((1, 0, None), (4, 2000, None), (1, 2001, 5), (0, 0, 5), (5, 0, 5), (2, -1, 5), (4, 1, None), (3, 65536, 5)):
+        same(call_model(book, "loss", border, loss), answer and ("refused", answer, 0), "loss", border, loss)
+    same(book.losses, {1: 0, 2: 0, 3: 0, 4: 1})
+    # limits 10, 11 and 15 are of energies
+    for call in (("loss", 1, 2000), ("register", 7, 1, 1, PURCHASE, 60, False), ("register", 8, 1, 1, PURCHASE, 60, False, True),
+                 ("capacity", {(1, EXPORT): [100] * 24, (1, IMPORT): [0] * 24}), ("available", 7, [50] * 24), ("rights", 1, PURCHASE, [40] * 24)):
+        same(call_model(book, *call), None, "losses and limits", call)
+    for unit, default, energy, answer in ((7, False, 51, 11), (7, False, 50, 1), (7, True, 61, 10), (7, True, 60, 2), (8, False, 41, 15), (8, False, 40, 3)):
+        same(call_model(book, "lodge", message_bytes(OFFER, default, unit, 0, {5: (energy, 9)})),
+             answer if answer < 10 else ("refused", answer, 5), "losses and limits", unit, energy)
+    same(call_model(book, "close"), None)
+    for border, loss in ((1, 0), (0, 2001)):
+        same(call_model(book, "loss", border, loss), ("refused", 2, 0), "a loss after closing")
 
 
 def test_edges(_rng):
@@ -915,14 +1093,14 @@ def test_share(rng):
                    for n in rng.sample(range(1, 400), rng.randint(0, 12))}
         g = sum(amounts.values())
         r = rng.choice([0, g, rng.randint(0, g)])
-        losses = gate.share(r, amounts)
-        same(losses, slow_share(r, list(amounts.items())), "share", r, amounts)
-        same(sum(losses.values()), r, "losses do not add up")
-        check(all(0 <= losses[n] <= m for n, m in amounts.items()), "a loss above its amount")
+        taken = gate.share(r, amounts)
+        same(taken, slow_share(r, list(amounts.items())), "share", r, amounts)
+        same(sum(taken.values()), r, "what is taken does not add up")
+        check(all(0 <= taken[n] <= m for n, m in amounts.items()), "more taken than there is")
         for n, m in amounts.items():
             if g:
-                check(losses[n] - r * m // g in (0, 1), "more than one leftover unit")
-        lucky = sorted(n for n, m in amounts.items() if g and losses[n] > r * m // g)
+                check(taken[n] - r * m // g in (0, 1), "more than one leftover unit")
+        lucky = sorted(n for n, m in amounts.items() if g and taken[n] > r * m // g)
         check(all(n in lucky for n, m in amounts.items() if lucky and m and n < lucky[-1]),
               "a leftover unit passed over a lower number")
 
@@ -930,22 +1108,27 @@ def test_share(rng):
 def test_hours(rng):
     """Match by runs against match by places; the whole hour against the slow telling."""
     seen = Counter()
-    for turn in range(1600):
-        offers, executions, capacity = random_hour(rng, rng.choice([3, 12, 30]))
+    for turn in range(2200):
+        make = hour_of_two_prices if turn % 16 == 15 else random_hour
+        offers, executions, capacity, losses = make(rng, rng.choice([3, 12, 30]))
         by_places = gate.match_by_places(offers)
         same(gate.match_by_runs(offers), by_places, "match", offers)
-        found = gate.clear_hour(offers, executions, capacity)
+        found = gate.clear_hour(offers, executions, capacity, losses=losses)
         if turn % 3 == 0:
-            same(found, gate.clear_hour(offers, executions, capacity, match=gate.match_by_places),
-                 "an hour by places", offers, executions, capacity)
+            same(found, gate.clear_hour(offers, executions, capacity, match=gate.match_by_places, losses=losses),
+                 "an hour by places", offers, executions, capacity, losses)
         slow = slow_hour([o._asdict() for o in offers],
                          [dict(x._asdict(), side=PURCHASE if x.direction == EXPORT else SALE)
-                          for x in executions], capacity, seen)
+                          for x in executions], capacity, seen, losses)
         for name, value in slow.items():
-            same(getattr(found, name), value, name, offers, executions, capacity)
+            same(getattr(found, name), value, name, offers, executions, capacity, losses)
     needed(seen, ("legacy step", "unmatched legacy in a legacy step", "C > V'", "C = V'", "C < V'",
                   "border without energy at the price", "more than five steps", "split with legacy",
                   "bilateral maximum below zero", "cut in export", "cut in import"), 20)
+    needed(seen, ("gave way with a loss", "gave more energy than figure", "gave nothing, below the largest of its figure",
+                  "gave way whole", "split with legacy exports and a loss", "legacy step with a loss", "cut in export with a loss",
+                  "an excess above the figures, not above the energy"), 20)
+    needed(seen, ("C would go otherwise by figures",), 5)
     return seen
 
 
@@ -953,17 +1136,19 @@ def test_held(rng):
     """An hour that a session can hold, by the sentences and by the calls."""
     seen = Counter()
     for turn in range(2500):
-        hour = held.at_random(rng, rng.choice((0, 1, 2, 3, 5, 8)), rng.choice(((1,), (1, 3), BORDERS)), rng.choice((20, 90, 60_000)))
+        losses = {b: rng.choice((0, 0, 1, 777, 2_000)) for b in BORDERS}
+        hour = held.at_random(rng, rng.choice((0, 1, 2, 3, 5, 8)), rng.choice(((1,), (1, 3), BORDERS)), rng.choice((20, 90, 60_000)), losses=losses)
         same(held.why_not(*hour), set(), "hour", turn)
         check(held.calls_hold(*hour), "hour", turn, "is not held", hour)
         seen["held"] += 1
-        hour = held.spoilt(rng, *hour)
+        hour = held.spoilt(rng, *hour, lossy=turn % 2 == 0)
         reasons = held.why_not(*hour)
         same(held.calls_hold(*hour), not reasons, "spoilt hour", turn, reasons, hour)
         seen["held" if not reasons else "not held"] += 1
         seen.update(reasons)
     needed(seen, ["lodging number", "unit number", "border", "legacy mark", "domestic execution", "energy", "price", "order",
-                  "one number twice", "two units of one number", "two offers", "maximum", "border sum", "capacity"], 10)
+                  "one number twice", "two units of one number", "two offers", "maximum", "border sum", "capacity",
+                  "loss", "loss of no export", "two losses"], 10)
     return seen
 
 
@@ -975,6 +1160,7 @@ def needed(seen, names, least):
 def check_demand_3(book, calls, answers, hours, interest, seen):
     """Demand 3's clauses, on the accepted calls and the model's own answers."""
     units, available, capacity, rights, standing, done, number = {}, {}, {}, {}, {}, set(), 0
+    losses = dict.fromkeys(BORDERS, 0)
     for call, answer in zip(calls, answers):
         if isinstance(answer, tuple):       # refused
             continue
@@ -986,6 +1172,8 @@ def check_demand_3(book, calls, answers, hours, interest, seen):
             available[call[1]] = call[2]
         elif name == "rights":
             rights[call[1:3]] = call[3]
+        elif name == "loss":
+            losses[call[1]] = call[2]
         elif name == "capacity":
             capacity = call[1]
         elif name == "lodge":
@@ -1008,6 +1196,8 @@ def check_demand_3(book, calls, answers, hours, interest, seen):
                 ceiling[u, h] = min(ceiling[u, h], held)
             if None not in both:
                 total = both[0][h - 1] + both[1][h - 1]
+                if unit["side"] == PURCHASE:
+                    total = slow_increased(total, losses[unit["border"]])
                 lessened = unit["border"] == 1 and not unit["rights"]
                 ceiling[u, h] = min(ceiling[u, h], max(total - held, 0) if lessened else total)
                 seen["a border sum lessened to 0"] += lessened and held > total > 0
@@ -1042,6 +1232,9 @@ def check_demand_3(book, calls, answers, hours, interest, seen):
             if limit == 12 and unit["border"] == 1:
                 seen["limit 12 by rights"] += sums[h] <= sum(capacity[1, d][h - 1] for d in DIRECTIONS)
             continue
+        if None not in [capacity.get((unit["border"], d)) for d in DIRECTIONS]:
+            seen["accepted above the sum, by a loss"] += any(
+                e > sum(capacity[unit["border"], d][h - 1] for d in DIRECTIONS) for h, e in sums.items())
         if unit["rights"]:
             held = rights[unit["agent"], unit["side"]]
             seen["accepted with rights"] += 1
@@ -1060,23 +1253,28 @@ def check_demand_3(book, calls, answers, hours, interest, seen):
         for u in units:
             check(0 <= matched[u] and 0 <= executed[u], "energy below zero")
             check(matched[u] + executed[u] <= ceiling[u, h], "a unit passes its ceiling")
+        cut = book.figures[h].executed      # what is left of each execution
+        for u in units:
+            same(executed[u], sum(e for n, e in cut.items() if standing[n]["unit"] == u), "a unit's executed energy")
         for border in BORDERS:
             there = {u: 1 if units[u]["side"] == PURCHASE else -1
                      for u in units if units[u]["border"] == border}
-            same(book.market(border, h), sum(g * matched[u] for u, g in there.items()))
-            same(book.bilateral(border, h), sum(g * executed[u] for u, g in there.items()))
-            total = book.market(border, h) + book.bilateral(border, h)
+
+            def figure(u, energy):
+                return slow_figure(energy, own_loss(losses, border, units[u]["side"]))
+
             accepted = {n: f for n, f in standing.items() if verdicts[n] == ("accepted",)
                         and f["kind"] == EXECUTION and f["unit"] in there and h in f["energies"]}
+            # a unit has one offer, and its matched energy is that offer's; each execution counts by itself
+            same(book.market(border, h), sum(g * figure(u, matched[u]) for u, g in there.items()))
+            same(book.bilateral(border, h), sum(there[f["unit"]] * figure(f["unit"], cut[n]) for n, f in accepted.items()))
+            total = book.market(border, h) + book.bilateral(border, h)
             uncut = book.market(border, h) + sum(
-                there[f["unit"]] * f["energies"][h] for f in accepted.values())
+                there[f["unit"]] * figure(f["unit"], f["energies"][h]) for f in accepted.values())
             for direction, g in ((EXPORT, 1), (IMPORT, -1)):
                 published = capacity.get((border, direction))
                 group = {n: f for n, f in accepted.items() if there[f["unit"]] == g}
-                energy = Counter()
-                for f in group.values():
-                    energy[f["unit"]] += f["energies"][h]
-                is_cut = any(executed[u] != e for u, e in energy.items())
+                is_cut = any(cut[n] != f["energies"][h] for n, f in group.items())
                 if published is None:
                     check(not is_cut, "a cut without a capacity")
                     continue
@@ -1085,12 +1283,19 @@ def check_demand_3(book, calls, answers, hours, interest, seen):
                 same(is_cut, g * uncut > most, "cut exactly when", h, border, direction)
                 if is_cut:
                     same(g * total, most, "the cut sum stands at the capacity")
-                    losses = slow_share(g * uncut - most,
-                                        [(n, f["energies"][h]) for n, f in group.items()])
+                    taken = slow_share(g * uncut - most,
+                                       [(n, figure(f["unit"], f["energies"][h])) for n, f in group.items()])
                     for n, f in group.items():
-                        energy[f["unit"]] -= losses[n]
-                    same({u: executed[u] for u in energy}, dict(energy), "cut by Share")
+                        loss = own_loss(losses, border, units[f["unit"]]["side"])
+                        same(cut[n], slow_kept(f["energies"][h], taken[n], loss), "cut by Share, the largest energy kept")
                     seen["hours with a cut"] += 1
+                    seen["hours with a cut and a loss"] += g == 1 and losses[border] > 0
+            lossy = losses[border] > 0 and any(matched[u] for u in there if there[u] == 1)
+            seen["hours with exports and a loss"] += lossy
+            most = capacity.get((border, EXPORT))
+            if lossy and most and book.market(border, h) == most[h - 1]:
+                seen["a border full, its exports' energy above its capacity"] += (
+                    sum(g * matched[u] for u, g in there.items()) > most[h - 1])
 
 
 def queries_of(rng, hours, calls, last, interest):
@@ -1116,7 +1321,7 @@ def test_demand_3(rng):
     seen = Counter()
     for turn in range(LISTS):
         large = turn % 60 == 59             # now and then energies of any size
-        compare = not large and turn % 4 == 0   # with the slow telling
+        compare = not large and turn % 4 == 1   # with the slow telling
         date, hours, calls, interest = random_list(rng, 15000 if large else rng.choice([8, 20, 40]))
         book, slow = DayBook(*date), SlowBook(hours)
         answers = []
@@ -1160,11 +1365,13 @@ def test_demand_3(rng):
                   "bilateral maximum below zero", "split with legacy"], 10)
     needed(seen, ["C > V'", "C = V'", "C < V'", "border without energy at the price",
                   "hours of more than five steps"], 1)
+    needed(seen, ["accepted above the sum, by a loss", "hours with exports and a loss", "hours with a cut and a loss",
+                  "a border full, its exports' energy above its capacity", "gave way with a loss", "gave more energy than figure"], 10)
     check(seen["lists"] >= 2000, "too few lists")
     return seen
 
 
-TESTS = (test_dates, test_twelve_figures, test_edges, test_full, test_messages, test_share, test_hours,
+TESTS = (test_dates, test_twelve_figures, test_losses, test_edges, test_full, test_messages, test_share, test_hours,
          test_held, test_demand_3)
 
 

@@ -17,6 +17,48 @@ pub(super) struct Figures {
     pub executed: [u32; MOST_UNITS],
 }
 
+/// What an energy counts for at its border: of an export there is a loss, of an import and at home none.
+///
+/// With a loss l an export of e counts as the least whole f that brings it, f × (10,000 + l) ≥ e × 10,000.
+#[derive(Clone, Copy)]
+struct Scale {
+    loss: u32,
+}
+
+impl Scale {
+    fn of(losses: &[u32; 5], border: usize, purchase: bool) -> Scale {
+        Scale { loss: if purchase { losses[border] } else { 0 } }
+    }
+
+    fn figure(self, energy: u32) -> u32 {
+        match self.loss {
+            0 => energy,
+            loss => (u64::from(energy) * 10_000).div_ceil(10_000 + u64::from(loss)) as u32,
+        }
+    }
+
+    /// What an energy keeps of which a part of the figure is taken: the largest that counts for what is left.
+    ///
+    /// The figure never falls as the energy grows, so it is looked for by halves.
+    fn keeps(self, energy: u32, taken: u32) -> u32 {
+        let left = self.figure(energy) - taken;
+        if taken == 0 {
+            return energy;
+        }
+        let (mut low, mut above) = (0, energy);
+        // `low` counts for no more than is left, `above` for more.
+        while above - low > 1 {
+            let middle = low + (above - low) / 2;
+            if self.figure(middle) > left {
+                above = middle;
+            } else {
+                low = middle;
+            }
+        }
+        low
+    }
+}
+
 /// An accepted offer in an hour that it names.
 struct Offer {
     place: usize,
@@ -27,6 +69,14 @@ struct Offer {
     price: u32,
     offered: u32,
     matched: u32,
+    scale: Scale,
+}
+
+impl Offer {
+    /// What its matched energy counts for at its border.
+    fn crossing(&self) -> u32 {
+        self.scale.figure(self.matched)
+    }
 }
 
 /// Export is 0, import 1.
@@ -103,17 +153,17 @@ impl Hour {
     fn balances(&self) -> [i64; 4] {
         let mut balances = [0; 4];
         for offer in self.at_borders() {
-            let energy = i64::from(offer.matched);
+            let energy = i64::from(offer.crossing());
             balances[offer.border - 1] += if offer.purchase { energy } else { -energy };
         }
         balances
     }
 
-    /// Matched legacy energy by border and direction.
+    /// What matched legacy energy counts for, by border and direction.
     fn legacy(&self) -> [[i64; 2]; 4] {
         let mut legacy = [[0; 2]; 4];
         for offer in self.at_borders().filter(|offer| offer.legacy) {
-            legacy[offer.border - 1][direction(offer.purchase)] += i64::from(offer.matched);
+            legacy[offer.border - 1][direction(offer.purchase)] += i64::from(offer.crossing());
         }
         legacy
     }
@@ -168,21 +218,21 @@ impl Hour {
         }
     }
 
-    /// Takes the lesser of the excess and the group's matched energy by Share; the group then offers matched less taken.
+    /// Takes the lesser of the excess and what the group counts for by Share; each then offers what it keeps of its matched energy.
     fn take(&mut self, excess: i64, of_group: impl Fn(&Offer) -> bool) {
-        let group = || self.at_borders().filter(|offer| of_group(offer)).map(|offer| offer.matched);
+        let group = || self.at_borders().filter(|offer| of_group(offer)).map(Offer::crossing);
         let total: u64 = group().map(u64::from).sum();
         let mut share = Share::new(total.min(excess as u64), total, group());
         for index in &self.abroad {
             let offer = &mut self.offers[*index];
             if of_group(offer) {
-                offer.offered = offer.matched - share.loss(offer.matched);
+                offer.offered = offer.scale.keeps(offer.matched, share.given(offer.crossing()));
             }
         }
     }
 }
 
-/// "To take R from amounts m summing to G": what each amount loses, asked by rising lodging number.
+/// "To take R from amounts m summing to G": what each amount gives, asked by rising lodging number.
 struct Share {
     taken: u64,
     total: u64,
@@ -198,11 +248,11 @@ impl Share {
     }
 
     fn rounded_down(&self, amount: u32) -> u64 {
-        // G 0 loses nothing.
+        // G 0 gives nothing.
         (self.taken * u64::from(amount)).checked_div(self.total).unwrap_or(0)
     }
 
-    fn loss(&mut self, amount: u32) -> u32 {
+    fn given(&mut self, amount: u32) -> u32 {
         let more = u64::from(self.left > 0 && amount > 0);
         self.left -= more;
         (self.rounded_down(amount) + more) as u32
@@ -228,7 +278,16 @@ struct Execution {
     border: usize,
     purchase: bool,
     energy: u32,
-    lost: u32,
+    /// What is left of the energy after a cut.
+    left: u32,
+    scale: Scale,
+}
+
+impl Execution {
+    /// What its whole energy counts for at its border.
+    fn crossing(&self) -> u32 {
+        self.scale.figure(self.energy)
+    }
 }
 
 /// The day's hours, cleared one after another in the same memory.
@@ -240,7 +299,7 @@ pub(super) struct Clearing {
 
 impl Clearing {
     /// The accepted lodgements that name an hour (from 0). The lodgements stand by rising number.
-    fn load(&mut self, units: &[Registered], lodgements: &[Lodgement], hour: usize) {
+    fn load(&mut self, units: &[Registered], lodgements: &[Lodgement], losses: &[u32; 5], hour: usize) {
         self.merit.offers.clear();
         self.executions.clear();
         for lodgement in lodgements {
@@ -250,11 +309,13 @@ impl Clearing {
             }
             let Unit { border, purchase, legacy, .. } = units[lodgement.place].unit;
             let (place, border) = (lodgement.place, border as usize);
+            let scale = Scale::of(losses, border, purchase);
             if lodgement.key.execution {
-                self.executions.push(Execution { place, border, purchase, energy, lost: 0 });
+                self.executions.push(Execution { place, border, purchase, energy, left: energy, scale });
             } else {
                 let price = lodgement.prices[hour];
-                self.merit.offers.push(Offer { place, purchase, border, legacy, price, offered: energy, matched: 0 });
+                let offer = Offer { place, purchase, border, legacy, price, offered: energy, matched: 0, scale };
+                self.merit.offers.push(offer);
             }
         }
         self.merit.sort();
@@ -266,9 +327,10 @@ impl Clearing {
         units: &[Registered],
         lodgements: &[Lodgement],
         capacities: &[Option<Hours>; 8],
+        losses: &[u32; 5],
         hour: usize,
     ) -> (Figures, u64) {
-        self.load(units, lodgements, hour);
+        self.load(units, lodgements, losses, hour);
         let Clearing { merit, executions } = self;
         let capacity = |border: usize, direction: usize| {
             capacities[border * 2 + direction].as_ref().map(|hours| i64::from(hours[hour]))
@@ -276,7 +338,7 @@ impl Clearing {
 
         let mut uncut = [0; 4];
         for execution in executions.iter() {
-            let energy = i64::from(execution.energy);
+            let energy = i64::from(execution.crossing());
             uncut[execution.border - 1] += if execution.purchase { energy } else { -energy };
         }
         let mut price = merit.match_offers();
@@ -323,10 +385,10 @@ impl Clearing {
                 if excess > 0 {
                     let of_group =
                         |execution: &Execution| execution.border == border + 1 && execution.purchase == (direction == 0);
-                    let group = || executions.iter().filter(|execution| of_group(execution)).map(|one| one.energy);
+                    let group = || executions.iter().filter(|execution| of_group(execution)).map(Execution::crossing);
                     let mut share = Share::new(excess as u64, group().map(u64::from).sum(), group());
                     for execution in executions.iter_mut().filter(|execution| of_group(execution)) {
-                        execution.lost += share.loss(execution.energy);
+                        execution.left = execution.scale.keeps(execution.energy, share.given(execution.crossing()));
                     }
                 }
             }
@@ -345,10 +407,9 @@ impl Clearing {
             figures.matched[offer.place] += offer.matched;
         }
         for execution in executions.iter() {
-            let energy = execution.energy - execution.lost;
-            figures.executed[execution.place] += energy;
-            figures.bilateral[execution.border - 1] +=
-                if execution.purchase { i64::from(energy) } else { -i64::from(energy) };
+            figures.executed[execution.place] += execution.left;
+            let energy = i64::from(execution.scale.figure(execution.left));
+            figures.bilateral[execution.border - 1] += if execution.purchase { energy } else { -energy };
         }
         (figures, steps)
     }
@@ -366,15 +427,31 @@ mod tests {
         assert_eq!(split(100, 0, 0, 0), 100);
         assert_eq!(split(100, 20, 30, 0), 80);
         assert_eq!(split(100, 60, 150, 120), 100);
-        assert_eq!(losses(10, &[7, 7, 7]), [4, 3, 3]);
-        assert_eq!(losses(10, &[7, 0, 7, 7]), [4, 0, 3, 3]);
-        assert_eq!(losses(0, &[0, 0]), [0, 0]);
-        assert_eq!(losses(21, &[7, 7, 7]), [7, 7, 7]);
+        assert_eq!(given(10, &[7, 7, 7]), [4, 3, 3]);
+        assert_eq!(given(10, &[7, 0, 7, 7]), [4, 0, 3, 3]);
+        assert_eq!(given(0, &[0, 0]), [0, 0]);
+        assert_eq!(given(21, &[7, 7, 7]), [7, 7, 7]);
     }
 
-    fn losses(taken: u64, amounts: &[u32]) -> Vec<u32> {
+    #[test]
+    fn the_largest_energy_is_kept() {
+        assert_eq!([1, 5, 6, 11, 12].map(|energy| Scale { loss: 2000 }.figure(energy)), [1, 5, 5, 10, 10]);
+        for loss in [0, 1, 300, 777, 1500, 2000] {
+            let scale = Scale { loss };
+            for energy in (0..150).chain([99_998, 99_999]) {
+                let figure = scale.figure(energy);
+                for taken in (0..=figure).take(150) {
+                    let kept = scale.keeps(energy, taken);
+                    assert_eq!(scale.figure(kept), figure - taken);
+                    assert!(kept == energy || kept < energy && scale.figure(kept + 1) > figure - taken);
+                }
+            }
+        }
+    }
+
+    fn given(taken: u64, amounts: &[u32]) -> Vec<u32> {
         let total = amounts.iter().map(|amount| u64::from(*amount)).sum();
         let mut share = Share::new(taken, total, amounts.iter().copied());
-        amounts.iter().map(|amount| share.loss(*amount)).collect()
+        amounts.iter().map(|amount| share.given(*amount)).collect()
     }
 }

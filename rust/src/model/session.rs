@@ -53,6 +53,8 @@ pub struct Session {
     /// Export and import of border 1, of 2, of 3, of 4.
     capacities: [Option<Hours>; 8],
     rights: Vec<Held>,
+    /// By border, 0 at home.
+    losses: [u32; 5],
     /// Keys by place, likewise; the order of the lodgements is of no meaning.
     packed: Vec<u64>,
     lodgements: Vec<Lodgement>,
@@ -91,6 +93,7 @@ impl Session {
             units: Vec::with_capacity(MOST_UNITS),
             capacities: [None; 8],
             rights: Vec::new(),
+            losses: [0; 5],
             packed: Vec::with_capacity(MOST_LODGEMENTS),
             lodgements: Vec::with_capacity(MOST_LODGEMENTS),
             last_number: 0,
@@ -137,6 +140,12 @@ impl Session {
             return passed(sums, [Some(&maximum), None, None, None]);
         }
         let mut border = self.border_sum(unit.border);
+        let loss = self.losses[unit.border as usize];
+        if let (Some(sum), true) = (&mut border, unit.purchase && loss > 0) {
+            for energy in sum.iter_mut() {
+                *energy = increased(*energy, loss);
+            }
+        }
         let mut rights = None;
         if unit.border == FRANCE {
             let held = self.rights_of(unit);
@@ -209,6 +218,12 @@ impl Session {
         hours[self.hours..].fill(0);
         Ok(hours)
     }
+}
+
+/// The border sum of a unit that brings the losses too, rounded down.
+fn increased(sum: u32, loss: u32) -> u32 {
+    // What comes on top of the whole sum is its loss, rounded down.
+    sum + (u64::from(sum) * u64::from(loss) / 10_000) as u32
 }
 
 /// Adds hour by hour.
@@ -324,6 +339,16 @@ impl Exchange for Session {
         Ok(())
     }
 
+    fn loss(&mut self, border: u32, loss: u32) -> Result<(), Refusal> {
+        self.still_open()?;
+        let place = Session::border_asked(border)? + 1;
+        if loss > LARGEST_LOSS {
+            return Err(Refusal::Range);
+        }
+        self.losses[place] = loss;
+        Ok(())
+    }
+
     fn lodge(&mut self, bytes: &[u8]) -> Result<LodgingNumber, Refusal> {
         self.still_open()?;
         let fields = message::read_within(bytes, self.hours)?;
@@ -431,7 +456,7 @@ impl Exchange for Session {
         let mut figures = Vec::with_capacity(self.hours);
         let mut clearing = Clearing::default();
         for hour in 0..self.hours {
-            let (cleared, taken) = clearing.clear(&self.units, &self.lodgements, &self.capacities, hour);
+            let (cleared, taken) = clearing.clear(&self.units, &self.lodgements, &self.capacities, &self.losses, hour);
             steps += taken;
             figures.push(cleared);
         }
