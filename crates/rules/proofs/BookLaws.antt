@@ -7,24 +7,25 @@ use mathlib.Core.List.{List, [], ◌∷◌, ◌++◌, map}
 use mathlib.Core.Option.{Option, some, none as nothing}
 use native.Mathlib.Omega.{arith}
 use lib.Dec.{leb, ltb, eqb}
-use lib.ListN.{length, length-append, length-map}
+use lib.ListN.{length, set, length-append, length-map, length-set}
+use lib.Seq.{get_or-set_other}
 use borrow.Author.Tests.{leb-false, ltb-true, ltb-false, eqb-true, eqb-false, eq-eqb, lt-ltb, not-false, not-true}
 use Rattle.rules.specs.Lists.{All, none, more, Pairwise, empty, ahead, keep, any, first, sum_of, from, hourly}
 use Rattle.rules.specs.Refusals.{Row, row, first_row}
 use Rattle.rules.specs.Hours.{unfold_hours, Date, is_date, date_row}
-use Rattle.rules.specs.Units.{TradingUnit, Registered, Published, Capacities, max_energy, domestic, bad_unit, bad_number, bad_energies, bad_published, not_of_hours, is_second_to, french, french_of, has_number, is_registered, unit_of, nobody}
+use Rattle.rules.specs.Units.{TradingUnit, Registered, Published, Capacities, max_energy, max_loss, bad_loss, loss_of, domestic, bad_unit, bad_number, bad_energies, bad_published, not_of_hours, is_second_to, french, french_of, has_number, is_registered, unit_of, nobody}
 use Rattle.rules.specs.Message.{Key, Fields, names, message_of, wrong_form, bad_map, bad_key, bad_fields, wrong_range}
 use Rattle.rules.specs.Lodging.{Lodgement, energy_at, same_key, stands, without, names_beyond}
 use Rattle.rules.specs.Book.{Book, hours, limits_of, fresh, Frozen, frozen}
 use Rattle.rules.specs.Judging.{is_accepted, verdict_among}
 use Rattle.rules.specs.Closing.{judge, judgements, accepted_at}
 use Rattle.rules.specs.Clearing.{hour_of_day, clear_hour, figures_at, day_steps}
-use Rattle.rules.specs.DayBook.{Call, register, capacity, available, rights, lodge, annul, close, clear, change_row, unregistered, bad_holder, is_second, is_partner, no_partner, units_full, full, gate_row, lodge_rows, call_rows, rows_of, with_units, with_capacities, with_standing, with_stage, notify, grant, rights_on_side, entry, applied, effect_of, effect, after, opened_with, opening, Answer, done, steps, reply, answers}
-use Rattle.rules.specs.Sound.{OfDay, absent, energies, UnitsSound, HasUnit, Lodged, StandingSound, Sound, WellTyped}
+use Rattle.rules.specs.DayBook.{Call, register, capacity, available, rights, loss, lodge, annul, close, clear, change_row, unregistered, bad_holder, is_second, is_partner, no_partner, units_full, full, gate_row, lodge_rows, call_rows, rows_of, with_units, with_capacities, with_standing, with_stage, with_losses, notify, grant, rights_on_side, entry, applied, effect_of, effect, after, opened_with, opening, Answer, done, steps, reply, answers}
+use Rattle.rules.specs.Sound.{OfDay, absent, energies, UnitsSound, HasUnit, Lodged, StandingSound, LossesSound, Sound, WellTyped}
 use Rattle.rules.specs.Demands.{Begins, opened, Got, now, next, Staged, ClosedIn}
 use Rattle.rules.proofs.BoolLaws.{by_bool, not-both, of-not, neither, both, of-both, beq-true, of-beq}
 use Rattle.rules.proofs.ListLaws.{keep-passes, length-keep, length-drop-one, any-longer, first-longer, all_map, all_head, all_tail, all_keep, all-mapped, all_replicate, all_from, any_false, hourly-beyond}
-use Rattle.rules.proofs.ElementLaws.{all-last, pairwise-last, all_both, all-every, pairwise-keep, pairwise_map, pairwise-weaken}
+use Rattle.rules.proofs.ElementLaws.{all-last, all-set, pairwise-last, all_both, all-every, pairwise-keep, pairwise_map, pairwise-weaken}
 use Rattle.rules.proofs.RefusalLaws.{accepted-rows}
 use Rattle.rules.proofs.MessageLaws.{Good, of-reads, message-lengths, message-good}
 
@@ -342,6 +343,20 @@ holders-sound H f s =
       messages = s.messages;
     }
 
+-- Losses
+
+-- a loss that is not refused
+losses-sound : (losses : List ℕ) (border l : ℕ) → LossesSound losses → bad_loss border l ≡ false → LossesSound (set losses border l)
+unfolding bad_loss loss_of
+losses-sound losses border l s h =
+    let a = neither _ _ h in
+    let b = neither _ _ a.0 in
+    record {
+      count = length-set losses border l ∙ s.count;
+      domestic = get_or-set_other losses border 0 l 0 (λ e. eqb-false border 0 b.0 (sym e)) ∙ s.domestic;
+      range = all-set border s.range (ltb-false max_loss l a.1);
+    }
+
 -- Calls
 
 and-rest : {a b : Bool} → a ≡ true → (a && b) ≡ false → b ≡ false
@@ -349,7 +364,7 @@ and-rest h k = rw h at k
 
 -- an accepted call leaves a sound book
 applied-sound : (b : Book) (c : Call) → first_row (rows_of b c) ≡ nothing → Sound b → Sound (applied b c)
-unfolding applied rows_of gate_row call_rows row change_row unregistered is_second no_partner units_full with_units with_capacities with_standing with_stage hours entry
+unfolding applied rows_of gate_row call_rows row change_row unregistered is_second no_partner units_full with_units with_capacities with_standing with_stage with_losses hours entry
 applied-sound b (register u) h s =
     let r5 = all_tail (accepted-rows (rows_of b (register u)) h) in
     let r7 = all_tail r5 in
@@ -361,6 +376,7 @@ applied-sound b (register u) h s =
           (λ e. not-false _ (and-rest e (all_head (all_tail r9))));
       capacities = s.capacities;
       standing = holders-sound (hours b) (unit-longer b.units (record { unit = u; available = nothing; rights = rights_on_side b.units u } ∷ [])) s.standing;
+      losses = s.losses;
       stage = s.stage;
     }
 applied-sound b (capacity cs) h s =
@@ -370,6 +386,7 @@ applied-sound b (capacity cs) h s =
       units = s.units;
       capacities = notice-good (hours b) cs (all_head r4) (all_head (all_tail r4));
       standing = s.standing;
+      losses = s.losses;
       stage = s.stage;
     }
 applied-sound b (available n es) h s =
@@ -379,6 +396,7 @@ applied-sound b (available n es) h s =
       units = notify-sound n es (hours b) b.units s.units (eqb-true _ _ (not-false _ (all_head r4))) (energies-good es (neither (bad_number n) (bad_energies es) (all_head (all_tail r4))).1);
       capacities = s.capacities;
       standing = holders-sound (hours b) (same-holder (notify n es) (notify-unit n es) b.units) s.standing;
+      losses = s.losses;
       stage = s.stage;
     }
 applied-sound b (rights agent purchase es) h s =
@@ -388,6 +406,16 @@ applied-sound b (rights agent purchase es) h s =
       units = grant-sound agent purchase es (hours b) b.units s.units (eqb-true _ _ (not-false _ (all_head r4))) (energies-good es (neither (bad_number agent) (bad_energies es) (all_head (all_tail r4))).1);
       capacities = s.capacities;
       standing = holders-sound (hours b) (same-holder (grant agent purchase es) (grant-unit agent purchase es) b.units) s.standing;
+      losses = s.losses;
+      stage = s.stage;
+    }
+applied-sound b (loss border l) h s =
+    record {
+      date = s.date;
+      units = s.units;
+      capacities = s.capacities;
+      standing = s.standing;
+      losses = losses-sound b.losses border l s.losses (all_head (all_tail (accepted-rows (rows_of b (loss border l)) h)));
       stage = s.stage;
     }
 applied-sound b (lodge bytes) h s =
@@ -400,18 +428,20 @@ applied-sound b (lodge bytes) h s =
       standing = with-sound (hours b) b.units (entry m (suc b.last)) (without-sound (hours b) b.units m.key s.standing)
           (place-left b m.key a.room s.standing.room) (number-left b m.key a.room) refl (without-key m.key b.standing)
           (holder-good b m.key a.holder) (lodged b bytes (suc b.last) a);
+      losses = s.losses;
       stage = s.stage;
     }
 applied-sound b (annul k) h s =
-    record { date = s.date; units = s.units; capacities = s.capacities; standing = without-sound (hours b) b.units k s.standing; stage = s.stage }
+    record { date = s.date; units = s.units; capacities = s.capacities; standing = without-sound (hours b) b.units k s.standing; losses = s.losses; stage = s.stage }
 applied-sound b close h s =
-    record { date = s.date; units = s.units; capacities = s.capacities; standing = s.standing; stage = λ e. refl }
+    record { date = s.date; units = s.units; capacities = s.capacities; standing = s.standing; losses = s.losses; stage = λ e. refl }
 applied-sound b clear h s =
     record {
       date = s.date;
       units = s.units;
       capacities = s.capacities;
       standing = s.standing;
+      losses = s.losses;
       stage = λ e. not-false _ (neither _ _ (all_head (accepted-rows (rows_of b clear) h))).0;
     }
 
@@ -432,13 +462,14 @@ calls-sound b (c ∷ cs) s = calls-sound (effect b c).book cs (effect-sound b c 
 
 -- a fresh book of a date is sound
 fresh-sound : (d : Date) → is_date d ≡ true → Sound (fresh d)
-unfolding fresh
+unfolding fresh loss_of
 fresh-sound d e =
     record {
       date = e;
       units = record { room = omega arith; distinct = empty; single = empty; ranges = none; notices = none; granted = none; agreed = λ agent purchase. empty; foreign = none; partnered = none };
       capacities = all_replicate 8 nothing absent;
       standing = record { room = omega arith; counted = omega arith; rising = empty; from_one = none; to_last = none; keys = empty; holders = none; messages = none };
+      losses = record { count = refl; domestic = refl; range = all_replicate 5 0 (omega arith) };
       stage = λ k. absurd (false≢true k);
     }
 
@@ -448,7 +479,7 @@ unfolding unfold_hours
 first-day = refl
 
 -- opening leaves the fresh book of a date in the range, of a refused date too
-opening-fresh : (d : Date) → (e : Date) × (is_date e ≡ true) × ((opening d).book ≡ fresh e)
+pub opening-fresh : (d : Date) → (e : Date) × (is_date e ≡ true) × ((opening d).book ≡ fresh e)
 unfolding opening opened_with date_row row
 opening-fresh d = go (first_row (date_row d ∷ [])) refl
   where
@@ -493,11 +524,12 @@ sound-after {b} g cs = calls-sound b cs (begins-sound g)
 
 -- an accepted call leaves a notice of 8 directions
 applied-directions : (b : Book) (c : Call) → WellTyped c → length b.capacities ≡ 8 → length (applied b c).capacities ≡ 8
-unfolding applied with_units with_capacities with_standing with_stage
+unfolding applied with_units with_capacities with_standing with_stage with_losses
 applied-directions b (register u) w h = h
 applied-directions b (capacity cs) w h = w.directions cs refl
 applied-directions b (available n es) w h = h
 applied-directions b (rights agent purchase es) w h = h
+applied-directions b (loss border l) w h = h
 applied-directions b (lodge bytes) w h = h
 applied-directions b (annul k) w h = h
 applied-directions b close w h = h
@@ -526,7 +558,7 @@ directions-after {b} g w = calls-directions b w (begins-directions g)
 
 -- a book that has it, open
 abbrev thawed : Frozen → Book
-thawed f = record { date = f.date; units = f.units; capacities = f.capacities; standing = f.standing; last = f.last; closed = false; cleared = false }
+thawed f = record { date = f.date; units = f.units; capacities = f.capacities; standing = f.standing; last = f.last; closed = false; cleared = false; losses = f.losses }
 
 -- a value that thawing leaves is the same for all books that froze the same
 of-frozen : {A : Type 0} (f : Book → A) → ((b : Book) → f (thawed (frozen b)) ≡ f b) → (a b : Book) → frozen a ≡ frozen b → f a ≡ f b
@@ -580,6 +612,7 @@ effect-closed b (register u) h = ap frozen (change-refused b (register u) h refl
 effect-closed b (capacity cs) h = ap frozen (change-refused b (capacity cs) h refl)
 effect-closed b (available n es) h = ap frozen (change-refused b (available n es) h refl)
 effect-closed b (rights agent purchase es) h = ap frozen (change-refused b (rights agent purchase es) h refl)
+effect-closed b (loss border l) h = ap frozen (change-refused b (loss border l) h refl)
 effect-closed b (lodge bytes) h = ap frozen (change-refused b (lodge bytes) h refl)
 effect-closed b (annul k) h = ap frozen (change-refused b (annul k) h refl)
 effect-closed b close h = ap frozen (change-refused b close h refl)
@@ -587,11 +620,12 @@ effect-closed b clear h = clear-frozen b
 
 -- no call opens a book again, or takes its figures back
 applied-stays : (b : Book) (c : Call) → (b.closed ≡ true → (applied b c).closed ≡ true) × (b.cleared ≡ true → (applied b c).cleared ≡ true)
-unfolding applied with_units with_capacities with_standing with_stage
+unfolding applied with_units with_capacities with_standing with_stage with_losses
 applied-stays b (register u) = (λ h. h, λ h. h)
 applied-stays b (capacity cs) = (λ h. h, λ h. h)
 applied-stays b (available n es) = (λ h. h, λ h. h)
 applied-stays b (rights agent purchase es) = (λ h. h, λ h. h)
+applied-stays b (loss border l) = (λ h. h, λ h. h)
 applied-stays b (lodge bytes) = (λ h. h, λ h. h)
 applied-stays b (annul k) = (λ h. h, λ h. h)
 applied-stays b close = (λ h. refl, λ h. h)
@@ -638,11 +672,12 @@ close_open b h = rw h
 
 -- no other call closes one
 closes : (b : Book) (c : Call) → (c ≡ close) ⊎ ((applied b c).closed ≡ b.closed)
-unfolding applied with_units with_capacities with_standing with_stage
+unfolding applied with_units with_capacities with_standing with_stage with_losses
 closes b (register u) = inr refl
 closes b (capacity cs) = inr refl
 closes b (available n es) = inr refl
 closes b (rights agent purchase es) = inr refl
+closes b (loss border l) = inr refl
 closes b (lodge bytes) = inr refl
 closes b (annul k) = inr refl
 closes b close = inl refl
@@ -730,11 +765,12 @@ closed-got b (c ∷ cs) h k =
 
 -- only a clearing clears a book
 clears : (b : Book) (c : Call) → ((c ≡ clear) × (reply b c ≡ steps (day_steps b))) ⊎ ((applied b c).cleared ≡ b.cleared)
-unfolding applied reply with_units with_capacities with_standing with_stage
+unfolding applied reply with_units with_capacities with_standing with_stage with_losses
 clears b (register u) = inr refl
 clears b (capacity cs) = inr refl
 clears b (available n es) = inr refl
 clears b (rights agent purchase es) = inr refl
+clears b (loss border l) = inr refl
 clears b (lodge bytes) = inr refl
 clears b (annul k) = inr refl
 clears b close = inr refl

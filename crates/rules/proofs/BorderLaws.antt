@@ -8,11 +8,11 @@ use native.Mathlib.Omega.{arith}
 use native.Mathlib.Nat.{le_refl, le_trans}
 use lib.Dec.{ltb}
 use borrow.Author.Tests.{ltb-true, ltb-false}
-use Rattle.rules.specs.Lists.{All, none, more, keep, any, sum, sum_of, add_each}
+use Rattle.rules.specs.Lists.{All, none, more, Each3, three0, three, keep, any, sum, sum_of, add_each}
 use Rattle.rules.specs.Match.{Offer}
 use Rattle.rules.specs.Borders.{Directed, Execution, runs, at_border, keeps, flow}
 use Rattle.rules.specs.Executions.{bilateral_excess, cuts, all_cuts, less_each, cut_all}
-pub use Rattle.rules.specs.Demands.{CutDown, SomeCut, this, another, amounts_on, BorderCleared}
+pub use Rattle.rules.specs.Demands.{CutDown, SomeCut, this, another, amounts_on, KeepsLargest, BorderCleared}
 unfoldable pub use Rattle.rules.specs.Demands.{deducted}
 use Rattle.rules.proofs.BoolLaws.{by_bool, not-both, of-not}
 use Rattle.rules.proofs.ElementLaws.{all_both, empty, ahead, Each, each0, each, each-refl}
@@ -20,7 +20,7 @@ use Rattle.rules.proofs.ShareLaws.{Under, under0, under, each-sum, share-sum, sh
 use Rattle.rules.proofs.SumLaws.{sum_zeros, cond-le, masked, none_left, zeros-under, masked-sum, under-add, passing, passing-self, passing-none, passing-add, passing-le, add-zeros}
 use Rattle.rules.proofs.BalanceLaws.{market_flow, execution_flow, crossing-flows, bilateral-flows, passes-excess, sub-le, sub_at}
 use Rattle.rules.proofs.DirectionLaws.{same_direction, same_parts, Once, runs-one, runs_none}
-use Rattle.rules.proofs.CrossingLaws.{kept_at, kept_less, kept-le, kept-all, kept-some}
+use Rattle.rules.proofs.CrossingLaws.{kept_at, kept_less, kept-le, kept-all, kept-some, keeps-largest}
 
 -- What a cut leaves
 
@@ -77,6 +77,14 @@ module _ (q : Execution → Bool) where
   deducted-passing c [] under0 = refl
   deducted-passing c (x ∷ xs) (under {a = k} h t) =
       ap₂ (λ (n : ℕ) (r : List ℕ). cond (on c x) n 0 ∷ r) (omega (arith, within x h, kept_at x.holder x.energy k)) (deducted-passing c xs t)
+
+  -- and each that runs there keeps the largest energy with the border figure that is left
+  less-largest : (c : Directed) {ls : List ℕ} (xs : List Execution) → Under ls (masked q counted xs)
+      → Each3 (KeepsLargest c) xs (passing (on c) ls xs) (less_each ls xs)
+  unfolding less_each passing
+  less-largest c [] under0 = three0
+  less-largest c (x ∷ xs) (under {a = k} h t) =
+      three {y = cond (on c x) k 0} {z = record { holder = x.holder; energy = left x k }} (λ e. rw e (keeps-largest x.holder x.energy k)) (less-largest c xs t)
 
   -- where something is deducted in a direction some execution is cut
   some-of-sum : (c : Directed) {ls : List ℕ} (xs : List Execution) → Under ls (masked q counted xs) → 0 < sum (passing (on c) ls xs) → SomeCut c xs (less_each ls xs)
@@ -242,6 +250,7 @@ module _ (os : List Offer) (xs : List Execution) {cs : List Directed} (once : On
           stands = λ h. rw (crossing-flows c os after) (sub_at _ _ _ (at_after ((passes-excess c os xs).0 h)));
           enough = omega (arith, excess-le os xs c f, amounts-flow c xs);
           shared = deducted-passing (among cs) c xs (all-cuts-under os xs once fits) ∙ own;
+          largest = rw own at (less-largest (among cs) c xs (all-cuts-under os xs once fits));
         }
 
   -- every published direction, where the market alone fits

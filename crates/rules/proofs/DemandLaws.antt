@@ -67,8 +67,8 @@ module _ (b : Book) (s : Sound b) where
       let units : All (λ l. (unit_of b.units l.key.unit).unit.number ≡ l.key.unit) named = all_keep (λ l. ltb 0 (energy_at l h)) accepted-units in
       omega (
         arith,
-        sum-made (offer_at b.units h) (λ o. o.holder.unit) (λ o. o.offered) u h (all_keep (λ l. not l.key.execution) (all_map (λ l e. (e, refl)) units)),
-        sum-made (execution_at b.units h) (λ x. x.holder.unit) (λ x. x.energy) u h (all_keep (λ l. l.key.execution) (all_map (λ l e. (e, refl)) units)),
+        sum-made (offer_at b.units b.losses h) (λ o. o.holder.unit) (λ o. o.offered) u h (all_keep (λ l. not l.key.execution) (all_map (λ l e. (e, refl)) units)),
+        sum-made (execution_at b.units b.losses h) (λ x. x.holder.unit) (λ x. x.energy) u h (all_keep (λ l. l.key.execution) (all_map (λ l e. (e, refl)) units)),
         sum-two (λ l. energy_at l h) (λ l. eqb l.key.unit u) (λ l. l.key.execution) named,
         sum-some (λ l. energy_at l h) (λ l. eqb l.key.unit u) (λ l. ltb 0 (energy_at l h)) (accepted_at b),
       )

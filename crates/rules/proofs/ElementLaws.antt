@@ -1,7 +1,9 @@
 -- Laws of a list's elements: one that is found, each against the later ones, and two lists place by place.
+use Prim.Native.Nat.{ℕ, zero, suc}
 use mathlib.Core.Path.{◌≡◌}
 use mathlib.Core.Bool.{Bool, true, false, cond, false≢true}
 use mathlib.Core.List.{List, [], ◌∷◌, ◌++◌, map, reverse_aux}
+use lib.ListN.{set}
 use Rattle.rules.specs.Lists.{All, none, more, keep, any}
 pub use Rattle.rules.specs.Lists.{Some, here, there, Pairwise, empty, ahead, Each, each0, each}
 use Rattle.rules.proofs.BoolLaws.{by_bool}
@@ -68,6 +70,12 @@ pairwise_append (more a u) (ahead h t) k = ahead (all_append h a) (pairwise_appe
 -- one more element of which it holds
 pub all-last : {A : Type 0} {P : A → Type 0} {xs : List A} {y : A} → All P xs → P y → All P (xs ++ (y ∷ []))
 all-last h k = all_append h (more k none)
+
+-- one put in the place of another
+pub all-set : {A : Type 0} {P : A → Type 0} {xs : List A} (i : ℕ) {y : A} → All P xs → P y → All P (set xs i y)
+all-set i none p = none
+all-set zero (more k t) p = more p t
+all-set (suc i) (more k t) p = more k (all-set i t p)
 
 -- one more element that stands in R to each before
 pub pairwise-last : {A : Type 0} {R : A → A → Type 0} {xs : List A} {y : A} → Pairwise R xs → All (λ x. R x y) xs → Pairwise R (xs ++ (y ∷ []))

@@ -17,6 +17,7 @@ pub mod MatchLaws
 pub mod BalanceLaws
 pub mod DirectionLaws
 pub mod CrossingLaws
+pub mod EnergyLaws
 pub mod WithdrawalLaws
 pub mod ProgressLaws
 pub mod EndLaws
@@ -27,6 +28,7 @@ pub mod SoundLaws
 pub mod TableLaws
 pub mod BookLaws
 pub mod RightsLaws
+pub mod LossLaws
 pub mod OrderLaws
 pub mod JudgingLaws
 pub mod ClosingLaws

@@ -1,24 +1,25 @@
 -- After every list of calls a French unit's rights are those of the last accepted notice of its agent and side, and its ceiling follows.
-use Prim.Native.Nat.{ℕ, ◌+◌, ◌-◌, ◌≤◌, min}
+use Prim.Native.Nat.{ℕ, ◌-◌, ◌≤◌}
 use mathlib.Core.Path.{◌≡◌, refl, ap, sym, ◌∙◌}
-use mathlib.Core.Bool.{Bool, true, false, cond, not, ◌&&◌, ◌||◌, beq}
+use mathlib.Core.Bool.{Bool, true, false, cond, ◌&&◌, beq}
 use mathlib.Core.List.{List, [], ◌∷◌, ◌++◌, map}
 use mathlib.Core.Option.{Option, some, none as nothing}
 use native.Mathlib.Nat.{min-le_left, min-le_right}
 use native.Mathlib.Omega.{arith}
 use lib.Dec.{eqb}
 use borrow.Author.Tests.{eqb-true, eq-eqb, not-false}
-use Rattle.rules.specs.Lists.{All, none, more, Some, here, there, any, first, hourly}
+use Rattle.rules.specs.Lists.{All, none, more, Some, here, there, any, first}
 use Rattle.rules.specs.Refusals.{Row, row, first_row}
-use Rattle.rules.specs.Hours.{Date, date_row}
-use Rattle.rules.specs.Units.{TradingUnit, Registered, Capacities, Lines, french, french_of, nobody, rights_at, border_sum, lessened, maximum_limit, available_limit, own_limits, border_limit, rights_limit, border_limits, limits, least_of, ceiling}
+use Rattle.rules.specs.Hours.{date_row}
+use Rattle.rules.specs.Units.{TradingUnit, Registered, Lines, loss_of, unit_loss, french, french_of, nobody, rights_at, border_sum, increased, increased_sum, lessened, own_limits, border_limit, LimitsIncreased, rights_limit, border_limits, limits, least_of, ceiling}
 use Rattle.rules.specs.Book.{Book, fresh, lines_of}
-use Rattle.rules.specs.DayBook.{Call, register, capacity, available, rights, lodge, annul, close, clear, no_french, gate_row, call_rows, rows_of, with_units, with_capacities, with_standing, with_stage, notify, grant, rights_on_side, applied, effect_of, effect, after, opened_with, opening}
+use Rattle.rules.specs.DayBook.{Call, register, capacity, available, rights, loss, lodge, annul, close, clear, no_french, call_rows, rows_of, with_units, with_capacities, with_standing, with_stage, with_losses, notify, grant, rights_on_side, applied, effect_of, effect, after, opened_with, opening}
 use Rattle.rules.specs.Rights.{renewed, unless_refused, last_rights, energy_of, RightsLast, Ceilinged, RightsInCeilings, WithinSum}
 use Rattle.rules.proofs.BoolLaws.{by_bool, not-both, of-not, both, of-both, beq-true, of-beq}
 use Rattle.rules.proofs.ListLaws.{all_map, all_head, all_tail, all-mapped}
 use Rattle.rules.proofs.ElementLaws.{all-last, all-every}
 use Rattle.rules.proofs.RefusalLaws.{accepted-rows}
+use Rattle.rules.proofs.CrossingLaws.{increased-plain}
 use Rattle.rules.proofs.BookLaws.{french-parts, any_same, notify-unit, grant-unit}
 
 -- what holds of all that pass a test holds of the first, if one passes it
@@ -112,12 +113,13 @@ module _ (agent : ℕ) (purchase : Bool) where
 
   -- an accepted call
   applied-noted : (b : Book) (c : Call) (last : Option (List ℕ)) → first_row (rows_of b c) ≡ nothing → Noted b.units last → Noted (applied b c).units (renewed agent purchase c last)
-  unfolding applied renewed with_units with_capacities with_standing with_stage rows_of call_rows row no_french
+  unfolding applied renewed with_units with_capacities with_standing with_stage with_losses rows_of call_rows row no_french
   applied-noted b (register u) last h n = registered b.units last u n
   applied-noted b (capacity cs) last h n = n
   applied-noted b (available m es) last h n = noticed b.units last m es n
   applied-noted b (rights a p es) last h n =
       granted b.units last a p es n (not-false _ (all_head (all_tail (all_tail (all_tail (accepted-rows (rows_of b (rights a p es)) h))))))
+  applied-noted b (loss border l) last h n = n
   applied-noted b (lodge bytes) last h n = n
   applied-noted b (annul k) last h n = n
   applied-noted b close last h n = n
@@ -156,6 +158,16 @@ below n l (x ∷ ls) (here e) = rw e (min-le_left l (least_of n ls))
 below n l (nothing ∷ ls) (there k) = below n l ls k
 below n l (some m ∷ ls) (there k) = omega (arith, min-le_right m (least_of n ls), below n l ls k)
 
+-- rights that a marked unit does not lose
+less-none : (marked : Bool) (n t : ℕ) (o : Option ℕ) → marked ≡ true → o ≡ some t → lessened (cond marked 0 n) o ≡ some t
+unfolding lessened
+less-none marked n t o m e = let whole : t - 0 ≡ t = omega arith in rw (m, e) (ap (λ (k : ℕ). some k) whole)
+
+-- K2: what limit 12 is where there is a border sum
+pub border-limited : LimitsIncreased
+unfolding border_limit unit_loss increased_sum lessened
+border-limited ls r h s e = record { purchase = λ p. rw (p, e) refl; sale = λ p. rw (p, e, increased-plain s) refl }
+
 module _ (ls : Lines) (r : Registered) (h : ℕ) where
   -- limit 12 is the third, 15 the fourth
   under-12 : (l : ℕ) → (border_limit ls r).at h ≡ some l → ceiling ls r h ≤ l
@@ -171,16 +183,15 @@ module _ (ls : Lines) (r : Registered) (h : ℕ) where
   unfolding rights_limit
   marked-rights m = under-15 (rights_at r h) (rw m refl)
 
-  marked-sum : (s : ℕ) → r.unit.rights ≡ true → border_sum ls.capacities r.unit.border h ≡ some s → ceiling ls r h ≤ s
-  unfolding border_limit lessened
+  marked-sum : (s : ℕ) → r.unit.rights ≡ true → border_sum ls.capacities r.unit.border h ≡ some s → ceiling ls r h ≤ increased (unit_loss ls.losses r.unit) s
+  unfolding border_limit increased_sum
   marked-sum s m e =
-      let whole : s - 0 ≡ s = omega arith in
-      under-12 s (rw (m, e) (ap (λ (n : ℕ). some n) whole))
+      let l = unit_loss ls.losses r.unit in under-12 (increased l s) (less-none r.unit.rights (rights_at r h) (increased l s) _ m (ap (increased_sum l) e))
 
   -- an unmarked one's within what they leave of it
-  unmarked-sum : (s : ℕ) → r.unit.rights ≡ false → border_sum ls.capacities r.unit.border h ≡ some s → ceiling ls r h ≤ s - rights_at r h
-  unfolding border_limit lessened
-  unmarked-sum s m e = under-12 (s - rights_at r h) (rw (m, e) refl)
+  unmarked-sum : (s : ℕ) → r.unit.rights ≡ false → border_sum ls.capacities r.unit.border h ≡ some s → ceiling ls r h ≤ increased (unit_loss ls.losses r.unit) s - rights_at r h
+  unfolding border_limit increased_sum lessened
+  unmarked-sum s m e = under-12 (increased (unit_loss ls.losses r.unit) s - rights_at r h) (rw (m, e) refl)
 
 rights-energy : (r : Registered) (last : Option (List ℕ)) (h : ℕ) → r.rights ≡ last → rights_at r h ≡ energy_of last h
 unfolding rights_at energy_of
@@ -209,6 +220,15 @@ all-some x none k = elim k [ ]
 all-some {P} x (more k t) (here e) = rw (← e) k
 all-some {P} x (more k t) (there s) = all-some {P = P} x t s
 
+-- a French unit has the French loss on the purchase side
+french-loss : (losses : List ℕ) (agent : ℕ) (purchase : Bool) (u : TradingUnit) → french_of agent purchase u ≡ true
+    → unit_loss losses u ≡ cond purchase (loss_of losses 1) 0
+unfolding unit_loss french
+french-loss losses agent purchase u e =
+    let k = french-parts agent purchase u e in
+    let at_1 : u.border ≡ 1 = eqb-true u.border 1 k.0 in
+    rw (at_1, k.2) refl
+
 pub within-sum : WithinSum
 unfolding french
 within-sum d cs agent purchase q r among-q among-r french-q french-r m u h s e =
@@ -221,4 +241,5 @@ within-sum d cs agent purchase q r among-q among-r french-q french-r m u h s e =
     let a = x.marked m in
     let c = y.unmarked s u e in
     let t = marked-sum (lines_of b) q h s m (rw z e) in
-    omega (arith, a, c, t)
+    let same : unit_loss b.losses q.unit ≡ unit_loss b.losses r.unit = french-loss b.losses agent purchase q.unit french-q ∙ sym (french-loss b.losses agent purchase r.unit french-r) in
+    rw (← french-loss b.losses agent purchase r.unit french-r) (omega (arith, a, c, rw same at t))

@@ -1,5 +1,5 @@
 -- Share takes exactly R in all, and from no amount more than it has.
-use Prim.Native.Nat.{ℕ, zero, suc, ◌+◌, ◌*◌, ◌-◌, ◌≤◌, ◌<◌, zero-le}
+use Prim.Native.Nat.{ℕ, zero, suc, pred, ◌+◌, ◌*◌, ◌-◌, ◌≤◌, ◌<◌, zero-le}
 use mathlib.Core.Path.{◌≡◌, refl, ap}
 use mathlib.Core.List.{List, [], ◌∷◌, map}
 use mathlib.Core.Logic.{⊎_elim}
@@ -28,6 +28,12 @@ unfolding sum add_each
 each-sum [] ls = omega arith
 each-sum (k ∷ ks) [] = omega arith
 each-sum (k ∷ ks) (l ∷ ls) = omega (arith, each-sum ks ls)
+
+pub add-length : (ks ls : List ℕ) → length ks ≡ length ls → length (add_each ks ls) ≡ length ls
+unfolding add_each
+add-length [] ls h = refl
+add-length (k ∷ ks) [] h = h
+add-length (k ∷ ks) (l ∷ ls) h = ap suc (add-length ks ls (ap pred h))
 
 -- how many amounts are above 0
 count : List ℕ → ℕ

@@ -73,7 +73,7 @@ pub hour-sound : (b : Book) (accepted : List Lodgement) (h : ℕ) → Numbered a
 unfolding hour_of_day offer_at holder_of
 hour-sound b accepted h n =
     record {
-      rising = pairwise_map (offer_at b.units h) (λ k l r. r) (pairwise-keep _ (pairwise-keep _ n));
+      rising = pairwise_map (offer_at b.units b.losses h) (λ k l r. r) (pairwise-keep _ (pairwise-keep _ n));
       once = capacities-once b.capacities h;
     }
 

@@ -10,9 +10,10 @@ use lib.IntN.{ℤ, pos, negsuc, neg_ℤ, sub_ℕ}
 use borrow.Author.Tests.{lt-ltb, le-ltb, ltb-true, ltb-false}
 use Rattle.rules.specs.Lists.{round_up}
 use Rattle.rules.specs.Match.{Holder, Offer}
-use Rattle.rules.specs.Borders.{Directed, Execution, flow, balance, market_balance, execution_balance, toward, positive}
-use Rattle.rules.specs.Split.{net_capacity, claims, bilateral_part, market_maximum, legacy_flow, maximum_of}
+use Rattle.rules.specs.Borders.{Directed, Execution, runs, at_border, flow, balance, market_balance, execution_balance, toward, positive}
+use Rattle.rules.specs.Split.{net_capacity, claims, bilateral_part, market_maximum, legacy_flow, LegacyCounted, maximum_of}
 use Rattle.rules.proofs.BoolLaws.{by_bool}
+use Rattle.rules.proofs.SumLaws.{sum-two}
 
 -- x exports less i imports, negated, is i less x
 pub neg-sub : (x i : ℕ) → neg_ℤ (sub_ℕ x i) ≡ sub_ℕ i x
@@ -98,3 +99,9 @@ one_way (negsuc n) h = absurd (omega arith)
 
 pub maximum-within : (E : ℕ) (B M : ℤ) (L : ℕ) → 0 < positive B → market_maximum E B M L ≤ E
 maximum-within E B M L h = omega (arith, maximum-le E B M L, one_way B h)
+
+-- K2: L is a part of the market's exports, in border figures as they are
+pub legacy-counted : LegacyCounted
+unfolding legacy_flow flow
+legacy-counted border export os =
+    omega (arith, sum-two (λ o. at_border o.holder o.matched) (λ o. runs border export o.holder) (λ o. o.holder.legacy) os)

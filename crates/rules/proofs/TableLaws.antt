@@ -15,8 +15,8 @@ use Rattle.rules.specs.Units.{Registered, Lines, maximum_limit, available_limit,
 use Rattle.rules.specs.Message.{read_rows, read, write_rows, write, message_of}
 use Rattle.rules.specs.Lodging.{limit_rows, judged_by}
 use Rattle.rules.specs.Book.{Book}
-use Rattle.rules.specs.Queries.{Query, verdict, matched, executed, market, bilateral, market_max, bilateral_max, price, figure_rows, unit_rows, border_rows, query_rows, shown, query}
-use Rattle.rules.specs.DayBook.{Call, register, capacity, available, rights, lodge, annul, close, clear, Answer, refusal, done, numbered, steps, change_row, gate_row, lodge_rows, call_rows, rows_of, reply, effect_of, effect, opened_with, opening}
+use Rattle.rules.specs.Queries.{Query, verdict, matched, executed, market, bilateral, market_max, bilateral_max, price, figure_rows, unit_rows, border_rows, query_rows, query}
+use Rattle.rules.specs.DayBook.{Call, register, capacity, available, rights, loss, lodge, annul, close, clear, Answer, refusal, done, numbered, steps, change_row, gate_row, lodge_rows, call_rows, rows_of, reply, effect_of, effect, opened_with, opening}
 use Rattle.rules.specs.Table.{Ordered, RefusedBy, Refuses, InTableOrder}
 use Rattle.rules.proofs.BoolLaws.{by_bool, both, not-both}
 use Rattle.rules.proofs.ListLaws.{all_map}
@@ -71,6 +71,7 @@ call-ordered b (register u) = rise-ordered 0 _ refl
 call-ordered b (capacity cs) = rise-ordered 0 _ refl
 call-ordered b (available n es) = rise-ordered 0 _ refl
 call-ordered b (rights agent purchase es) = rise-ordered 0 _ refl
+call-ordered b (loss border l) = rise-ordered 0 _ refl
 call-ordered b (lodge bytes) = lodge-ordered _ _ _ _ _ _ _ _ _ _ _ (message_of bytes).key.default
 call-ordered b (annul k) = rise-ordered 0 _ refl
 call-ordered b close = rise-ordered 0 _ refl
@@ -145,6 +146,7 @@ accepted-reply b (register u) = refl
 accepted-reply b (capacity cs) = refl
 accepted-reply b (available n es) = refl
 accepted-reply b (rights agent purchase es) = refl
+accepted-reply b (loss border l) = refl
 accepted-reply b (lodge bytes) = refl
 accepted-reply b (annul k) = refl
 accepted-reply b close = refl

@@ -106,9 +106,9 @@ pub record HeldIn (us : List Registered) (x : Holder) : Type 0 where
   pub held : Held (unit_of us x.unit) x
 
 -- the holder of a lodgement whose unit is registered
-holder-held : (us : List Registered) (l : Lodgement) → is_registered us l.key.unit ≡ true → HeldIn us (holder_of us l)
+holder-held : (us : List Registered) (losses : List ℕ) (l : Lodgement) → is_registered us l.key.unit ≡ true → HeldIn us (holder_of us losses l)
 unfolding holder_of
-holder-held us l h =
+holder-held us losses l h =
     let e = unit-number us l.key.unit h in
     record {
       registered = ap (is_registered us) e ∙ h;
@@ -200,14 +200,14 @@ module _ (c : Directed) where
 
 module _ (b : Book) (s : Sound b) where
   -- accepted lodgements have registered units
-  accepted-held : All (λ l. HeldIn b.units (holder_of b.units l)) (accepted_at b)
+  accepted-held : All (λ l. HeldIn b.units (holder_of b.units b.losses l)) (accepted_at b)
   unfolding accepted_at
-  accepted-held = all_keep _ (all_map (λ l k. holder-held b.units l k.registered) s.standing.holders)
+  accepted-held = all_keep _ (all_map (λ l k. holder-held b.units b.losses l k.registered) s.standing.holders)
 
   -- so each execution is a unit's
   executions-held : (h : ℕ) → All (λ x. HeldIn b.units x.holder) (executions_at b h)
   unfolding hour_of_day execution_at
-  executions-held h = all-mapped (execution_at b.units h) (all_keep (λ l. l.key.execution) (all_keep (λ l. ltb 0 (energy_at l h)) accepted-held))
+  executions-held h = all-mapped (execution_at b.units b.losses h) (all_keep (λ l. l.key.execution) (all_keep (λ l. ltb 0 (energy_at l h)) accepted-held))
 
   -- after cuts too
   cut-held : (h : ℕ) → All (λ x. HeldIn b.units x.holder) (figures_at b h).executions
@@ -219,7 +219,7 @@ module _ (b : Book) (s : Sound b) where
   unfolding hour_of_day offer_at
   offers-held h =
       each_all (λ x y k u. subst (HeldIn b.units) (sym k.holder) u) (figures-cleared b h s.standing.rising).offers
-      (all-mapped (offer_at b.units h) (all_keep (λ l. not l.key.execution) (all_keep (λ l. ltb 0 (energy_at l h)) accepted-held)))
+      (all-mapped (offer_at b.units b.losses h) (all_keep (λ l. not l.key.execution) (all_keep (λ l. ltb 0 (energy_at l h)) accepted-held)))
 
   -- energies of the units that pass a test sum to those of the holders that pass it, where a unit passes just as its holders do
   sum-held : {A : Type 0} (holder : A → Holder) (energy : A → ℕ) (p : Registered → Bool) (q : Holder → Bool)

@@ -1,22 +1,23 @@
 -- A withdrawal step: no offer offers more after it, holders and prices stay, and what it takes is gone from what is offered.
-use Prim.Native.Nat.{ℕ, ◌+◌, ◌≤◌, ◌<◌, min, zero-le}
-use mathlib.Core.Path.{◌≡◌, refl, ◌∙◌}
+use Prim.Native.Nat.{ℕ, pred, ◌+◌, ◌-◌, ◌≤◌, ◌<◌, min, zero-le}
+use mathlib.Core.Path.{◌≡◌, refl, ap, sym, ◌∙◌}
 use mathlib.Core.Bool.{Bool, true, false, cond, not, ◌&&◌}
 use mathlib.Core.List.{List, [], ◌∷◌, map}
 use native.Mathlib.Omega.{arith}
 use native.Mathlib.Nat.{le_trans, le_refl}
-use Rattle.rules.specs.Lists.{none, more, any, sum, sum_of}
+use lib.ListN.{length, length-map}
+use Rattle.rules.specs.Lists.{none, more, Each3, three0, three, keep, any, sum, sum_of}
 use Rattle.rules.specs.Match.{Offer, with_energies, matched_of, match_all}
-use Rattle.rules.specs.Borders.{Directed, runs, at_border, keeps}
-use Rattle.rules.specs.Withdrawal.{runs_in, runs_among, keep_matched, Group, in_group, gives_way, amounts, deductions, all_deductions, remain, take_from, group_of, step, step_bound}
+use Rattle.rules.specs.Borders.{Directed, runs, at_border, keeps, Largest, flow}
+use Rattle.rules.specs.Withdrawal.{runs_in, runs_among, keep_matched, Group, in_group, gives_way, amounts, deductions, DeductionsCounted, all_deductions, remain, take_from, TakenLargest, group_of, step, step_bound}
 use Rattle.rules.proofs.BoolLaws.{by_bool, both}
 use Rattle.rules.proofs.ListLaws.{all_map, all-mapped}
 use Rattle.rules.proofs.ElementLaws.{all-every, Some, here, there, some-map, empty, ahead, Each, each0, each, each_map, each-trans, each-pairwise}
-use Rattle.rules.proofs.ShareLaws.{Under, under0, under, each-sum, share-sum, share-under}
-use Rattle.rules.proofs.SumLaws.{masked, zeros-under, under-add}
+use Rattle.rules.proofs.ShareLaws.{Under, under0, under, under-length, each-sum, add-length, share-sum, share-under}
+use Rattle.rules.proofs.SumLaws.{cond-le, masked, zeros-under, under-add}
 use Rattle.rules.proofs.MatchLaws.{Rising, Within}
 use Rattle.rules.proofs.DirectionLaws.{Once, runs_none}
-use Rattle.rules.proofs.CrossingLaws.{kept_less, kept-le}
+use Rattle.rules.proofs.CrossingLaws.{kept_less, kept-le, keeps-largest}
 
 -- An offer against what it was before: the same holder and price, and it offers no more.
 pub record Lowered (before after : Offer) : Type 0 where
@@ -91,11 +92,38 @@ module _ (g : Group) (os : List Offer) where
   all_under (ahead {x = d} {xs = ds} a t) =
       under-add counted (gives_way g d) (λ o. any (λ e. gives_way g e o) ds) (runs_none (λ o. o.holder) (gives_way g) (gives-runs g) a) os (deductions-under d) (all_under t)
 
+  -- each offer has a deduction
+  all-length : (ds : List Directed) → length (all_deductions g os ds) ≡ length os
+  unfolding all_deductions amounts
+  all-length [] = length-map os _
+  all-length (d ∷ ds) =
+      add-length (deductions g os d) (all_deductions g os ds) (under-length (deductions-under d) ∙ length-map os _ ∙ sym (all-length ds)) ∙ all-length ds
+
   -- a deduction in one direction is a deduction
   all-some : {ds : List Directed} → Some (λ d. 0 < sum (deductions g os d)) ds → 0 < sum (all_deductions g os ds)
   unfolding all_deductions
   all-some (here {x = d} {xs = ds} h) = omega (arith, each-sum (deductions g os d) (all_deductions g os ds))
   all-some (there {x = d} {xs = ds} s) = omega (arith, each-sum (deductions g os d) (all_deductions g os ds), all-some s)
+
+-- what the offers of a group that run in a direction count for there
+group-flow : (g : Group) (d : Directed) (os : List Offer)
+    → sum (amounts g d os) ≡ flow (λ o. o.holder) (λ o. o.matched) d.border d.export (keep (in_group g) os)
+unfolding amounts gives_way runs_in flow keep sum_of sum
+group-flow g d [] = refl
+group-flow g d (o ∷ os) =
+    by_bool (in_group g o)
+    (λ e. by_bool (runs d.border d.export o.holder) (λ r. rw (e, r) (omega (arith, group-flow g d os))) (λ r. rw (e, r) (omega (arith, group-flow g d os))))
+    (λ e. by_bool (runs d.border d.export o.holder) (λ r. rw (e, r) (omega (arith, group-flow g d os))) (λ r. rw (e, r) (omega (arith, group-flow g d os))))
+
+-- no deduction is above what its offer counts for
+none-above : (p : Offer → Bool) {ks : List ℕ} (os : List Offer) → Under ks (masked p counted os) → Each (λ k o. k ≤ counted o) ks os
+none-above p [] under0 = each0
+none-above p (o ∷ os) (under h u) = each (le_trans h (cond-le (p o) (counted o))) (none-above p os u)
+
+pub deductions-counted : DeductionsCounted
+unfolding amounts
+deductions-counted g os d =
+    record { lesser = deductions-sum g os d ∙ ap (min d.energy) (group-flow g d os); no_more = none-above (gives_way g d) os (deductions-under g os d) }
 
 -- what is left is at most what was offered
 left_le : (o : Offer) (b : Bool) (k : ℕ) → o.matched ≤ o.offered → cond b (keeps o.holder o.matched k) o.offered ≤ o.offered
@@ -103,13 +131,22 @@ left_le o true k h = le_trans (kept-le o.holder o.matched k) h
 left_le o false k h = le_refl o.offered
 
 module _ (p : Offer → Bool) where
-  -- "what remains offered is matched less taken": all that is taken is gone from what is offered
+  -- all that is taken is gone from what is offered
   remain-total : {ls : List ℕ} (os : List Offer) → Under ls (masked p counted os) → Within os → step_bound (remain p ls os) + sum ls ≤ step_bound os
   unfolding step_bound sum_of sum remain with_energies
   remain-total [] under0 none = zero-le
   remain-total (o ∷ os) (under {a = k} h u) (more w v) =
       by_bool (p o) (λ e. rw e (omega (arith, kept_less o.holder o.matched k (rw e at h), remain-total os u v)))
       (λ e. rw e (omega (arith, rw e at h, remain-total os u v)))
+
+  -- who gives way has the largest energy with the border figure that is left
+  remain-largest : (ks : List ℕ) (os : List Offer) → length ks ≡ length os
+      → Each3 (λ x k y. p x ≡ true → Largest x.holder.loss x.matched (at_border x.holder x.matched - k) y.offered) os ks (remain p ks os)
+  unfolding remain with_energies
+  remain-largest [] [] h = three0
+  remain-largest (k ∷ ks) [] h = absurd (omega arith)
+  remain-largest [] (o ∷ os) h = absurd (omega arith)
+  remain-largest (k ∷ ks) (o ∷ os) h = three (λ e. rw e (keeps-largest o.holder o.matched k)) (remain-largest ks os (ap pred h))
 
   -- and no offer offers more
   remain-lowered : {ls : List ℕ} (os : List Offer) → Under ls (masked p counted os) → Within os → Each Lowered os (remain p ls os)
@@ -129,6 +166,10 @@ module _ (g : Group) {ds : List Directed} (once : Once ds) {os : List Offer} (w 
   unfolding take_from
   take_less s =
       omega (arith, remain-total (λ o. any (λ d. gives_way g d o) ds) os (all_under g os once) w, all-some g os (some-map (λ d h. omega (arith, deductions-sum g os d)) s))
+
+pub taken-largest : TakenLargest
+unfolding take_from
+taken-largest g ds os = remain-largest (λ o. any (λ d. gives_way g d o) ds) (all_deductions g os ds) os (all-length g os ds)
 
 -- 5. "Match again."
 

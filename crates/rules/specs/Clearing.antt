@@ -2,7 +2,7 @@
 use Rattle.std.specs.Prelude.{ℕ, Bool, true, false, not, List, [], ◌∷◌, ◌++◌, map, ltb}
 use Rattle.std.proofs.Math.Option.{some, none}
 use Rattle.rules.specs.Lists.{keep, sum_of, from, hourly}
-use Rattle.rules.specs.Units.{Registered, Published, Capacities, capacity_of, unit_of}
+use Rattle.rules.specs.Units.{Registered, Published, Capacities, unit_loss, capacity_of, unit_of}
 use Rattle.rules.specs.Lodging.{Lodgement, energy_at}
 use Rattle.rules.specs.Book.{Book, hours}
 use Rattle.rules.specs.Closing.{accepted_at}
@@ -43,16 +43,17 @@ clear_hour x =
 
 -- The hour as the book has it
 
-unfoldable pub holder_of : List Registered → Lodgement → Holder
-holder_of us l =
+-- by the units and the losses
+unfoldable pub holder_of : List Registered → List ℕ → Lodgement → Holder
+holder_of us losses l =
     let u = (unit_of us l.key.unit).unit in
-    record { number = l.number; unit = u.number; border = u.border; purchase = u.purchase; legacy = u.legacy }
+    record { number = l.number; unit = u.number; border = u.border; purchase = u.purchase; legacy = u.legacy; loss = unit_loss losses u }
 
-unfoldable pub offer_at : List Registered → ℕ → Lodgement → Offer
-offer_at us h l = record { holder = holder_of us l; price = hourly l.prices h; offered = energy_at l h; matched = 0 }
+unfoldable pub offer_at : List Registered → List ℕ → ℕ → Lodgement → Offer
+offer_at us losses h l = record { holder = holder_of us losses l; price = hourly l.prices h; offered = energy_at l h; matched = 0 }
 
-unfoldable pub execution_at : List Registered → ℕ → Lodgement → Execution
-execution_at us h l = record { holder = holder_of us l; energy = energy_at l h }
+unfoldable pub execution_at : List Registered → List ℕ → ℕ → Lodgement → Execution
+execution_at us losses h l = record { holder = holder_of us losses l; energy = energy_at l h }
 
 -- a direction's capacity in an hour. "Absent means no maximum"
 unfoldable pub published : ℕ → ℕ → Bool → Published → List Directed
@@ -72,8 +73,8 @@ hour_of_day b accepted h =
     let named = keep (λ l. ltb 0 (energy_at l h)) accepted in
     record {
       capacities = capacities_at b.capacities h;
-      offers = map (offer_at b.units h) (keep (λ l. not l.key.execution) named);
-      executions = map (execution_at b.units h) (keep (λ l. l.key.execution) named);
+      offers = map (offer_at b.units b.losses h) (keep (λ l. not l.key.execution) named);
+      executions = map (execution_at b.units b.losses h) (keep (λ l. l.key.execution) named);
     }
 
 unfoldable pub figures_at : Book → ℕ → Figures

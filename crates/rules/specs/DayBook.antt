@@ -1,21 +1,22 @@
 -- "Day book": calls, their refusals in the table's order, and what an accepted call does.
-use Rattle.std.specs.Prelude.{ℕ, suc, Bool, true, cond, not, ◌&&◌, ◌||◌, List, [], ◌∷◌, ◌++◌, map, leb, eqb, length}
+use Rattle.std.specs.Prelude.{ℕ, suc, Bool, true, cond, not, ◌&&◌, ◌||◌, List, [], ◌∷◌, ◌++◌, map, leb, eqb, length, set}
 use Rattle.std.proofs.Math.Option.{Option, some, none}
 use Rattle.rules.specs.Lists.{any, first}
 use Rattle.rules.specs.Refusals.{Row, row, first_row}
 use Rattle.rules.specs.Hours.{Date, date_row}
-use Rattle.rules.specs.Units.{TradingUnit, Registered, Capacities, bad_unit, bad_number, bad_energies, bad_published, not_of_hours, is_second_to, french, french_of, has_number, nobody, is_registered, unit_of}
+use Rattle.rules.specs.Units.{TradingUnit, Registered, Capacities, bad_unit, bad_number, bad_loss, bad_energies, bad_published, not_of_hours, is_second_to, french, french_of, has_number, nobody, is_registered, unit_of}
 use Rattle.rules.specs.Message.{Key, Fields, message_of, wrong_form, bad_map, bad_key, wrong_range}
 use Rattle.rules.specs.Lodging.{Lodgement, stands, without, judged_at, judged_by, limit_rows, names_beyond, domestic_execution}
 use Rattle.rules.specs.Book.{Book, hours, lines_of, fresh}
 use Rattle.rules.specs.Clearing.{day_steps}
 
--- "registering, notices, lodging, annulling, closing and clearing"
+-- "registering, notices, lodging, annulling, closing and clearing"; K2: "lists that set losses too"
 pub data Call : Type 0 where
   register : TradingUnit → Call
   capacity : Capacities → Call
   available : ℕ → List ℕ → Call  -- an unavailability notice: a unit's number and its available energies
   rights : ℕ → Bool → List ℕ → Call  -- a rights notice: an agent, a side (true for purchases) and its energies
+  loss : ℕ → ℕ → Call  -- K2: a border, and the loss that it gets
   lodge : List ℕ → Call  -- "Lodging takes a message's bytes."
   annul : Key → Call
   close : Call
@@ -71,6 +72,7 @@ gate_row b (register u) = change_row b
 gate_row b (capacity cs) = change_row b
 gate_row b (available n es) = change_row b
 gate_row b (rights agent purchase es) = change_row b
+gate_row b (loss border l) = change_row b  -- "set before closing"
 gate_row b (lodge bytes) = change_row b
 gate_row b (annul k) = change_row b
 gate_row b close = change_row b  -- "closing [..] twice"
@@ -96,6 +98,7 @@ call_rows b (available n es) =
     row 4 (not (eqb (length es) (hours b))) ∷ row 5 (bad_number n || bad_energies es) ∷ row 6 (unregistered b n) ∷ []
 call_rows b (rights agent purchase es) =
     row 4 (not (eqb (length es) (hours b))) ∷ row 5 (bad_number agent || bad_energies es) ∷ row 6 (no_french b agent purchase) ∷ []
+call_rows b (loss border l) = row 5 (bad_loss border l) ∷ []
 call_rows b (lodge bytes) = lodge_rows b bytes
 call_rows b (annul k) = row 5 (bad_key k) ∷ row 6 (bad_holder b k) ∷ row 13 (not (stands b.standing k)) ∷ []
 call_rows b close = []
@@ -115,6 +118,7 @@ with_units b us = record {
   last = b.last;
   closed = b.closed;
   cleared = b.cleared;
+  losses = b.losses;
 }
 
 unfoldable pub with_capacities : Book → Capacities → Book
@@ -126,6 +130,7 @@ with_capacities b cs = record {
   last = b.last;
   closed = b.closed;
   cleared = b.cleared;
+  losses = b.losses;
 }
 
 unfoldable pub with_standing : Book → List Lodgement → ℕ → Book
@@ -137,6 +142,7 @@ with_standing b standing last = record {
   last = last;
   closed = b.closed;
   cleared = b.cleared;
+  losses = b.losses;
 }
 
 unfoldable pub with_stage : Book → Bool → Bool → Book
@@ -148,6 +154,19 @@ with_stage b closed cleared = record {
   last = b.last;
   closed = closed;
   cleared = cleared;
+  losses = b.losses;
+}
+
+unfoldable pub with_losses : Book → List ℕ → Book
+with_losses b losses = record {
+  date = b.date;
+  units = b.units;
+  capacities = b.capacities;
+  standing = b.standing;
+  last = b.last;
+  closed = b.closed;
+  cleared = b.cleared;
+  losses = losses;
 }
 
 -- the notice of unit n put in the place of its earlier one
@@ -167,12 +186,13 @@ unfoldable pub entry : Fields → ℕ → Lodgement
 entry m n = record { key = m.key; number = n; energies = m.energies; prices = m.prices }
 
 -- "registering adds the unit", with the rights of its agent and side; "a notice replaces its earlier one; lodging drops any lodgement of its key, enters its own
--- under the next number [..]; annulling drops the key's lodgement"
+-- under the next number [..]; annulling drops the key's lodgement". A loss replaces that of its border.
 unfoldable pub applied : Book → Call → Book
 applied b (register u) = with_units b (b.units ++ (record { unit = u; available = none; rights = rights_on_side b.units u } ∷ []))
 applied b (capacity cs) = with_capacities b cs
 applied b (available n es) = with_units b (map (notify n es) b.units)
 applied b (rights agent purchase es) = with_units b (map (grant agent purchase es) b.units)
+applied b (loss border l) = with_losses b (set b.losses border l)
 applied b (lodge bytes) =
     let m = message_of bytes in
     with_standing b (without m.key b.standing ++ (entry m (suc b.last) ∷ [])) (suc b.last)
@@ -186,6 +206,7 @@ reply b (register u) = done
 reply b (capacity cs) = done
 reply b (available n es) = done
 reply b (rights agent purchase es) = done
+reply b (loss border l) = done
 reply b (lodge bytes) = numbered (suc b.last)
 reply b (annul k) = done
 reply b close = done
@@ -224,5 +245,5 @@ unfoldable pub opening : Date → Effect
 opening d = opened_with d (first_row (date_row d ∷ []))
 
 unfoldable pub unfold_day_book : Unit {0}
-unfolding change_row unregistered bad_holder is_second no_french is_partner no_partner units_full full gate_row lodge_rows call_rows rows_of with_units with_capacities with_standing with_stage notify grant rights_on_side entry applied reply effect_of effect after answers opened_with opening
+unfolding change_row unregistered bad_holder is_second no_french is_partner no_partner units_full full gate_row lodge_rows call_rows rows_of with_units with_capacities with_standing with_stage with_losses notify grant rights_on_side entry applied reply effect_of effect after answers opened_with opening
 unfold_day_book = tt

@@ -2,7 +2,7 @@
 use Rattle.std.specs.Prelude.{ℕ, ◌+◌, ◌-◌, ◌≤◌, ◌<◌, ◌≡◌, ◌↔◌, Bool, true, false, cond, ◌&&◌, List, [], ◌∷◌, ◌++◌, map, eqb, ℤ, pos, ◌+ℤ◌, ◌≤ℤ◌, ◌<ℤ◌}
 use Rattle.std.specs.Bool.{beq}
 use Rattle.std.proofs.Math.Option.{some, none}
-use Rattle.rules.specs.Lists.{All, Each, keep, sum, sum_of, hourly}
+use Rattle.rules.specs.Lists.{All, Each, Each3, keep, sum, sum_of, hourly}
 use Rattle.rules.specs.Hours.{Date}
 use Rattle.rules.specs.Units.{Registered, capacity_of}
 use Rattle.rules.specs.Lodging.{Lodgement, energy_at, is_hidden, passed_at}
@@ -11,7 +11,7 @@ use Rattle.rules.specs.Judging.{Verdict, hidden, limit, is_accepted, class_by, i
 use Rattle.rules.specs.Closing.{closing_classes, judgements, accepted_at}
 use Rattle.rules.specs.Share.{share}
 use Rattle.rules.specs.Match.{Offer}
-use Rattle.rules.specs.Borders.{Directed, Execution, runs, at_border, market_balance, execution_balance, toward}
+use Rattle.rules.specs.Borders.{Directed, Execution, runs, at_border, Largest, market_balance, execution_balance, toward}
 use Rattle.rules.specs.Withdrawal.{Ends}
 use Rattle.rules.specs.Executions.{bilateral_excess}
 use Rattle.rules.specs.Clearing.{hour_of_day, figures_at, day_steps}
@@ -96,20 +96,25 @@ pub data SomeCut (c : Directed) : List Execution → List Execution → Type 0 w
   this : {x y : Execution} {xs ys : List Execution} → runs c.border c.export x.holder ≡ true → y.energy < x.energy → SomeCut c (x ∷ xs) (y ∷ ys)
   another : {x y : Execution} {xs ys : List Execution} → SomeCut c xs ys → SomeCut c (x ∷ xs) (y ∷ ys)
 
--- the executions' energies in a direction, as counted at the border, 0 for the others
+-- the executions' energies in a direction, as they count at the border, 0 for the others
 abbrev pub amounts_on : Directed → List Execution → List ℕ
 amounts_on c xs = map (λ x. cond (runs c.border c.export x.holder) (at_border x.holder x.energy) 0) xs
 
--- what each execution in a direction loses of what it counted for there, 0 for the others
+-- what is taken of each execution's border figure in a direction, 0 for the others
 unfoldable pub deducted : Directed → List Execution → List Execution → List ℕ
 deducted c [] ys = []
 deducted c (x ∷ xs) [] = []
 deducted c (x ∷ xs) (y ∷ ys) =
     cond (runs c.border c.export x.holder) (at_border x.holder x.energy - at_border y.holder y.energy) 0 ∷ deducted c xs ys
 
+-- K2: "After a cut the lodgement keeps the largest energy, no more than was [..] executed, that has the border figure left to it.": x that runs in a
+-- direction and loses k there, and y that is left
+abbrev pub KeepsLargest : Directed → Execution → ℕ → Execution → Type 0
+KeepsLargest c x k y = runs c.border c.export x.holder ≡ true → Largest x.holder.loss x.energy (at_border x.holder x.energy - k) y.energy
+
 -- What holds at a border in a direction with a capacity, of the final offers, the executions, and the executions after cuts.
 pub record BorderCleared (c : Directed) (os : List Offer) (before after : List Execution) : Type 0 where
-  -- "Market plus bilateral balance at each border keeps within each published capacity."
+  -- "Market plus bilateral balance at each border keeps within each published capacity." K2: "in border figures"
   pub within : crossing c os after ≤ℤ pos c.energy
   -- "Some execution there in a direction is cut [..] exactly when the sum with none cut would pass that direction's capacity"
   pub cut : SomeCut c before after ↔ (pos c.energy <ℤ crossing c os before)
@@ -118,6 +123,8 @@ pub record BorderCleared (c : Directed) (os : List Offer) (before after : List E
   -- "by the papers' Share": R is at most G, and each loses what Share takes from it
   pub enough : bilateral_excess os before c ≤ sum (amounts_on c before)
   pub shared : deducted c before after ≡ share (bilateral_excess os before c) (amounts_on c before)
+  -- and each keeps the largest energy with what Share leaves of its border figure
+  pub largest : Each3 (KeepsLargest c) before (share (bilateral_excess os before c) (amounts_on c before)) after
 
 -- the executions accepted at closing, in an hour, "with none cut"
 abbrev pub executions_at : Book → ℕ → List Execution
@@ -178,7 +185,7 @@ pub record Staged (b : Book) (cs : List Call) (rs : List Answer) : Type 0 where
 
 -- "Demand 3's ceilings and published capacities [..] are by the book's notices at closing; the lodgements it has then are those
 -- standing at closing": one of the calls found the book open and closed it, and the book at the list's end still has what that
--- call found and froze: date, units, notices, standing lodgements and last number.
+-- call found and froze: date, units, notices, losses, standing lodgements and last number.
 pub record ClosedIn (start : Book) (cs : List Call) : Type 0 where
   pub earlier : List Call
   pub rest : List Call
@@ -187,7 +194,8 @@ pub record ClosedIn (start : Book) (cs : List Call) : Type 0 where
   pub same : frozen (after start cs) ≡ frozen (after start earlier)
   pub stage : (after start cs).closed ≡ true
 
--- Demand 3, of a list of calls and the book at its end.
+-- Demand 3, of a list of calls and the book at its end. K2: "Border balances keep within capacity in border figures, and demand 3 is owed over lists that set
+-- losses too." (`loss` of `Call`).
 pub record BookDemand3 (start : Book) (cs : List Call) : Type 0 where
   pub stage : Staged (after start cs) cs (answers start cs)
   -- "If closing was accepted"

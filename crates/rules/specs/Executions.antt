@@ -1,4 +1,4 @@
--- "Executions": the bilateral maximum, and the cut.
+-- "Executions": the bilateral maximum, and the cut. K2: maxima, balances, excesses and what Share takes are in border figures; an execution has energy.
 use Rattle.std.specs.Prelude.{ℕ, cond, List, [], ◌∷◌, map, ℤ, pos, ◌-ℤ◌}
 use Rattle.rules.specs.Lists.{add_each}
 use Rattle.rules.specs.Share.{share}
@@ -13,7 +13,7 @@ bilateral_maximum os c = pos c.energy -ℤ toward c.export (market_balance c.bor
 unfoldable pub bilateral_excess : List Offer → List Execution → Directed → ℕ
 bilateral_excess os xs c = positive (toward c.export (execution_balance c.border xs) -ℤ bilateral_maximum os c)
 
--- "An excess is taken by Share from executions in that direction."
+-- "An excess is taken by Share from executions in that direction." K2: "Share of an excess among exports" is of border figures.
 unfoldable pub cuts : List Offer → List Execution → Directed → List ℕ
 cuts os xs c =
     share (bilateral_excess os xs c) (map (λ x. cond (runs c.border c.export x.holder) (at_border x.holder x.energy) 0) xs)
@@ -22,6 +22,7 @@ unfoldable pub all_cuts : List Offer → List Execution → List Directed → Li
 all_cuts os xs [] = map (λ x. 0) xs
 all_cuts os xs (c ∷ cs) = add_each (cuts os xs c) (all_cuts os xs cs)
 
+-- what is left of each. K2: "After a cut the lodgement keeps the largest energy, no more than was [..] executed, that has the border figure left to it."
 unfoldable pub less_each : List ℕ → List Execution → List Execution
 less_each ks [] = []
 less_each [] (x ∷ xs) = x ∷ xs

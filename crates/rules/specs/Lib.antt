@@ -19,6 +19,7 @@ pub mod DayBook
 pub mod Table
 pub mod Sound
 pub mod Rights
+pub mod Losses
 pub mod Demands
 pub mod Figures
 pub mod Rows

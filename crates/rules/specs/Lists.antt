@@ -21,6 +21,11 @@ pub data Each {A B : Type 0} (R : A → B → Type 0) : List A → List B → Ty
   each0 : Each R [] []
   each : {x : A} {y : B} {xs : List A} {ys : List B} → R x y → Each R xs ys → Each R (x ∷ xs) (y ∷ ys)
 
+-- three lists place by place
+pub data Each3 {A B C : Type 0} (R : A → B → C → Type 0) : List A → List B → List C → Type 0 where
+  three0 : Each3 R [] [] []
+  three : {x : A} {y : B} {z : C} {xs : List A} {ys : List B} {zs : List C} → R x y z → Each3 R xs ys zs → Each3 R (x ∷ xs) (y ∷ ys) (z ∷ zs)
+
 -- those of a list that pass a test, in their order
 unfoldable pub keep : {A : Type 0} → (A → Bool) → List A → List A
 keep p [] = []

@@ -1,15 +1,17 @@
--- "Match": an hour's offers laid out one tenth of MWh at a time.
+-- "Match": an hour's offers laid out one tenth of MWh at a time. K2: "the match itself stays in energies", so no definition here reads a loss.
 use Rattle.std.specs.Prelude.{ℕ, zero, suc, ◌+◌, Bool, true, false, cond, ◌&&◌, ◌||◌, List, [], ◌∷◌, ◌++◌, map, leb, ltb, eqb, take, get_or, replicate}
 use Rattle.std.specs.Bool.{beq}
 use Rattle.rules.specs.Lists.{keep}
 
--- Whose energy it is: an accepted lodgement's number, and its unit's number, border, side and legacy mark.
+-- Whose energy it is: an accepted lodgement's number, its unit's number, border, side and legacy mark, and the unit's loss
+-- (`unit_loss` of Units.antt).
 pub record Holder : Type 0 where
   pub number : ℕ
   pub unit : ℕ
   pub border : ℕ
   pub purchase : Bool
   pub legacy : Bool
+  pub loss : ℕ
 
 -- An accepted offer in one hour: what is still offered, and what is matched of it.
 pub record Offer : Type 0 where

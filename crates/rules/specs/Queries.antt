@@ -55,7 +55,7 @@ query_rows b (market_max border export h) = figure_rows b h (border_rows border)
 query_rows b (bilateral_max border export h) = figure_rows b h (border_rows border)
 query_rows b (price h) = figure_rows b h []
 
--- Figures
+-- Figures. K2: a unit's are energies, a border's balances and maxima border figures.
 
 -- "a unit's matched (by the hour's last match, as the price) [..] energy in an hour"
 unfoldable pub matched_at : Book → ℕ → ℕ → ℕ

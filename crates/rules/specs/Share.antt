@@ -1,4 +1,4 @@
--- "Share": taking an energy from several amounts pro rata. ("Share" is document 01's term.)
+-- "Share": taking from several amounts pro rata. K2: "Share of an excess among exports" is of border figures. ("Share" is document 01's term.)
 use Rattle.std.specs.Prelude.{ℕ, zero, suc, ◌*◌, ◌-◌, ◌/◌, List, [], ◌∷◌, map}
 use Rattle.rules.specs.Lists.{sum, add_each}
 

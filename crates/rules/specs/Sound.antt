@@ -1,11 +1,11 @@
 -- What holds of every book that opening and the calls leave: units, notices and standing lodgements within document 01's ranges,
--- and what K1 says of rights.
+-- what K1 says of rights, and the losses of K2.
 use Rattle.std.specs.Prelude.{ℕ, ◌≤◌, ◌<◌, ◌≡◌, Bool, true, false, not, List, eqb, length}
 use Rattle.std.proofs.Math.Option.{some, none}
 use Rattle.rules.specs.Lists.{All, Pairwise, any, hourly}
 use Rattle.rules.specs.Refusals.{given}
 use Rattle.rules.specs.Hours.{is_date}
-use Rattle.rules.specs.Units.{Registered, Published, Capacities, max_energy, bad_unit, is_second_to, french, french_of, unit_of, is_registered}
+use Rattle.rules.specs.Units.{Registered, Published, Capacities, max_energy, max_loss, loss_of, bad_unit, is_second_to, french, french_of, unit_of, is_registered}
 use Rattle.rules.specs.Message.{Key, Fields, bad_key, names, top_price, read}
 use Rattle.rules.specs.Lodging.{Lodgement, energy_at, same_key, names_beyond, domestic_execution}
 use Rattle.rules.specs.Book.{Book, hours}
@@ -79,12 +79,19 @@ pub record StandingSound (H : ℕ) (us : List Registered) (ls : List Lodgement) 
   pub holders : All (λ l. HasUnit us l.key) ls
   pub messages : All (Lodged H) ls
 
+-- K2: "Each border 1 to 4 gets a loss l, 0 to 2,000", and what is at no border loses nothing
+pub record LossesSound (losses : List ℕ) : Type 0 where
+  pub count : length losses ≡ 5
+  pub domestic : loss_of losses 0 ≡ 0
+  pub range : All (λ l. l ≤ max_loss) losses
+
 pub record Sound (b : Book) : Type 0 where
   pub date : is_date b.date ≡ true
   pub units : UnitsSound (hours b) b.units
   -- "A capacity notice covers the 4 borders in 2 directions; each is absent, or H energies."
   pub capacities : All (OfDay (hours b)) b.capacities
   pub standing : StandingSound (hours b) b.units b.standing b.last
+  pub losses : LossesSound b.losses
   -- clearing comes after closing
   pub stage : b.cleared ≡ true → b.closed ≡ true
 

@@ -1,5 +1,5 @@
 -- "Split": the market maximum of a border's direction, after the first match. ("Split" is document 01's term.)
-use Rattle.std.specs.Prelude.{ℕ, ◌+◌, ◌*◌, ◌-◌, min, Bool, cond, List, ltb, ℤ, neg_ℤ}
+use Rattle.std.specs.Prelude.{ℕ, ◌+◌, ◌*◌, ◌-◌, min, ◌≡◌, Bool, cond, not, List, ltb, ℤ, neg_ℤ}
 use Rattle.rules.specs.Lists.{keep, round_up}
 use Rattle.rules.specs.Match.{Offer}
 use Rattle.rules.specs.Borders.{Directed, Execution, flow, market_balance, execution_balance, toward, positive}
@@ -25,6 +25,12 @@ market_maximum E B M L =
 -- "L matched legacy exports", or imports
 unfoldable pub legacy_flow : ℕ → Bool → List Offer → ℕ
 legacy_flow border export os = flow (λ o. o.holder) (λ o. o.matched) border export (keep (λ o. o.holder.legacy) os)
+
+-- K2: "Balances, legacy exports [..] use that figure": L is the legacy part of the same flow, so in border figures as it is (`legacy-counted` of proofs/SplitLaws.antt)
+abbrev pub LegacyCounted : Type 0
+LegacyCounted = (border : ℕ) (export : Bool) (os : List Offer)
+    → legacy_flow border export os + flow (λ o. o.holder) (λ o. o.matched) border export (keep (λ o. not o.holder.legacy) os)
+    ≡ flow (λ o. o.holder) (λ o. o.matched) border export os
 
 -- the market maximum of a direction with capacity c, of the first match os and the executions xs:
 -- "For import, use the import capacity and legacy imports with B and M negated."

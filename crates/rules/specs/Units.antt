@@ -1,5 +1,5 @@
 -- "Units and notices": units, their notices, the limits and the ceiling.
-use Rattle.std.specs.Prelude.{ℕ, ◌+◌, ◌*◌, ◌-◌, min, Bool, true, false, cond, not, ◌&&◌, ◌||◌, List, [], ◌∷◌, ◌++◌, map, ltb, eqb, length, get_or}
+use Rattle.std.specs.Prelude.{ℕ, ◌+◌, ◌*◌, ◌-◌, ◌/◌, min, ◌≤◌, ◌≡◌, ◌↔◌, Bool, true, false, cond, not, ◌&&◌, ◌||◌, List, [], ◌∷◌, ◌++◌, map, ltb, eqb, length, get_or}
 use Rattle.std.specs.Bool.{beq}
 use Rattle.std.proofs.Math.Option.{Option, some, none}
 use Rattle.rules.specs.Lists.{any, first, hourly}
@@ -11,6 +11,10 @@ max_energy = 99999
 -- "Price is in hundredths of a euro per MWh, 0 to 18,030."
 abbrev pub max_price : ℕ
 max_price = 18030
+
+-- K2: "Each border 1 to 4 gets a loss l, 0 to 2,000, in hundredths of a percent"
+abbrev pub max_loss : ℕ
+max_loss = 2000
 
 -- numbers of units and agents, "each 1 to 65,535", and of an execution's contract
 unfoldable pub bad_number : ℕ → Bool
@@ -56,9 +60,21 @@ Published = Option (List ℕ)
 abbrev pub Capacities : Type 0
 Capacities = List Published
 
--- What the notices say of the lines at the borders.
+-- What is set for the lines at the borders: the capacities of the last notice, and the losses, by border; the first, of no border, is 0.
 pub record Lines : Type 0 where
   pub capacities : Capacities
+  pub losses : List ℕ
+
+-- 5, range: a border outside 1 to 4, or a loss above 2,000
+unfoldable pub bad_loss : ℕ → ℕ → Bool
+bad_loss border l = eqb border 0 || ltb 4 border || ltb max_loss l
+
+unfoldable pub loss_of : List ℕ → ℕ → ℕ
+loss_of losses border = get_or losses border 0
+
+-- "exporters there must bring the losses too": a purchase unit has the loss of its border, and a sale unit none
+unfoldable pub unit_loss : List ℕ → TradingUnit → ℕ
+unit_loss losses u = cond u.purchase (loss_of losses u.border) 0
 
 -- "At a border a sale is an import, a purchase an export": a direction is a Bool, true for export
 unfoldable pub direction : ℕ → Bool → ℕ
@@ -126,18 +142,44 @@ available_limit r = record { number = 11; at = λ h. some (available_at r h) }
 unfoldable pub own_limits : Registered → List Limit
 own_limits r = maximum_limit r ∷ available_limit r ∷ []
 
+-- K2: "the border sum becomes (sum × (10,000 + l)) / 10,000 rounded down". (Document 002: "incrementada en el porcentaje
+-- de pérdidas", increased by the percentage of the losses.)
+unfoldable pub increased : ℕ → ℕ → ℕ
+increased l s = s * (10000 + l) / 10000
+
+-- "rounded down": the greatest number that is no more than the quotient (`increased-rounded` of proofs/CrossingLaws.antt)
+abbrev pub IncreasedRounded : Type 0
+IncreasedRounded = (l s n : ℕ) → (n ≤ increased l s) ↔ (n * 10000 ≤ s * (10000 + l))
+
+-- where there is a sum
+unfoldable pub increased_sum : ℕ → Option ℕ → Option ℕ
+increased_sum l none = none
+increased_sum l (some s) = some (increased l s)
+
 -- "lessened by them, never below 0"
 unfoldable pub lessened : ℕ → Option ℕ → Option ℕ
 lessened n none = none
 lessened n (some s) = some (s - n)
 
 -- "at a border with both directions published, the sum of the two capacities (limit 12)"; K1: "An unmarked one's border sum is
--- lessened by them": an unmarked French one's, since others have no rights (`foreign` of Sound.antt)
+-- lessened by them": an unmarked French one's, since others have no rights (`foreign` of Sound.antt). K2: "For a purchase unit the border sum becomes [..],
+-- before rights come off"
 unfoldable pub border_limit : Lines → Registered → Limit
 border_limit ls r = record {
   number = 12;
-  at = λ h. lessened (cond r.unit.rights 0 (rights_at r h)) (border_sum ls.capacities r.unit.border h);
+  at = λ h. lessened (cond r.unit.rights 0 (rights_at r h)) (increased_sum (unit_loss ls.losses r.unit) (border_sum ls.capacities r.unit.border h));
 }
+
+-- what limit 12 is where the border sum is s
+pub record BorderLimited (ls : Lines) (r : Registered) (h s : ℕ) : Type 0 where
+  -- "For a purchase unit the border sum becomes (sum × (10,000 + l)) / 10,000 rounded down, before rights come off."
+  pub purchase : r.unit.purchase ≡ true → (border_limit ls r).at h ≡ some (increased (loss_of ls.losses r.unit.border) s - cond r.unit.rights 0 (rights_at r h))
+  -- a sale unit's stays
+  pub sale : r.unit.purchase ≡ false → (border_limit ls r).at h ≡ some (s - cond r.unit.rights 0 (rights_at r h))
+
+-- `border_limit` is that: the theorem `border-limited` of proofs/RightsLaws.antt
+abbrev pub LimitsIncreased : Type 0
+LimitsIncreased = (ls : Lines) (r : Registered) (h s : ℕ) → border_sum ls.capacities r.unit.border h ≡ some s → BorderLimited ls r h s
 
 -- "A marked unit's ceiling takes in the agent's rights" (limit 15)
 unfoldable pub rights_limit : Registered → Limit
@@ -179,5 +221,5 @@ unfoldable pub is_registered : List Registered → ℕ → Bool
 is_registered us n = any (has_number n) us
 
 unfoldable pub unfold_units : Unit {0}
-unfolding bad_number domestic french bad_unit is_second_to french_of direction capacity_of not_of_hours bad_energies bad_published available_at rights_at both_at border_sum maximum_limit available_limit own_limits lessened border_limit rights_limit border_limits limits passes least_of ceiling has_number unit_of is_registered
+unfolding bad_number domestic french bad_unit is_second_to french_of bad_loss loss_of unit_loss direction capacity_of not_of_hours bad_energies bad_published available_at rights_at both_at border_sum maximum_limit available_limit own_limits increased increased_sum lessened border_limit rights_limit border_limits limits passes least_of ceiling has_number unit_of is_registered
 unfold_units = tt

@@ -1,11 +1,11 @@
 -- "Withdrawal step", and its repetition.
-use Rattle.std.specs.Prelude.{ℕ, zero, suc, ◌≤◌, min, max, ◌≡◌, Bool, true, false, cond, not, ◌&&◌, List, [], ◌∷◌, map, leb, ltb, eqb, pos, ◌-ℤ◌}
+use Rattle.std.specs.Prelude.{ℕ, zero, suc, ◌-◌, ◌≤◌, min, max, ◌≡◌, Bool, true, false, cond, not, ◌&&◌, List, [], ◌∷◌, map, leb, ltb, eqb, pos, ◌-ℤ◌}
 use Rattle.std.specs.Bool.{beq}
 use Rattle.std.proofs.Math.Option.{Option, some, none}
-use Rattle.rules.specs.Lists.{keep, any, sum, sum_of, add_each}
+use Rattle.rules.specs.Lists.{Each, Each3, keep, any, sum, sum_of, add_each}
 use Rattle.rules.specs.Share.{share}
-use Rattle.rules.specs.Match.{Offer, with_energies, match_all}
-use Rattle.rules.specs.Borders.{Directed, runs, at_border, keeps, market_balance, toward, positive}
+use Rattle.rules.specs.Match.{Offer, with_energies, match_all, hour_price}
+use Rattle.rules.specs.Borders.{Directed, runs, at_border, keeps, Largest, flow, market_balance, toward, positive}
 
 -- how far a market balance passes its maximum, 0 where it does not: "the overrun being the excess"
 unfoldable pub excess_of : List Offer → Directed → Directed
@@ -68,6 +68,30 @@ choose os (some p) (some q) = cond (leb (purchases_below p os) (sales_above q os
 unfoldable pub group_of : List Directed → List Offer → Group
 group_of ds os = choose os (extreme min (prices_over true ds os)) (extreme max (prices_over false ds os))
 
+-- an offer as it would be if its unit had no loss
+unfoldable pub without_loss : Offer → Offer
+without_loss o = record {
+  holder = record { number = o.holder.number; unit = o.holder.unit; border = o.holder.border; purchase = o.holder.purchase; legacy = o.holder.legacy; loss = 0 };
+  price = o.price;
+  offered = o.offered;
+  matched = o.matched;
+}
+
+-- What reads no loss. K2: "the match itself stays in energies".
+pub record InEnergies (os : List Offer) : Type 0 where
+  pub matches : match_all (map without_loss os) ≡ map without_loss (match_all os)
+  pub price : hour_price (map without_loss os) ≡ hour_price os
+  -- K2 does not name step 1 and what step 2 compares, the prices, C and V': they are of energies too
+  pub kept : (ds : List Directed) → map (keep_matched ds) (map without_loss os) ≡ map without_loss (map (keep_matched ds) os)
+  pub prices : (side : Bool) (ds : List Directed) → prices_over side ds (map without_loss os) ≡ prices_over side ds os
+  pub purchases : (p : ℕ) → purchases_below p (map without_loss os) ≡ purchases_below p os
+  pub sales : (q : ℕ) → sales_above q (map without_loss os) ≡ sales_above q os
+  pub group : (ds : List Directed) → group_of ds (map without_loss os) ≡ group_of ds os
+
+-- the theorem `in-energies` of proofs/EnergyLaws.antt
+abbrev pub MatchInEnergies : Type 0
+MatchInEnergies = (os : List Offer) → InEnergies os
+
 unfoldable pub in_group : Group → Offer → Bool
 in_group (at_price side p) o = beq o.holder.purchase side && not o.holder.legacy && eqb o.price p
 in_group legacy_offers o = o.holder.legacy
@@ -75,22 +99,34 @@ in_group legacy_offers o = o.holder.legacy
 unfoldable pub gives_way : Group → Directed → Offer → Bool
 gives_way g d o = runs_in d o && in_group g o
 
--- the matched energy of the offers that give way in a direction, as counted at the border, 0 for the others
+-- the matched energy of the offers that give way in a direction, as counted at the border, 0 for the others. K2: "Share of an excess among exports" is of
+-- border figures.
 unfoldable pub amounts : Group → Directed → List Offer → List ℕ
 amounts g d os = map (λ o. cond (gives_way g d o) (at_border o.holder o.matched) 0) os
 
 -- 3. "On each border over in that direction, the lesser of the excess and the matched non-legacy energy at that price is
--- taken by Share"; 4. "each border's excess is taken likewise from its legacy offers in that direction". Offers stand by
--- rising lodging number.
+-- taken by Share"; 4. "each border's excess is taken likewise from its legacy offers in that direction". K2: "excesses, the matched energy set against an
+-- excess [..] use that figure". Offers stand by rising lodging number.
 unfoldable pub deductions : Group → List Offer → Directed → List ℕ
 deductions g os d = share (min d.energy (sum (amounts g d os))) (amounts g d os)
+
+-- What Share deducts for an excess.
+pub record Deducting (g : Group) (os : List Offer) (d : Directed) : Type 0 where
+  -- "the lesser of the excess and the matched [..] energy": of border figures, as balances are
+  pub lesser : sum (deductions g os d) ≡ min d.energy (flow (λ o. o.holder) (λ o. o.matched) d.border d.export (keep (in_group g) os))
+  -- from no offer more than it counts for
+  pub no_more : Each (λ k o. k ≤ at_border o.holder o.matched) (deductions g os d) os
+
+-- the theorem `deductions-counted` of proofs/WithdrawalLaws.antt
+abbrev pub DeductionsCounted : Type 0
+DeductionsCounted = (g : Group) (os : List Offer) (d : Directed) → Deducting g os d
 
 -- what each loses in all directions; an offer runs in one
 unfoldable pub all_deductions : Group → List Offer → List Directed → List ℕ
 all_deductions g os [] = map (λ o. 0) os
 all_deductions g os (d ∷ ds) = add_each (deductions g os d) (all_deductions g os ds)
 
--- "what remains offered is matched less taken"
+-- "what remains offered is matched less taken". K2: less in border figures; what remains is the largest energy that has the border figure left.
 unfoldable pub remain : (Offer → Bool) → List ℕ → List Offer → List Offer
 remain gives ks [] = []
 remain gives [] (o ∷ os) = o ∷ os
@@ -99,6 +135,13 @@ remain gives (k ∷ ks) (o ∷ os) =
 
 unfoldable pub take_from : Group → List Directed → List Offer → List Offer
 take_from g ds os = remain (λ o. any (λ d. gives_way g d o) ds) (all_deductions g os ds) os
+
+-- K2: "After a cut the lodgement keeps the largest energy, no more than was matched [..], that has the border figure left to it.": so does an offer x that
+-- gives way; k of its border figure is taken, and y is x then (`taken-largest` of proofs/WithdrawalLaws.antt)
+abbrev pub TakenLargest : Type 0
+TakenLargest = (g : Group) (ds : List Directed) (os : List Offer)
+    → Each3 (λ x k y. any (λ d. gives_way g d x) ds ≡ true → Largest x.holder.loss x.matched (at_border x.holder x.matched - k) y.offered)
+    os (all_deductions g os ds) (take_from g ds os)
 
 -- one step, of the directions passed. 5. "Match again."
 unfoldable pub step : List Directed → List Offer → List Offer
@@ -135,5 +178,5 @@ pub record Ends (ms : List Directed) (before : List Offer) (last : Withdrawn) : 
   pub counted : last.steps ≤ step_bound before
 
 unfoldable pub unfold_withdrawal : Unit {0}
-unfolding excess_of overruns runs_in runs_among keep_matched prices_over further extreme purchases_below sales_above choose group_of in_group gives_way amounts deductions all_deductions remain take_from step repeat step_bound withdraw
+unfolding excess_of overruns runs_in runs_among keep_matched prices_over further extreme purchases_below sales_above choose group_of without_loss in_group gives_way amounts deductions all_deductions remain take_from step repeat step_bound withdraw
 unfold_withdrawal = tt

@@ -41,6 +41,15 @@ pub const MAX_ENERGY: u32 = 99_999;
 // The largest price, in hundredths of a euro per MWh.
 pub const MAX_PRICE: u32 = 18_030;
 
+// K2: "a loss l, 0 to 2,000, in hundredths of a percent".
+pub const MAX_LOSS: u32 = 2_000;
+
+// "in hundredths of a percent": what a loss is a part of.
+pub const WHOLE: u32 = 10_000;
+
+// A loss for each border, and before them that of no border, which is 0.
+pub const LOSSES: usize = 5;
+
 // "hour map 25": a map is below 2 to the 25th.
 pub const MAPS: u32 = 33_554_432;
 
