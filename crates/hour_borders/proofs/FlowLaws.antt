@@ -17,6 +17,7 @@ use Rattle.rules.specs.Borders.{runs, at_border, flow}
 use Rattle.rules.proofs.BoolLaws.{by_bool}
 use Rattle.rules.proofs.ListLaws.{all_map}
 use Rattle.rules.proofs.IndexLaws.{set-small}
+use Rattle.rules.proofs.CrossingLaws.{at_none}
 use Rattle.hour_share.specs.declared.Amount.{Amount}
 use Rattle.hour_share.specs.Deductions.{energy_in}
 use Rattle.hour_borders.specs.Directions.{own_direction}
@@ -57,20 +58,20 @@ all-counted given r = all_map (λ x k a h. rw (r x a h) k)
 
 module _ {A B : Type 0} (g : A → Amount) (at : A → B) (holder : B → Holder) (energy : B → ℕ) (p : B → Bool)
     (own : (x : A) → (g x).direction ≡ own_direction (holder (at x)).border (holder (at x)).purchase)
-    (counts : (x : A) → (g x).energy ≡ cond (p (at x)) (energy (at x)) 0) (b : ℕ) (e : Bool) (above : 0 < b) (below : b < 5) where
+    (counts : (x : A) → (g x).energy ≡ at_border (holder (at x)) (cond (p (at x)) (energy (at x)) 0)) (b : ℕ) (e : Bool) (above : 0 < b) (below : b < 5) where
   -- the flow of those that pass a test, where the others count for nothing
   pub flow-said : (xs : List A) → sum_of (energy_in (direction b e)) (map g xs) ≡ flow holder energy b e (keep p (map at xs))
-  unfolding sum_of sum energy_in flow keep at_border
+  unfolding sum_of sum energy_in flow keep
   flow-said [] = refl
   flow-said (x ∷ xs) =
       let r = runs-direction b e above below (holder (at x)) in
       let k = flow-said xs in
       by_bool (p (at x))
       (λ t. by_bool (runs b e (holder (at x)))
-      (λ u. rw (own x, counts x, ← r, t, u) (ap (λ n. energy (at x) + n) k))
+      (λ u. rw (own x, counts x, ← r, t, u) (ap (λ n. at_border (holder (at x)) (energy (at x)) + n) k))
       (λ u. rw (own x, counts x, ← r, t, u) (omega (arith, k))))
       (λ t. by_bool (runs b e (holder (at x)))
-      (λ u. rw (own x, counts x, ← r, t, u) (omega (arith, k)))
+      (λ u. rw (own x, counts x, ← r, t, u) (omega (arith, at_none (holder (at x)), k)))
       (λ u. rw (own x, counts x, ← r, t, u) (omega (arith, k))))
 
 -- a test that all pass keeps all

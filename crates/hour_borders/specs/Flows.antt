@@ -2,15 +2,16 @@
 use Rattle.std.specs.Prelude.{ℕ, ◌≤◌, ◌<◌, ◌≡◌, Bool, List, get_or, Some}
 use Rattle.rules.specs.Units.{max_energy, direction}
 use Rattle.rules.specs.Match.{Offer}
-use Rattle.rules.specs.Borders.{Execution, flow}
+use Rattle.rules.specs.Borders.{Execution, at_border, flow}
 use Rattle.rules.specs.Split.{legacy_flow}
 use Rattle.hour_offers.specs.declared.Holder.{Holder}
+use Rattle.hour_offers.specs.View.{holder_in}
 use Rattle.hour_share.specs.declared.Amount.{Amount}
 use Rattle.hour_borders.specs.Directions.{own_direction}
 
--- an energy of a holder, in the direction in which it runs
+-- what an energy of a holder counts for at its border, in the direction in which it runs
 abbrev pub amount_of : Holder → ℕ → Amount
-amount_of h energy = record { direction = own_direction h.border h.purchase; energy = energy }
+amount_of h energy = record { direction = own_direction h.border h.purchase; energy = at_border (holder_in h) energy }
 
 -- an amount that can be counted in its direction, if it has one
 pub record Countable (a : Amount) : Type 0 where

@@ -56,13 +56,14 @@ pub fn across(d: usize) -> usize
     if d % 2 == 0 { d + 1 } else { d - 1 }
 }
 
-// An energy of a holder in the direction in which it runs.
+// What an energy of a holder counts for at its border, in the direction in which it runs.
+#[tactic(auto, unfolding(rules::specs::Borders::at_border))]
 pub fn amount(holder: &Holder, energy: u32) -> Amount
     ensures { result ≡ amount_of holder.now energy }
 {
     Amount {
         direction: own_direction(holder),
-        energy,
+        energy: crossing::figure(holder.loss, energy),
     }
 }
 

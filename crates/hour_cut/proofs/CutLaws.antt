@@ -1,7 +1,7 @@
 -- What executions lose is what the rules take from the list.
 use Prim.Native.Nat.{ℕ, suc, ◌+◌, ◌-◌, ◌/◌, ◌≤◌, ◌<◌, min}
 use mathlib.Core.Path.{◌≡◌, refl, ap, ap₂, sym, ◌∙◌}
-use mathlib.Core.Bool.{Bool, cond}
+use mathlib.Core.Bool.{Bool, false, cond, true≢false}
 use mathlib.Core.List.{List, [], ◌∷◌, ◌++◌, map, map-map, map-append, append-nil}
 use native.Mathlib.Numerals.{add-one}
 use native.Mathlib.Omega.{arith}
@@ -11,27 +11,28 @@ use lib.Seq.{take-suc-set, take_all, append_snoc, drop-cons, drop-set-lt}
 use borrow.Author.Tests.{ltb-false}
 use Rattle.std.specs.Prelude.{Option, None, Some, is_some}
 use Rattle.std.specs.Option.{unwrap_or}
-use Rattle.rules.specs.Lists.{All, none, more, Each, each0, each, keep, add_each}
+use Rattle.rules.specs.Lists.{All, none, more, Each, each0, each, keep, from, add_each}
 use Rattle.rules.specs.Share.{share}
 use Rattle.rules.specs.Match.{Offer, Holder}
-use Rattle.rules.specs.Borders.{Directed, Execution, at_border, keeps}
-use Rattle.rules.specs.Executions.{bilateral_excess, cuts, all_cuts, less_each}
+use Rattle.rules.specs.Borders.{Directed, Execution, kept_energy, at_border, keeps}
+use Rattle.rules.specs.Executions.{bilateral_excess, cuts, all_cuts, less_each, cut_all}
 use Rattle.rules.specs.Demands.{amounts_on}
 use Rattle.rules.proofs.BoolLaws.{by_bool}
 use Rattle.rules.proofs.ListLaws.{all_map, all_head, all_tail}
 use Rattle.rules.proofs.ShareLaws.{share-length}
 use Rattle.rules.proofs.BalanceLaws.{bilateral-flows}
+use Rattle.rules.proofs.CrossingLaws.{kept-le, kept-all}
 use Rattle.rules.proofs.BorderLaws.{Fits, BorderCleared, excess-le, amounts-flow}
 use Rattle.rules.proofs.IndexLaws.{from_all}
 use Rattle.hour_offers.specs.declared.Execution.{Execution as CodeExecution}
 use Rattle.hour_offers.specs.Sound.{ExecutionInRange}
-use Rattle.hour_offers.specs.View.{execution_in, executions_in}
+use Rattle.hour_offers.specs.View.{holder_in, execution_in, executions_in}
 use Rattle.hour_share.specs.declared.Amount.{Amount}
 use Rattle.hour_share.specs.Deductions.{energy_in, deductions_in, deductions_over, deductions_from}
 use Rattle.hour_share.proofs.Laws.{share_none, add_none}
-use Rattle.hour_borders.specs.Directions.{directed, energies_of, published_in}
+use Rattle.hour_borders.specs.Directions.{directed, energies_of, published_in, over_in}
 use Rattle.hour_borders.specs.Flows.{amount_of, MarketFlows, ExecutionFlows}
-use Rattle.hour_borders.specs.Limits.{across_of, excess_in}
+use Rattle.hour_borders.specs.Limits.{across_of, excess_in, non_empty}
 use Rattle.hour_borders.proofs.DirectionLaws.{runs-directed, direction-small}
 use Rattle.hour_borders.proofs.LimitLaws.{by_option, energy-at, market-at, market-across, execution-at, execution-across}
 use Rattle.hour_cut.specs.Cuts.{Enough, Lowered}
@@ -80,10 +81,24 @@ given x = amount_of x.holder x.energy
 
 -- the executions' energies in the direction at an index
 amounts-said : (a : List ℕ) (d : ℕ) → d < 8 → (xs : List CodeExecution) → map (energy_in d) (map given xs) ≡ amounts_on (directed a d) (executions_in xs)
-unfolding energy_in at_border
+unfolding energy_in
 amounts-said a d h [] = refl
 amounts-said a d h (x ∷ xs) =
-    ap₂ (λ (n : ℕ) (l : List ℕ). n ∷ l) (ap (λ (b : Bool). cond b x.energy 0) (sym (runs-directed a d h (execution_in x).holder))) (amounts-said a d h xs)
+    ap₂ (λ (n : ℕ) (l : List ℕ). n ∷ l) (ap (λ (b : Bool). cond b (at_border (holder_in x.holder) x.energy) 0) (sym (runs-directed a d h (execution_in x).holder))) (amounts-said a d h xs)
+
+-- where no direction is over nothing is taken
+none-deducted : (over : List ℕ) (amounts : List Amount) (ds : List ℕ) → non_empty (map (directed over) (keep (λ d. ltb 0 (get_or over d 0)) ds)) ≡ false → deductions_over over amounts ds ≡ map (λ a. 0) amounts
+unfolding deductions_over keep non_empty
+none-deducted over amounts [] h = refl
+none-deducted over amounts (d ∷ ds) h =
+    by_bool (ltb 0 (get_or over d 0)) (λ t. absurd (true≢false (rw t at h))) (λ t. rw t (none-deducted over amounts ds (rw t at h)))
+
+-- and all is left
+less-none : (xs : List CodeExecution) → less_each (map (λ (a : Amount). 0) (map given xs)) (executions_in xs) ≡ executions_in xs
+unfolding less_each
+less-none [] = refl
+less-none (x ∷ xs) =
+    ap₂ (λ (n : ℕ) (ys : List Execution). record { holder = holder_in x.holder; energy = n } ∷ ys) (kept-all (holder_in x.holder) x.energy) (less-none xs)
 
 module _ (xs : List CodeExecution) (os : List Offer) (capacities : List (Option ℕ)) (market executions both over : List ℕ)
     (km : MarketFlows market os) (kx : ExecutionFlows executions (executions_in xs))
@@ -141,9 +156,15 @@ module _ (xs : List CodeExecution) (os : List Offer) (capacities : List (Option 
   unfolding deductions_from published_in
   published-said k = all_said (from_all _ 0 8 (λ d h l. omega arith)) k
 
+  -- where no direction is over all stay
+  pub uncut-said : non_empty (over_in over) ≡ false → All (Enough os (executions_in xs)) (published_in capacities) → executions_in xs ≡ cut_all os (published_in capacities) (executions_in xs)
+  unfolding deductions_from over_in cut_all
+  uncut-said n k =
+      sym (ap (λ ks. less_each ks (executions_in xs)) (sym (published-said k) ∙ none-deducted over (map given xs) (from 0 8) n) ∙ less-none xs)
+
 -- Each execution without what it loses
 
-pub reduce-next : (ks : List ℕ) (xs : List CodeExecution) (i n : ℕ) (d : CodeExecution) → length ks ≡ length xs → i < length xs → n ≡ (get_or xs i d).energy - get_or ks i 0
+pub reduce-next : (ks : List ℕ) (xs : List CodeExecution) (i n : ℕ) (d : CodeExecution) → length ks ≡ length xs → i < length xs → n ≡ kept_energy (get_or xs i d).holder.loss (get_or xs i d).energy (get_or ks i 0)
     → (let after = set xs i (record { holder = (get_or xs i d).holder; energy = n }) in
     executions_in (take (i + 1) after) ++ less_each (drop (i + 1) ks) (executions_in (drop (i + 1) after)) ≡ executions_in (take i xs) ++ less_each (drop i ks) (executions_in (drop i xs)))
 unfolding less_each keeps
@@ -164,16 +185,16 @@ pub reduce-end : (ks : List ℕ) (xs : List CodeExecution) (i : ℕ) {ys : List 
 unfolding less_each
 reduce-end ks xs i h p = sym (append-nil (executions_in xs)) ∙ (rw (take_all i xs h, drop_of_length-le xs {i = i} h) at p)
 
-unchanged : (xs : List Execution) → Each Lowered xs xs
+pub unchanged : (xs : List Execution) → Each Lowered xs xs
 unchanged [] = each0
 unchanged (x ∷ xs) = each record { holder = refl; energy = omega arith } (unchanged xs)
 
 -- no energy grows
 pub lowered : (ks : List ℕ) (xs : List Execution) → Each Lowered xs (less_each ks xs)
-unfolding less_each keeps
+unfolding less_each
 lowered ks [] = each0
 lowered [] (x ∷ xs) = unchanged (x ∷ xs)
-lowered (k ∷ ks) (x ∷ xs) = each record { holder = refl; energy = omega arith } (lowered ks xs)
+lowered (k ∷ ks) (x ∷ xs) = each record { holder = refl; energy = kept-le x.holder x.energy k } (lowered ks xs)
 
 -- so each stays within its range
 pub lowered-in-range : {xs ys : List Execution} → Each Lowered xs ys → All ExecutionInRange xs → All ExecutionInRange ys

@@ -30,18 +30,18 @@ fn reduce(executions: &mut [Execution], lost: &[u32])
     ensures { executions_in executions.new ≡ less_each lost.now (executions_in executions.old) }
 {
     for (i, x) in executions.iter_mut().enumerate() {
-        x.energy = x.energy.saturating_sub(lost[i]);
+        x.energy = crossing::kept(x.holder.loss, x.energy, lost[i]);
     }
 }
 
-// The executions after cuts, by the flows of the final match and of the executions before the cut.
-// (Lengths: DECISIONS.)
+// The executions after cuts, by the flows of the final match and of the executions before the cut; it gives their flows then. Most hours have no excess, and
+// their executions are not gone over again. (Lengths: DECISIONS.)
 pub fn cut(
     executions: &mut [Execution],
     capacities: &[Option<u32>; DIRECTIONS],
     market: &[u32; DIRECTIONS],
     before: &[u32; DIRECTIONS],
-)
+) -> [u32; DIRECTIONS]
     requires few { length executions.old ≤ 128 }
     requires in_range { All ExecutionInRange (executions_in executions.old) }
     requires market_small { Small market.now }
@@ -52,11 +52,16 @@ pub fn cut(
         → All (Enough os (executions_in executions.old)) (published_in capacities.now)
         → executions_in executions.new ≡ cut_all os (published_in capacities.now) (executions_in executions.old) }
     ensures lowered { Each Lowered (executions_in executions.old) (executions_in executions.new) }
+    ensures flows { ExecutionFlows before.now (executions_in executions.old) → ExecutionFlows result (executions_in executions.new) }
 {
     let both = together(market, before);
     let over = hour_borders::excesses(capacities, &both);
+    if !hour_borders::passed(&over) {
+        return *before;
+    }
     let lost = hour_share::deductions(&over, executions, |x| {
         hour_borders::amount(&x.holder, x.energy)
     });
-    reduce(executions, &lost)
+    reduce(executions, &lost);
+    hour_borders::execution_flows(executions)
 }

@@ -7,7 +7,7 @@ use Rattle.hour_match.specs.Orders.{nth}
 
 -- read past the end of the code's offers
 abbrev pub blank : Offer
-blank = record { holder = record { number = 0; unit = 0; border = 0; purchase = false; legacy = false }; price = 0; offered = 0; matched = 0 }
+blank = record { holder = record { number = 0; unit = 0; border = 0; purchase = false; legacy = false; loss = 0 }; price = 0; offered = 0; matched = 0 }
 
 -- the offer at an index of the code's
 pub read-offer : (xs : List Offer) (i : ℕ) → nth (offers_in xs) i ≡ offer_in (get_or xs i blank)

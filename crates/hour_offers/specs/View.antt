@@ -7,7 +7,7 @@ use Rattle.hour_offers.specs.declared.Offer.{Offer}
 use Rattle.hour_offers.specs.declared.Execution.{Execution}
 
 abbrev pub holder_in : Holder → RuleHolder
-holder_in h = record { number = h.number; unit = h.unit; border = h.border; purchase = h.purchase; legacy = h.legacy }
+holder_in h = record { number = h.number; unit = h.unit; border = h.border; purchase = h.purchase; legacy = h.legacy; loss = h.loss }
 
 abbrev pub offer_in : Offer → RuleOffer
 offer_in o = record { holder = holder_in o.holder; price = o.price; offered = o.offered; matched = o.matched }

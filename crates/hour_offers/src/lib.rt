@@ -3,7 +3,7 @@
 
 ghost use Rattle.std.specs.Prelude.{◌≡◌};
 
-// Whose energy it is: an accepted lodgement's number, and its unit's number, border, side and legacy mark.
+// Whose energy it is: an accepted lodgement's number, and its unit's number, border, side and legacy mark, and the unit's loss.
 #[derive(Clone, Copy, Debug, Default, PartialEq, Eq)]
 pub struct Holder {
     pub number: u32,
@@ -11,6 +11,7 @@ pub struct Holder {
     pub border: u32,
     pub purchase: bool,
     pub legacy: bool,
+    pub loss: u32,
 }
 
 // An accepted offer in one hour: what is still offered, and what is matched of it.

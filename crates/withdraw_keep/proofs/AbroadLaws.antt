@@ -48,8 +48,8 @@ runs-there b e h o t =
 
 -- the flow at a border is that of the offers there
 pub flow-abroad : (b : ℕ) (e : Bool) → 0 < b → (os : List Offer) → flow (λ (o : Offer). o.holder) (λ o. o.matched) b e (abroad_of os) ≡ flow (λ (o : Offer). o.holder) (λ o. o.matched) b e os
-unfolding flow at_border
-flow-abroad b e h os = ap (sum_of (λ (o : Offer). o.matched)) (keep-abroad (λ o. runs b e o.holder) (runs-there b e h) os)
+unfolding flow
+flow-abroad b e h os = ap (sum_of (λ (o : Offer). at_border o.holder o.matched)) (keep-abroad (λ o. runs b e o.holder) (runs-there b e h) os)
 
 -- An offer and what a step leaves of it: the same where it is domestic.
 pub record Homed (before after : Offer) : Type 0 where

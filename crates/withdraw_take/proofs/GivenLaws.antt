@@ -1,11 +1,11 @@
 -- Who gives way, and what is taken, direction by direction.
-use Rattle.std.proofs.Common.{ap₂, add-one, ℕ, zero, suc, ◌+◌, ◌-◌, ◌≡◌, refl, sym, ◌∙◌, ap, ◌<◌, ◌≤◌, max, Bool, true, false, cond, ◌&&◌, ◌||◌, List, [], ◌∷◌, map, take, length, get_or, set, ltb, eqb, arith}
+use Rattle.std.proofs.Common.{ap₂, add-one, ℕ, zero, suc, ◌+◌, ◌≡◌, refl, sym, ◌∙◌, ap, ◌<◌, ◌≤◌, max, Bool, true, false, cond, ◌&&◌, ◌||◌, List, [], ◌∷◌, map, take, length, get_or, set, ltb, eqb, arith}
 use Rattle.rules.specs.Lists.{All, none, more, any, keep}
 use Rattle.std.specs.Prelude.{Some}
 use Rattle.std.specs.Option.{option_eq}
 use Rattle.rules.proofs.IndexLaws.{from_all}
 use Rattle.rules.specs.Match.{Offer, with_energies}
-use Rattle.rules.specs.Borders.{Directed, at_border, keeps}
+use Rattle.rules.specs.Borders.{Directed, kept_energy, at_border, keeps}
 use Rattle.rules.specs.Withdrawal.{Group, runs_in, runs_among, in_group, gives_way, amounts, deductions, all_deductions, remain, take_from}
 use Rattle.rules.specs.Lists.{Each, each0, each}
 use Rattle.rules.proofs.BoolLaws.{by_bool}
@@ -18,7 +18,7 @@ use Rattle.std.proofs.lemmas.List.{length-map, map-set}
 use Rattle.std.proofs.Math.ListN.{get_or-map}
 use Rattle.rules.specs.Units.{max_energy}
 use Rattle.rules.proofs.SumLaws.{cond-le}
-use native.Mathlib.Nat.{le_trans}
+use Rattle.rules.proofs.CrossingLaws.{at-le, at_none, kept-le}
 use Rattle.hour_share.specs.Deductions.{AmountInRange}
 use Rattle.hour_share.specs.Deductions.{energy_in, deductions_in, deductions_over, deductions_from}
 use Rattle.hour_borders.specs.Directions.{own_direction, directed, over_in}
@@ -41,10 +41,14 @@ gives-among g (d ∷ ds) o = rw (gives-among g ds o) (either-both (runs_in d o) 
 module _ (g : Group) (over : List ℕ) where
   -- what an offer that gives way in a direction counts for
   energy : (d : ℕ) → d < 8 → (o : Offer) → energy_in d (given_of g o) ≡ cond (gives_way g (directed over d) o) (at_border o.holder o.matched) 0
-  unfolding energy_in gives_way runs_in at_border
+  unfolding energy_in gives_way runs_in
   energy d h o =
       rw (runs-directed over d h o.holder)
-      (by_bool (option_eq eqb (own_direction o.holder.border o.holder.purchase) (Some d)) (λ t. rw t refl) (λ t. rw t refl))
+      (by_bool (option_eq eqb (own_direction o.holder.border o.holder.purchase) (Some d)) (λ t. rw t (of-group (in_group g o))) (λ t. rw t refl))
+    where
+      of-group : (b : Bool) → at_border o.holder (cond b o.matched 0) ≡ cond b (at_border o.holder o.matched) 0
+      of-group true = refl
+      of-group false = at_none o.holder
 
   energies : (d : ℕ) → d < 8 → (os : List Offer) → map (energy_in d) (map (given_of g) os) ≡ amounts g (directed over d) os
   unfolding amounts
@@ -103,7 +107,7 @@ module _ (p : Offer → Bool) where
 module _ (p : Offer → Bool) (ks : List ℕ) (os ps : List Held) (i k r : ℕ) (y : Held) where
   -- one more offer with what remains offered of it
   pub left-more : i < length os → length ks ≡ length os → k ≡ get_or ks i 0 → offers_in ps ≡ remain p (take i ks) (offers_in os) → y ≡ get_or ps i y
-      → r ≡ cond (p (offer_in y)) (y.matched - k) y.offered
+      → r ≡ cond (p (offer_in y)) (kept_energy y.holder.loss y.matched k) y.offered
       → offers_in (set ps i (record { holder = y.holder; price = y.price; offered = r; matched = y.matched })) ≡ remain p (take (i + 1) ks) (offers_in os)
   unfolding keeps with_energies left
   left-more h e ek ep ey er =
@@ -111,7 +115,7 @@ module _ (p : Offer → Bool) (ks : List ℕ) (os ps : List Held) (i k r : ℕ) 
       let o : offer_in y ≡ get_or (offers_in os) i (offer_in y) =
       ap offer_in ey ∙ sym (get_or-map offer_in ps i y) ∙ ap (λ l. get_or l i (offer_in y)) ep ∙ remain-read p ks (offers_in os) i (offer_in y) n in
       let z : left p k (offer_in y) ≡ left p (get_or ks i 0) (get_or (offers_in os) i (offer_in y)) = ap₂ (left p) ek o in
-      rw (er, map-set offer_in ps i (record { holder = y.holder; price = y.price; offered = cond (p (offer_in y)) (y.matched - k) y.offered; matched = y.matched }), ep, add-one i)
+      rw (er, map-set offer_in ps i (record { holder = y.holder; price = y.price; offered = cond (p (offer_in y)) (kept_energy y.holder.loss y.matched k) y.offered; matched = y.matched }), ep, add-one i)
       (ap (set (remain p (take i ks) (offers_in os)) i) z ∙ remain-more p ks (offers_in os) i (offer_in y) n (e ∙ sym (length-map os offer_in)))
 
 -- at the end each is written
@@ -135,8 +139,7 @@ unchanged : (o : Offer) → Changed o o
 unchanged o = record { holder = refl; price = refl; matched = refl; offered = omega arith }
 
 left-le : (b : Bool) (o : Offer) (k : ℕ) → cond b (keeps o.holder o.matched k) o.offered ≤ max o.offered o.matched
-unfolding keeps
-left-le true o k = omega arith
+left-le true o k = omega (arith, kept-le o.holder o.matched k)
 left-le false o k = omega arith
 
 remain-changed : (p : Offer → Bool) (ks : List ℕ) (os : List Offer) → Each Changed os (remain p ks os)
@@ -153,4 +156,4 @@ taken-changed g ds os = remain-changed (gives_in g ds) (all_deductions g os ds) 
 
 -- what gives way is no more than is matched
 pub given-small : (g : Group) (o : Offer) → o.matched ≤ max_energy → AmountInRange (given_of g o)
-given-small g o h = le_trans (cond-le (in_group g o) o.matched) h
+given-small g o h = omega (arith, at-le o.holder (cond (in_group g o) o.matched 0), cond-le (in_group g o) o.matched, h)

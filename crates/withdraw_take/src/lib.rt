@@ -1,9 +1,10 @@
 // Steps 3 and 4 of a withdrawal (document 01, "Withdrawal step"): what the group loses.
 #![tactic(auto)]
 
-ghost use Rattle.std.specs.Prelude.{◌≡◌, ◌≤◌, ◌-◌, if◌then◌else◌, length};
+ghost use Rattle.std.specs.Prelude.{◌≡◌, ◌≤◌, if◌then◌else◌, length};
 ghost use Rattle.rules.specs.Lists.{All, Each};
 ghost use Rattle.rules.specs.Units.{max_energy};
+ghost use Rattle.rules.specs.Borders.{kept_energy};
 ghost use Rattle.rules.specs.Withdrawal.{in_group, all_deductions, take_from};
 ghost use Rattle.hour_offers.specs.View.{offer_in, offers_in};
 ghost use Rattle.hour_borders.specs.Directions.{over_in};
@@ -53,10 +54,10 @@ fn given(group: Group, offer: &Offer) -> Amount
 
 // What remains offered of an offer: where it gives way, "what remains offered is matched less taken".
 fn remaining(over: &[u32; DIRECTIONS], group: Group, offer: &Offer, deduction: u32) -> u32
-    ensures { result ≡ (if gives_in (group_in group) (over_in over.now) (offer_in offer.now) then offer.now.matched - deduction else offer.now.offered) }
+    ensures { result ≡ (if gives_in (group_in group) (over_in over.now) (offer_in offer.now) then kept_energy offer.now.holder.loss offer.now.matched deduction else offer.now.offered) }
 {
     if gives_way(over, group, offer) {
-        offer.matched.saturating_sub(deduction)
+        crossing::kept(offer.holder.loss, offer.matched, deduction)
     } else {
         offer.offered
     }
