@@ -85,6 +85,10 @@ module _ (s : Session) (b : B.Book) (e : s ≡ image b) where
   unfolding image
   capacities-as = rw e refl
 
+  pub losses-as : b.losses ≡ s.losses
+  unfolding image
+  losses-as = rw e refl
+
   pub notices-as : take s.enrolled s.notices ≡ map notice_of b.units
   unfolding image
   notices-as = laid-as notice_of no_notice s.notices (rw e refl)

@@ -159,6 +159,8 @@ image b = record {
   figures = pad 25 no_figures (map (figures_as b) (hours_in b));
   reserved2 = 0;
   rights = pad 64 no_notice (map rights_of b.units);
+  losses = b.losses;
+  reserved3 = 0;
 }
 
 -- What holds of every book that opening and the calls leave: the rules' ranges, and a capacity notice of 4 times 2 directions

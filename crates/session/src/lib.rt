@@ -11,7 +11,7 @@ ghost use Rattle.session.specs.Parts.{within, refused_as};
 use answer::Response;
 use calendar::{Date, FIRST};
 use rules::row::Row;
-use rules::{DIRECTIONS, HOURS, LODGEMENTS, LONG_DAY, UNITS};
+use rules::{DIRECTIONS, HOURS, LODGEMENTS, LONG_DAY, LOSSES, UNITS};
 
 pub mod units;
 
@@ -104,7 +104,8 @@ pub struct HourFigures {
 
 // As C has it, with arrays and their counts. The first `enrolled` units and the first `standing` lodgements count, these in the order of their numbers.
 // `capacities` are by direction, as an hour's figures. Verdicts stand at the lodgements' indices once closed,
-// figures at the hours' indices once cleared. `rights` are those of a French unit's agent on its side, at the unit's index.
+// figures at the hours' indices once cleared. `rights` are those of a French unit's agent on its side, at the unit's index. `losses` are by border, the
+// first, of no border, 0.
 #[repr(C)]
 #[derive(Clone, Copy)]
 pub struct Session {
@@ -125,6 +126,8 @@ pub struct Session {
     pub figures: [HourFigures; HOURS],
     pub reserved2: u32,
     pub rights: [Notice; UNITS],
+    pub losses: [u32; LOSSES],
+    pub reserved3: u32,
 }
 
 // The unit of a number, found once for all that ask about it: its index and itself.
@@ -235,6 +238,8 @@ impl Session {
             figures: [no_figures(); HOURS],
             reserved2: 0,
             rights: [no_notice(); UNITS],
+            losses: [0; LOSSES],
+            reserved3: 0,
         }
     }
 

@@ -11,6 +11,7 @@ use Rattle.session.specs.Image.{no_notice}
 use Rattle.session_changes.specs.declared.RegistryChange.{RegistryChange}
 use Rattle.session_changes.specs.declared.NoticeChange.{NoticeChange}
 use Rattle.session_changes.specs.declared.RightsChange.{RightsChange}
+use Rattle.session_changes.specs.declared.LossChange.{LossChange}
 use Rattle.session_changes.specs.declared.StandingChange.{StandingChange}
 use Rattle.session_changes.specs.declared.ClosingChange.{ClosingChange}
 use Rattle.session_changes.specs.declared.ClearingChange.{ClearingChange}
@@ -28,6 +29,9 @@ with_notices s ns = record s { notices = ns }
 
 abbrev pub with_rights : Session → List Notice → Session
 with_rights s rs = record s { rights = rs }
+
+abbrev pub with_losses : Session → List ℕ → Session
+with_losses s ls = record s { losses = ls }
 
 abbrev pub with_verdicts : Session → Bool → List Verdict → Session
 with_verdicts s closed vs = record s { closed = closed; verdicts = vs }
@@ -50,6 +54,11 @@ rights_with s c = with_rights s (set (set s.rights c.at c.rights) c.also c.right
 pub record Granted (c : RightsChange) : Type 0 where
   pub at : c.at < 64
   pub also : c.also < 64
+
+-- Losses
+
+abbrev pub loss_with : Session → LossChange → Session
+loss_with s c = with_losses s (set s.losses c.at c.loss)
 
 -- Standing lodgements
 

@@ -6,7 +6,7 @@ ghost use Rattle.rules.specs.DayBook as D;
 ghost use Rattle.session.specs.declared.Session.{Session};
 ghost use Rattle.session.specs.Steps.{Met};
 ghost use Rattle.session.specs.Parts.{Within, JudgesRow, Entered};
-ghost use Rattle.session_changes.specs.Changes.{Indexed, Granted, registry_with, notice_with, rights_with, standing_with, closed_with, cleared_with};
+ghost use Rattle.session_changes.specs.Changes.{Indexed, Granted, registry_with, notice_with, rights_with, loss_with, standing_with, closed_with, cleared_with};
 ghost use Rattle.session_changes.specs.Effects.{effect_of, done};
 
 use answer::{Refusal, Response};
@@ -91,6 +91,23 @@ impl Change for RightsChange {
     fn apply(&self, s: &mut Session) {
         s.rights[self.at] = self.rights;
         s.rights[self.also] = self.rights;
+    }
+}
+
+// The loss of a border: it stands at the border's number.
+#[derive(Clone, Copy)]
+pub struct LossChange {
+    pub at: usize,
+    pub loss: u32,
+}
+
+impl Change for LossChange {
+    ghost applied = { loss_with };
+
+    ghost fits = { λ c. c.at < 5 };
+
+    fn apply(&self, s: &mut Session) {
+        s.losses[self.at] = self.loss;
     }
 }
 
