@@ -32,23 +32,23 @@ judgement-some (some r) f = refuses _
 
 -- The judgement of a lodgement at closing, by all limits
 
-module _ (u : Unit) (n g : Notice) (cs : List Notice) (H : ℕ) (own : List ℕ) (load : ℕ → ℕ) where
+module _ (u : Unit) (n g : Notice) (cs : List Notice) (losses : List ℕ) (H : ℕ) (own : List ℕ) (load : ℕ → ℕ) where
   abbrev pub top : ℕ → ℕ
-  top h = ceiling (lines_in cs) (registered_in u n g) h
+  top h = ceiling (lines_in cs losses) (registered_in u n g) h
 
   abbrev rows : List Row
-  rows = limit_rows H own load (limits (lines_in cs) (registered_in u n g))
+  rows = limit_rows H own load (limits (lines_in cs losses) (registered_in u n g))
 
-  pub judged-under : ((h : ℕ) → 1 ≤ h → h ≤ H → load h ≤ top h) → judged_in u n g cs false H own load ≡ none
+  pub judged-under : ((h : ℕ) → 1 ≤ h → h ≤ H → load h ≤ top h) → judged_in u n g cs losses false H own load ≡ none
   unfolding judged_in judged_by
   judged-under f =
-      judgement-none (first_row rows) (λ r e. let v = row-over H own load top (limits (lines_in cs) (registered_in u n g)) (over-limits (lines_in cs) (registered_in u n g)) r e in
+      judgement-none (first_row rows) (λ r e. let v = row-over H own load top (limits (lines_in cs losses) (registered_in u n g)) (over-limits (lines_in cs losses) (registered_in u n g)) r e in
       omega (arith, v.over, f r.hour v.first v.last))
 
-  pub judged-over : (h : ℕ) → 1 ≤ h → h ≤ H → (hourly own h ≡ 0 → ⊥) → top h < load h → Refuses (judged_in u n g cs false H own load)
+  pub judged-over : (h : ℕ) → 1 ≤ h → h ≤ H → (hourly own h ≡ 0 → ⊥) → top h < load h → Refuses (judged_in u n g cs losses false H own load)
   unfolding judged_in judged_by
   judged-over h a b e i =
-      judgement-some (first_row rows) (λ q. none_over H own load top (limits (lines_in cs) (registered_in u n g)) (over-limits (lines_in cs) (registered_in u n g)) q h
+      judgement-some (first_row rows) (λ q. none_over H own load top (limits (lines_in cs losses) (registered_in u n g)) (over-limits (lines_in cs losses) (registered_in u n g)) q h
       (record { first = a; last = b; named = above (hourly own h) e; over = i }))
     where
       above : (k : ℕ) → (k ≡ 0 → ⊥) → 0 < k

@@ -5,27 +5,45 @@ ghost use Rattle.std.specs.Prelude.{◌≡◌, [], ◌∷◌, List, ℕ, suc, �
 ghost use Rattle.rules.specs.Units.{lessened, least_of};
 ghost use Rattle.session.specs.declared.Notice.{Notice};
 ghost use Rattle.judge_limits.specs.Limits.{limit_at};
-ghost use Rattle.close_ceilings.specs.Ceilings.{LinesOf, line_row, own_in, rights_in, ceiling_in, ceiling_of, CeilingsOf};
+ghost use Rattle.close_ceilings.specs.Ceilings.{SumsOf, LinesOf, line_row, line_of, own_in, rights_in, ceiling_in, ceiling_of, CeilingsOf};
 
 use arrayvec::ArrayVec;
 use judge_limits::border_limit;
-use rules::{BORDERS, DIRECTIONS, HOURS, LAST_BORDER, UNITS};
+use rules::{BORDERS, DIRECTIONS, HOURS, LAST_BORDER, LOSSES, UNITS};
 use session::{Notice, Unit};
 use std::array;
 
 // The border sums by border and hour, none where limit 12 does not apply; row 0 is of domestic units.
-pub type Lines = [Option<[u64; HOURS]>; BORDERS + 1];
+pub type Sums = [Option<[u64; HOURS]>; BORDERS + 1];
 
-// The border sums by border and hour. A loop, and a cast of its index: `map` over the borders' numbers was tried, and its proof did not close, as
+// Those of each side's units: "For a purchase unit the border sum becomes (sum × (10,000 + l)) / 10,000 rounded down".
+#[derive(Clone, Copy)]
+pub struct Lines {
+    pub sales: Sums,
+    pub purchases: Sums,
+}
+
+// The border sums with losses by border. A loop, and a cast of its index: `map` over the borders' numbers was tried, and its proof did not close, as
 // nothing is inferred of a closure that gives an array.
-pub fn lines_of(capacities: &[Notice; DIRECTIONS]) -> Lines
-    ensures { LinesOf capacities.now result }
+#[tactic(auto, unfolding(rules::specs::Units::loss_of))]
+fn sums_of(capacities: &[Notice; DIRECTIONS], losses: &[u32; LOSSES]) -> Sums
+    ensures { SumsOf capacities.now losses.now result }
 {
-    let mut lines = [None; BORDERS + 1];
-    for (border, line) in lines.iter_mut().enumerate() {
-        *line = border_limit(border as u32, capacities);
+    let mut sums = [None; BORDERS + 1];
+    for (border, sum) in sums.iter_mut().enumerate() {
+        *sum = border_limit(border as u32, losses[border], capacities);
     }
-    lines
+    sums
+}
+
+// A sale's are those without a loss.
+pub fn lines_of(capacities: &[Notice; DIRECTIONS], losses: &[u32; LOSSES]) -> Lines
+    ensures { LinesOf capacities.now losses.now result }
+{
+    Lines {
+        sales: sums_of(capacities, &[0; LOSSES]),
+        purchases: sums_of(capacities, losses),
+    }
 }
 
 // The row of a border. Row 0, that of domestic units, is also for a number above 4: no border has it, and so limit 12 does not apply.
@@ -38,6 +56,20 @@ fn line_row(border: u32) -> usize
         return 0;
     }
     border as usize
+}
+
+impl Lines {
+    // That of a unit: of its border, on its side.
+    fn of(&self, unit: &Unit) -> &Option<[u64; HOURS]>
+        ensures { result.now ≡ line_of self.now unit.now }
+    {
+        let row = line_row(unit.border);
+        if unit.purchase {
+            &self.purchases[row]
+        } else {
+            &self.sales[row]
+        }
+    }
 }
 
 // The lesser of limits 10 and 11 in the hour at index h: "without one, the maximum is available".
@@ -98,9 +130,10 @@ fn ceiling_at(
 
 // A unit's ceiling by hour.
 fn ceilings_at(unit: &Unit, notice: &Notice, rights: &Notice, lines: &Lines) -> [u32; HOURS]
-    ensures { (cs : List Notice) → LinesOf cs lines.now → (h : ℕ) → h < 25 → get_or result h 0 ≡ ceiling_of unit.now notice.now rights.now cs h }
+    ensures { (cs : List Notice) (losses : List ℕ) → LinesOf cs losses lines.now → (h : ℕ) → h < 25
+        → get_or result h 0 ≡ ceiling_of unit.now notice.now rights.now cs losses h }
 {
-    let line = &lines[line_row(unit.border)];
+    let line = lines.of(unit);
     array::from_fn(|h| ceiling_at(unit, notice, rights, line, h))
 }
 
@@ -115,7 +148,7 @@ pub fn ceilings_of(
     requires noticed { length notices.now ≡ length units.now }
     requires with_rights { length rights.now ≡ length units.now }
     ensures same_length { length result.items ≡ length units.now }
-    ensures ceilings { (cs : List Notice) → LinesOf cs lines.now → CeilingsOf units.now notices.now rights.now cs result.items }
+    ensures ceilings { (cs : List Notice) (losses : List ℕ) → LinesOf cs losses lines.now → CeilingsOf units.now notices.now rights.now cs losses result.items }
 {
     let mut ceilings = ArrayVec::new();
     for (p, unit) in units.iter().enumerate() {

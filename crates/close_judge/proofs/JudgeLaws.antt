@@ -30,7 +30,7 @@ use Rattle.session.specs.declared.Notice.{Notice}
 use Rattle.session.specs.declared.Lodgement.{Lodgement}
 use Rattle.session.specs.declared.Energies.{Energies}
 use Rattle.session.specs.declared.Verdict.{Verdict}
-use Rattle.session.proofs.ImageLaws.{standing-as, hours-as, enrolled-as, units-as, capacities-as, lodgements-as, energies-as, registered-as, unit-as, notice-as, rights-at}
+use Rattle.session.proofs.ImageLaws.{standing-as, hours-as, enrolled-as, units-as, capacities-as, losses-as, lodgements-as, energies-as, registered-as, unit-as, notice-as, rights-at}
 use Rattle.session.proofs.IndexLaws.{indexed, get_or-map}
 use Rattle.judge_loads.specs.Loads.{marked, load_in, load_by}
 use Rattle.close_holders.specs.Holders.{holder_of}
@@ -104,11 +104,11 @@ module _ (s : Session) (b : Book) (sound : Sound b) (e : s ≡ image b) (vs : Li
 
   -- and the code's
   judged-is : (u : Unit) (n g : Notice) (own : List ℕ) → u ≡ unit_as (U.unit_of b.units l.key.unit).unit → n ≡ notice_as (U.unit_of b.units l.key.unit).available → g ≡ notice_as (U.unit_of b.units l.key.unit).rights → own ≡ l.energies
-      → verdict_by (judged_in u n g s.capacities false s.hours own (load_in own marks (take s.standing s.energies))) ≡ verdict_as (verdict_at b i)
+      → verdict_by (judged_in u n g s.capacities s.losses false s.hours own (load_in own marks (take s.standing s.energies))) ≡ verdict_as (verdict_at b i)
   unfolding L.judged_by limits_of
   judged-is u n g own eu en eg eo =
       rw (eo, load-with, ← hours-as s b e, verdict-is)
-      (ap verdict_by (judged-as (U.unit_of b.units l.key.unit) (lines_of b) (hours b) l.energies (energy_with b l) u n g s.capacities false eu en eg (capacities-as s b e))
+      (ap verdict_by (judged-as (U.unit_of b.units l.key.unit) (lines_of b) (hours b) l.energies (energy_with b l) u n g s.capacities s.losses false eu en eg (capacities-as s b e) (sym (losses-as s b e)))
       ∙ told-verdict _)
 
 -- The code's ways out
@@ -143,7 +143,7 @@ module _ (s : Session) (vs : List Verdict) (i : ℕ) (h : i < s.standing) (p : �
 
   pub judge-given : (ms : List Bool) (j : Option (ℕ × ℕ)) (v : Verdict) → p < s.enrolled
       → ms ≡ map (counts_at number_here vs s.lodgements) (from 0 128)
-      → j ≡ judged_in (get_or s.units p no_unit) (get_or s.notices p bare_notice) (get_or s.rights p bare_notice) s.capacities false s.hours own_here (load_in own_here ms (take s.standing s.energies))
+      → j ≡ judged_in (get_or s.units p no_unit) (get_or s.notices p bare_notice) (get_or s.rights p bare_notice) s.capacities s.losses false s.hours own_here (load_in own_here ms (take s.standing s.energies))
       → v ≡ verdict_by j → JudgesAt s vs i v
   judge-given ms j v k em ej ev b class sound e r t =
       let q = unit-here s i h b e in
@@ -162,13 +162,13 @@ module _ (s : Session) (vs : List Verdict) (i : ℕ) (h : i < s.standing) (p : �
   pub judge-held : (hs : List (O.Option ℕ)) (ps : List ℕ) (es : List Energies) (j : Option (ℕ × ℕ)) (v : Verdict) → Within s → HoldersOf s hs
       → ps ≡ marked (map (held_at p vs hs) (from 0 128)) (from 0 (length hs))
       → es ≡ take s.standing s.energies
-      → j ≡ judged_in (get_or s.units p no_unit) (get_or s.notices p bare_notice) (get_or s.rights p bare_notice) s.capacities false s.hours (get_or es i bare_energies).energies (load_by (get_or es i bare_energies).energies es ps)
+      → j ≡ judged_in (get_or s.units p no_unit) (get_or s.notices p bare_notice) (get_or s.rights p bare_notice) s.capacities s.losses false s.hours (get_or es i bare_energies).energies (load_by (get_or es i bare_energies).energies es ps)
       → v ≡ verdict_by j → JudgesAt s vs i v
   judge-held hs ps es j v w held ep ee ej ev b class sound e r t =
       judge-given counts j v indexed refl
       ((rw (ee, get_or-take s.standing s.energies i bare_energies h) at ej)
-      ∙ judged-indices (get_or s.units p no_unit) (get_or s.notices p bare_notice) (get_or s.rights p bare_notice) s.capacities false s.hours own_here ps counts s.standing (take s.standing s.energies) (omega (arith, energies-full)) (ep ∙ same)
-      ∙ ap (λ es. judged_in (get_or s.units p no_unit) (get_or s.notices p bare_notice) (get_or s.rights p bare_notice) s.capacities false s.hours own_here (load_in own_here counts es)) (take-take s.standing s.standing s.energies (omega arith)))
+      ∙ judged-indices (get_or s.units p no_unit) (get_or s.notices p bare_notice) (get_or s.rights p bare_notice) s.capacities s.losses false s.hours own_here ps counts s.standing (take s.standing s.energies) (omega (arith, energies-full)) (ep ∙ same)
+      ∙ ap (λ es. judged_in (get_or s.units p no_unit) (get_or s.notices p bare_notice) (get_or s.rights p bare_notice) s.capacities s.losses false s.hours own_here (load_in own_here counts es)) (take-take s.standing s.standing s.energies (omega arith)))
       ev b class sound e r t
     where
       counts : List Bool

@@ -109,7 +109,7 @@ impl<'a> Standing<'a> {
         requires holder { get_or self.now.holders.items at None ≡ Some p }
         requires others { IndicesIn self.now.energies.now others.now }
         ensures { let s = self.now.session.now in let es = self.now.energies.now in let own = (get_or es at bare_energies).energies in
-            said result ≡ judged_in (get_or s.units p no_unit) (get_or s.notices p bare_notice) (get_or s.rights p bare_notice) s.capacities false s.hours own (load_by own es others.now) }
+            said result ≡ judged_in (get_or s.units p no_unit) (get_or s.notices p bare_notice) (get_or s.rights p bare_notice) s.capacities s.losses false s.hours own (load_by own es others.now) }
     {
         let session = self.session;
         let unit = &session.units[p];
@@ -118,7 +118,7 @@ impl<'a> Standing<'a> {
         let hours = session.hours as usize;
         let near = own_limits(unit, &session.notices[p]);
         judge_energy(&near, own, self.energies, others, hours)?;
-        let line = unit_line(unit, rights, &session.capacities);
+        let line = unit_line(unit, rights, &session.capacities, &session.losses);
         let far = border_limits(unit, rights, line);
         judge_energy(&far, own, self.energies, others, hours)
     }

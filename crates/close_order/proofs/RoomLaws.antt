@@ -132,7 +132,7 @@ module _ (s : Session) (vs : List Verdict) (room : List (List ℕ)) (row own : L
 
   module _ (f : (x : ℕ) → x < length own → get_or own x 0 ≤ get_or (get_or room place []) x 0) (r : Left own (get_or room place []) row) (inside : place < length room) where
     -- on its own unit
-    left_here : (x : ℕ) → x < s.hours → place < s.enrolled → room_on s (set room place row) unit_here x + accepted_on s (set vs i v) unit_here x ≡ ceiling_at s.units s.notices s.rights s.capacities place x
+    left_here : (x : ℕ) → x < s.hours → place < s.enrolled → room_on s (set room place row) unit_here x + accepted_on s (set vs i v) unit_here x ≡ ceiling_at s.units s.notices s.rights s.capacities s.losses place x
     unfolding counts_on
     left_here x m p =
         let used = used-more s vs i v h blank w.standing full in_List unit_here x (rw (yes, eq-eqb unit_here unit_here refl)) in
@@ -141,7 +141,7 @@ module _ (s : Session) (vs : List Verdict) (room : List (List ℕ)) (row own : L
 
     module _ (whole : length (take s.enrolled s.units) ≡ s.enrolled) (q : place < s.enrolled) where
       left_other : (unit x : ℕ) → eqb unit_here unit ≡ false → unit_index s unit < s.enrolled → x < s.hours
-          → room_on s (set room place row) unit x + accepted_on s (set vs i v) unit x ≡ ceiling_at s.units s.notices s.rights s.capacities (unit_index s unit) x
+          → room_on s (set room place row) unit x + accepted_on s (set vs i v) unit x ≡ ceiling_at s.units s.notices s.rights s.capacities s.losses (unit_index s unit) x
       unfolding counts_on
       left_other unit x e p m =
           let other : unit_index s unit ≡ place → ⊥ = λ z. eqb-false unit_here unit e (sym (indices-differ (take s.enrolled s.units) unit_here unit (omega arith) z)) in
@@ -150,7 +150,7 @@ module _ (s : Session) (vs : List Verdict) (room : List (List ℕ)) (row own : L
       pub kept-accepted : Kept s (set vs i v) (set room place row)
       kept-accepted = λ unit x p m.
           by_bool (eqb unit_here unit)
-          (λ t. subst (λ u. unit_index s u < s.enrolled → room_on s (set room place row) u x + accepted_on s (set vs i v) u x ≡ ceiling_at s.units s.notices s.rights s.capacities (unit_index s u) x) (eqb-true unit_here unit t) (left_here x m) p)
+          (λ t. subst (λ u. unit_index s u < s.enrolled → room_on s (set room place row) u x + accepted_on s (set vs i v) u x ≡ ceiling_at s.units s.notices s.rights s.capacities s.losses (unit_index s u) x) (eqb-true unit_here unit t) (left_here x m) p)
           (λ t. left_other unit x t p m)
 
 -- nothing is accepted at the start
@@ -162,13 +162,13 @@ marks-none ls unit =
     marks-at ls unit (replicate 128 no_verdict) j in_List ∙ rw (get_or-replicate 128 j no_verdict no_verdict in_List, get_or-replicate 128 j false false in_List))
 
 kept-start : (s : Session) (blank : Verdict) (room : List (List ℕ)) → Within s → blank ≡ no_verdict
-    → ((p h : ℕ) → p < s.enrolled → h < 25 → get_or (get_or room p []) h 0 ≡ ceiling_at s.units s.notices s.rights s.capacities p h) → Kept s (replicate 128 blank) room
+    → ((p h : ℕ) → p < s.enrolled → h < 25 → get_or (get_or room p []) h 0 ≡ ceiling_at s.units s.notices s.rights s.capacities s.losses p h) → Kept s (replicate 128 blank) room
 unfolding accepted_on sum_of sum
 kept-start s blank room w e f = λ unit x p m.
     rw (e, marks-none s.lodgements unit, marked-nothing 128 (take s.standing s.energies)) (omega (arith, f (unit_index s unit) x p (omega (arith, w.hours))))
 
 pub kept-of : (s : Session) (blank : Verdict) (room : List (List ℕ)) → Within s → blank ≡ no_verdict → length (take s.enrolled s.units) ≡ s.enrolled
-    → CeilingsOf (take s.enrolled s.units) (take s.enrolled s.notices) (take s.enrolled s.rights) s.capacities room → Kept s (replicate 128 blank) room
+    → CeilingsOf (take s.enrolled s.units) (take s.enrolled s.notices) (take s.enrolled s.rights) s.capacities s.losses room → Kept s (replicate 128 blank) room
 unfolding ceiling_at
 kept-of s blank room w e l f =
     kept-start s blank room w e
@@ -195,7 +195,7 @@ module _ (s : Session) (vs : List Verdict) (room : List (List ℕ)) (row : List 
   load = load_in own (marks s.lodgements holder vs) (take s.standing s.energies)
 
   abbrev judged : Option (ℕ × ℕ)
-  judged = judged_in (get_or s.units (unit_index s holder) no_unit) (get_or s.notices (unit_index s holder) bare_notice) (get_or s.rights (unit_index s holder) bare_notice) s.capacities false s.hours own load
+  judged = judged_in (get_or s.units (unit_index s holder) no_unit) (get_or s.notices (unit_index s holder) bare_notice) (get_or s.rights (unit_index s holder) bare_notice) s.capacities s.losses false s.hours own load
 
   load_is : (x : ℕ) → load (suc x) ≡ get_or own x 0 + accepted_on s vs holder x
   unfolding load_in accepted_on
@@ -205,10 +205,10 @@ module _ (s : Session) (vs : List Verdict) (room : List (List ℕ)) (row : List 
     judged-fits : ((x : ℕ) → x < length row → get_or row x 0 ≤ get_or (get_or room (unit_index s holder) []) x 0) → judged ≡ none
     unfolding ceiling_at
     judged-fits f =
-        judged-under (get_or s.units (unit_index s holder) no_unit) (get_or s.notices (unit_index s holder) bare_notice) (get_or s.rights (unit_index s holder) bare_notice) s.capacities s.hours own load
+        judged-under (get_or s.units (unit_index s holder) no_unit) (get_or s.notices (unit_index s holder) bare_notice) (get_or s.rights (unit_index s holder) bare_notice) s.capacities s.losses s.hours own load
         (λ x a b. let e : suc (x - 1) ≡ x = omega arith in rw e at (under (x - 1) (omega arith)))
       where
-        under : (x : ℕ) → x < s.hours → load (suc x) ≤ ceiling_at s.units s.notices s.rights s.capacities (unit_index s holder) x
+        under : (x : ℕ) → x < s.hours → load (suc x) ≤ ceiling_at s.units s.notices s.rights s.capacities s.losses (unit_index s holder) x
         under x m = omega (arith, load_is x, owns.at x m, f x (omega (arith, owns.long)), k holder x q m)
 
     judged-lacks : (x : ℕ) → x < length row → get_or (get_or room (unit_index s holder) []) x 0 < get_or row x 0 → Refuses judged
@@ -216,7 +216,7 @@ module _ (s : Session) (vs : List Verdict) (room : List (List ℕ)) (row : List 
     judged-lacks x n l =
         let m : x < s.hours = omega (arith, owns.long) in
         let own_is = owns.at x m in
-        judged-over (get_or s.units (unit_index s holder) no_unit) (get_or s.notices (unit_index s holder) bare_notice) (get_or s.rights (unit_index s holder) bare_notice) s.capacities s.hours own load (suc x) (omega arith) m
+        judged-over (get_or s.units (unit_index s holder) no_unit) (get_or s.notices (unit_index s holder) bare_notice) (get_or s.rights (unit_index s holder) bare_notice) s.capacities s.losses s.hours own load (suc x) (omega arith) m
         (λ z. absurd (omega (arith, hourly-suc own x))) (omega (arith, load_is x, k holder x q m))
 
   -- what the room holds is accepted

@@ -42,7 +42,7 @@ accepted_on s vs unit h =
 
 -- and the ceiling
 abbrev pub ceiling_on : Session → ℕ → ℕ → ℕ
-ceiling_on s unit h = ceiling_at s.units s.notices s.rights s.capacities (unit_index s unit) h
+ceiling_on s unit h = ceiling_at s.units s.notices s.rights s.capacities s.losses (unit_index s unit) h
 
 -- A closing that stands at index i of a class (0 normal executions, 1 default executions, 2 offers): verdicts and room.
 pub record ClosingAt (s : Session) (b : Book) (class i : ℕ) (vs : List Verdict) (room : List (List ℕ)) : Type 0 where

@@ -68,7 +68,7 @@ impl<'a> Closing<'a> {
         let units = &session.units[..session.enrolled];
         let notices = &session.notices[..session.enrolled];
         let rights = &session.rights[..session.enrolled];
-        let lines = lines_of(&session.capacities);
+        let lines = lines_of(&session.capacities, &session.losses);
         let room = ceilings_of(units, notices, rights, &lines);
         Closing {
             standing,

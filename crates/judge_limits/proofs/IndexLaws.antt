@@ -49,12 +49,12 @@ module _ (H : ℕ) (own : List ℕ) (f g : ℕ → ℕ) (same : (h : ℕ) → 1 
   unfolding first_passed
   passed-same ls = rows-same (map limit_in ls)
 
-  judged-same : (u : Unit) (notice rights : Notice) (cs : List Notice) (only : Bool) → judged_in u notice rights cs only H own f ≡ judged_in u notice rights cs only H own g
+  judged-same : (u : Unit) (notice rights : Notice) (cs : List Notice) (losses : List ℕ) (only : Bool) → judged_in u notice rights cs losses only H own f ≡ judged_in u notice rights cs losses only H own g
   unfolding judged_in
-  judged-same u notice rights cs only = rows-same (judged_by (lines_in cs) (registered_in u notice rights) only)
+  judged-same u notice rights cs losses only = rows-same (judged_by (lines_in cs losses) (registered_in u notice rights) only)
 
 -- the judgement by indices is that by marks
-module _ (u : Unit) (notice rights : Notice) (cs : List Notice) (only : Bool) (H : ℕ) (own ps : List ℕ) (bs : List Bool) (n : ℕ) (es : List Energies) where
+module _ (u : Unit) (notice rights : Notice) (cs : List Notice) (losses : List ℕ) (only : Bool) (H : ℕ) (own ps : List ℕ) (bs : List Bool) (n : ℕ) (es : List Energies) where
   pub judged-indices : n ≤ length es → ps ≡ marked bs (from 0 n)
-      → judged_in u notice rights cs only H own (load_by own es ps) ≡ judged_in u notice rights cs only H own (load_in own bs (take n es))
-  judged-indices b e = judged-same H own (load_by own es ps) (load_in own bs (take n es)) (λ h i k. rw e (load-indices own bs n es h b)) u notice rights cs only
+      → judged_in u notice rights cs losses only H own (load_by own es ps) ≡ judged_in u notice rights cs losses only H own (load_in own bs (take n es))
+  judged-indices b e = judged-same H own (load_by own es ps) (load_in own bs (take n es)) (λ h i k. rw e (load-indices own bs n es h b)) u notice rights cs losses only

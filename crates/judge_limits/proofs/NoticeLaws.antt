@@ -8,7 +8,7 @@ use lib.Dec.{eqb}
 use lib.ListN.{length, get_or-map}
 use Rattle.rules.specs.Lists.{Each, each0, each, hourly}
 use Rattle.rules.specs.Refusals.{Row, limit_row, first_row}
-use Rattle.rules.specs.Units.{Limit, Registered, Capacities, Lines, Published, direction, capacity_of, both_at, available_at, rights_at, border_sum, lessened, maximum_limit, available_limit, own_limits, border_limit, rights_limit, border_limits, limits}
+use Rattle.rules.specs.Units.{Limit, Registered, Capacities, Lines, Published, direction, capacity_of, both_at, available_at, rights_at, unit_loss, border_sum, increased_sum, lessened, maximum_limit, available_limit, own_limits, border_limit, rights_limit, border_limits, limits}
 use Rattle.rules.specs.Lodging.{passed_at, judged_by, limit_rows}
 use Rattle.rules.proofs.ListLaws.{get_or-pad}
 use Rattle.session.specs.Laid.{pad}
@@ -83,22 +83,22 @@ module _ (r : Registered) (ls : Lines) where
     rows_same each0 = refl
     rows_same (each {x = l} {y = m} e t) = ap₂ (λ (x : Row) (rows : List Row). x ∷ rows) (row_same l m e.0 e.1) (rows_same t)
 
-    rows_as : (only : Bool) → limit_rows H own load (judged_by (lines_in (map notice_as cs)) here only) ≡ limit_rows H own load (judged_by ls r only)
+    rows_as : (only : Bool) → limit_rows H own load (judged_by (lines_in (map notice_as cs) ls.losses) here only) ≡ limit_rows H own load (judged_by ls r only)
     unfolding judged_by limits own_limits border_limits maximum_limit available_limit border_limit rights_limit
     rows_as true = refl
     rows_as false =
         rows_same
         (each (refl, λ h. refl)
         (each (refl, λ h. ap some (available-as h))
-        (each (refl, λ h. ap₂ (λ (k : ℕ) (o : Option ℕ). lessened (cond r.unit.rights 0 k) o) (rights-as h) (border-as r.unit.border h))
+        (each (refl, λ h. ap₂ (λ (k : ℕ) (o : Option ℕ). lessened (cond r.unit.rights 0 k) (increased_sum (unit_loss ls.losses r.unit) o)) (rights-as h) (border-as r.unit.border h))
         (each (refl, λ h. ap (λ (k : ℕ). cond r.unit.rights (some k) none) (rights-as h)) each0))))
 
-    pub judged-as : (u : Unit) (n g : Notice) (ns : List Notice) (only : Bool) → u ≡ unit_as r.unit → n ≡ notice_as r.available → g ≡ notice_as r.rights → ns ≡ map notice_as cs
-        → judged_in u n g ns only H own load ≡ given_by (first_row (limit_rows H own load (judged_by ls r only)))
+    pub judged-as : (u : Unit) (n g : Notice) (ns : List Notice) (losses : List ℕ) (only : Bool) → u ≡ unit_as r.unit → n ≡ notice_as r.available → g ≡ notice_as r.rights → ns ≡ map notice_as cs → losses ≡ ls.losses
+        → judged_in u n g ns losses only H own load ≡ given_by (first_row (limit_rows H own load (judged_by ls r only)))
     unfolding judged_in
-    judged-as u n g ns only e f k l = rw (e, f, k, l) (ap (λ rows. given_by (first_row rows)) (rows_as only))
+    judged-as u n g ns losses only e f k l m = rw (e, f, k, l, m) (ap (λ rows. given_by (first_row rows)) (rows_as only))
 
     -- and by a load that is the same in every hour
-    pub judged-by : (u : Unit) (n g : Notice) (ns : List Notice) (only : Bool) (f : ℕ → ℕ) → u ≡ unit_as r.unit → n ≡ notice_as r.available → g ≡ notice_as r.rights → ns ≡ map notice_as cs
-        → ((h : ℕ) → 1 ≤ h → h ≤ H → load h ≡ f h) → judged_in u n g ns only H own load ≡ given_by (first_row (limit_rows H own f (judged_by ls r only)))
-    judged-by u n g ns only f e k l m same = judged-as u n g ns only e k l m ∙ ap (λ rows. given_by (first_row rows)) (rows-load H own load f same (judged_by ls r only))
+    pub judged-by : (u : Unit) (n g : Notice) (ns : List Notice) (losses : List ℕ) (only : Bool) (f : ℕ → ℕ) → u ≡ unit_as r.unit → n ≡ notice_as r.available → g ≡ notice_as r.rights → ns ≡ map notice_as cs → losses ≡ ls.losses
+        → ((h : ℕ) → 1 ≤ h → h ≤ H → load h ≡ f h) → judged_in u n g ns losses only H own load ≡ given_by (first_row (limit_rows H own f (judged_by ls r only)))
+    judged-by u n g ns losses only f e k l m t same = judged-as u n g ns losses only e k l m t ∙ ap (λ rows. given_by (first_row rows)) (rows-load H own load f same (judged_by ls r only))

@@ -11,11 +11,12 @@ use lib.ListN.{length, get_or, get_or-eq_default}
 use borrow.Author.Tests.{ltb-true, ltb-false}
 use Rattle.rules.proofs.BoolLaws.{by_bool}
 use Rattle.rules.specs.Lists.{hourly}
-use Rattle.rules.specs.Units.{rights_at, border_sum, lessened, border_limit}
+use Rattle.rules.specs.Units.{unit_loss, rights_at, border_sum, increased_sum, lessened, border_limit}
+use Rattle.session.specs.Image.{unit_in}
 use Rattle.session.specs.declared.Unit.{Unit}
 use Rattle.session.specs.declared.Notice.{Notice}
 use Rattle.std.specs.declared.option.Option as O
-use Rattle.judge_limits.specs.Limits.{notice_in, registered_in, lines_in, taken_off, limit_at}
+use Rattle.judge_limits.specs.Limits.{notice_in, registered_in, lines_in, taken_off, line_at, limit_at}
 
 -- nothing is taken off
 less-nothing : (o : Option ℕ) → o ≡ lessened 0 o
@@ -27,10 +28,11 @@ rights-taken : (h : ℕ) (t : Bool) (es : List ℕ) → ◌≡◌ {A = ℕ} (eli
 rights-taken h true es = refl
 rights-taken h false es = refl
 
--- limit 12 by the rights that a session keeps
-pub border-lessened : (u : Unit) (n g : Notice) (cs : List Notice) (h : ℕ) → (border_limit (lines_in cs) (registered_in u n g)).at h ≡ lessened (taken_off u g h) (border_sum (map notice_in cs) u.border h)
-unfolding border_limit rights_at notice_in taken_off
-border-lessened u n g cs h = ap (λ k. lessened (cond u.rights 0 k) (border_sum (map notice_in cs) u.border h)) (rights-taken h g.given g.energies)
+-- limit 12 by the losses and the rights that a session keeps
+pub border-lessened : (u : Unit) (n g : Notice) (cs : List Notice) (losses : List ℕ) (h : ℕ) → (border_limit (lines_in cs losses) (registered_in u n g)).at h ≡ line_at u g cs losses h
+unfolding border_limit rights_at notice_in line_at taken_off
+border-lessened u n g cs losses h =
+    ap (λ k. lessened (cond u.rights 0 k) (increased_sum (unit_loss losses (unit_in u)) (border_sum (map notice_in cs) u.border h))) (rights-taken h g.given g.energies)
 
 -- The ways out of `unit_line`
 

@@ -2,7 +2,7 @@
 use Prim.Native.Nat.{ℕ, zero, suc, ◌+◌, ◌-◌, ◌≤◌, ◌<◌}
 use mathlib.Core.Path.{◌≡◌, refl, ap, ap₂, sym, ◌∙◌}
 use mathlib.Core.Bool.{Bool, true, false, cond, not}
-use mathlib.Core.List.{List, [], ◌∷◌, map}
+use mathlib.Core.List.{List, [], ◌∷◌}
 use mathlib.Core.Option.{Option, some, none}
 use native.Mathlib.Omega.{arith}
 use lib.Dec.{eqb}
@@ -14,14 +14,14 @@ use Rattle.rules.specs.Lists.{first, from, lowest, hourly}
 use Rattle.rules.specs.Refusals.{Row, limit_row, first_row}
 use Rattle.rules.specs.Rows.{number_of}
 use Rattle.rules.specs.declared.row.Row.TheVariants.{Maximum, Available, Border, Rights}
-use Rattle.rules.specs.Units.{Registered, Limit, passes, available_at, rights_at, border_sum, lessened, maximum_limit, available_limit, own_limits, border_limit, rights_limit, border_limits, limits}
+use Rattle.rules.specs.Units.{Registered, Limit, passes, available_at, rights_at, maximum_limit, available_limit, own_limits, border_limit, rights_limit, border_limits, limits}
 use Rattle.rules.specs.Lodging.{passed_at, judged_by, limit_rows}
 use Rattle.rules.proofs.LowestLaws.{lowest-none}
 use Rattle.session.specs.declared.Unit.{Unit}
 use Rattle.session.specs.declared.Notice.{Notice}
 use Rattle.session.specs.Parts.{given_by}
 use Rattle.judge_loads.specs.Loads.{hour_at, laid}
-use Rattle.judge_limits.specs.Limits.{notice_in, registered_in, lines_in, taken_off, judged_in, limit_at, limit_in, maximum_limit_for, own_limits_for, border_limits_for, else_by, first_passed}
+use Rattle.judge_limits.specs.Limits.{notice_in, registered_in, lines_in, line_at, judged_in, limit_at, limit_in, maximum_limit_for, own_limits_for, border_limits_for, else_by, first_passed}
 use Rattle.judge_limits.specs.declared.Limit as Code
 use Rattle.std.specs.declared.option.Option as O
 use Rattle.std.specs.Prelude.{Some, None}
@@ -137,7 +137,7 @@ module _ (H : ℕ) (own : List ℕ) (load : ℕ → ℕ) where
   unfolding first_passed limit_rows first_row given_by
   at-end ls n e = rw (drop_all n ls e) refl
 
-  module _ (most : H ≤ 25) (u : Unit) (n g : Notice) (cs : List Notice) where
+  module _ (most : H ≤ 25) (u : Unit) (n g : Notice) (cs : List Notice) (losses : List ℕ) where
     abbrev r : Registered
     r = registered_in u n g
 
@@ -149,10 +149,10 @@ module _ (H : ℕ) (own : List ℕ) (load : ℕ → ℕ) where
     unfolding available_limit available_at notice_in limit_at
     available-row = row-same _ _ refl (λ h a b. ap some (sym (notice-hourly n.given n.energies u.maximum h H most a b)))
 
-    border-row : (line : O.Option (List ℕ)) → ((h : ℕ) → limit_at line h ≡ lessened (taken_off u g h) (border_sum (map notice_in cs) u.border h))
-        → row_by (limit_in (record { row = Border; by_hour = line })) ≡ row_by (border_limit (lines_in cs) r)
+    border-row : (line : O.Option (List ℕ)) → ((h : ℕ) → limit_at line h ≡ line_at u g cs losses h)
+        → row_by (limit_in (record { row = Border; by_hour = line })) ≡ row_by (border_limit (lines_in cs losses) r)
     unfolding border_limit
-    border-row line is = row-same _ _ refl (λ h a b. is h ∙ sym (border-lessened u n g cs h))
+    border-row line is = row-same _ _ refl (λ h a b. is h ∙ sym (border-lessened u n g cs losses h))
 
     -- a marked unit's rights; an unmarked one has no such limit
     rights-row : row_by (limit_in (record { row = Rights; by_hour = cond (not u.rights) None (Some (cond g.given g.energies (replicate 25 0))) })) ≡ row_by (rights_limit r)
@@ -160,23 +160,23 @@ module _ (H : ℕ) (own : List ℕ) (load : ℕ → ℕ) where
     rights-row = by_bool u.rights (λ t. row-same _ _ refl (λ h a b. rw t (ap some (sym (notice-hourly g.given g.energies 0 h H most a b))))) (λ t. row-same _ _ refl (λ h a b. rw t refl))
 
     -- a default lodgement's judgement
-    pub default-judged : first_passed (maximum_limit_for u ∷ []) H own load ≡ judged_in u n g cs true H own load
+    pub default-judged : first_passed (maximum_limit_for u ∷ []) H own load ≡ judged_in u n g cs losses true H own load
     unfolding first_passed maximum_limit_for limit_rows judged_in judged_by
     default-judged = ap (λ (x : Row). given_by (first_row (x ∷ []))) maximum-row
 
     -- a normal one's, in two parts: the limits that a unit has of its own, and those by its border
     abbrev by-border : Option (ℕ × ℕ)
-    by-border = given_by (first_row (limit_rows H own load (border_limits (lines_in cs) r)))
+    by-border = given_by (first_row (limit_rows H own load (border_limits (lines_in cs losses) r)))
 
-    own-parts : judged_in u n g cs false H own load ≡ else_by (first_passed (own_limits_for u n) H own load) by-border
+    own-parts : judged_in u n g cs losses false H own load ≡ else_by (first_passed (own_limits_for u n) H own load) by-border
     unfolding first_passed own_limits_for maximum_limit_for limit_rows judged_in judged_by limits own_limits border_limits
     own-parts = first-parts _ _ _ ∙ ap (λ (o : Option Row). else_by (given_by o) by-border) (sym (rows-two maximum-row available-row))
 
-    pub own-passed : (q : ℕ × ℕ) → first_passed (own_limits_for u n) H own load ≡ some q → judged_in u n g cs false H own load ≡ some q
+    pub own-passed : (q : ℕ × ℕ) → first_passed (own_limits_for u n) H own load ≡ some q → judged_in u n g cs losses false H own load ≡ some q
     unfolding else_by
     own-passed q e = own-parts ∙ rw e refl
 
-    pub own-unpassed : (line : O.Option (List ℕ)) → ((h : ℕ) → limit_at line h ≡ lessened (taken_off u g h) (border_sum (map notice_in cs) u.border h))
-        → first_passed (own_limits_for u n) H own load ≡ none → judged_in u n g cs false H own load ≡ first_passed (border_limits_for u g line) H own load
+    pub own-unpassed : (line : O.Option (List ℕ)) → ((h : ℕ) → limit_at line h ≡ line_at u g cs losses h)
+        → first_passed (own_limits_for u n) H own load ≡ none → judged_in u n g cs losses false H own load ≡ first_passed (border_limits_for u g line) H own load
     unfolding else_by first_passed border_limits_for limit_rows border_limits
     own-unpassed line is e = own-parts ∙ rw e (ap given_by (sym (rows-two (border-row line is) rights-row)))

@@ -5,7 +5,7 @@ use Rattle.rules.specs.Lists.{hourly}
 use Rattle.rules.specs.Refusals.{first_row}
 use Rattle.rules.specs.Rows.{number_of}
 use Rattle.rules.specs.declared.row.Row.TheVariants.{Maximum, Available, Border, Rights}
-use Rattle.rules.specs.Units.{Registered, Lines}
+use Rattle.rules.specs.Units.{Registered, Lines, unit_loss, border_sum, increased_sum, lessened}
 use Rattle.rules.specs.Units as U
 use Rattle.rules.specs.Lodging.{judged_by, limit_rows}
 use Rattle.session.specs.Image.{unit_in}
@@ -24,17 +24,21 @@ notice_in n = cond n.given (some n.energies) none
 abbrev pub registered_in : Unit → Notice → Notice → Registered
 registered_in u n g = record { unit = unit_in u; available = notice_in n; rights = notice_in g }
 
--- the lines, by the session's capacities
-abbrev pub lines_in : List Notice → Lines
-lines_in cs = record { capacities = map notice_in cs }
+-- the lines, by the session's capacities and losses
+abbrev pub lines_in : List Notice → List ℕ → Lines
+lines_in cs losses = record { capacities = map notice_in cs; losses = losses }
 
 -- The judgement: the first of the limits that is passed, with the lowest hour in which it is.
-unfoldable pub judged_in : Unit → Notice → Notice → List Notice → Bool → ℕ → List ℕ → (ℕ → ℕ) → Option (ℕ × ℕ)
-judged_in u n g cs only H own load = given_by (first_row (limit_rows H own load (judged_by (lines_in cs) (registered_in u n g) only)))
+unfoldable pub judged_in : Unit → Notice → Notice → List Notice → List ℕ → Bool → ℕ → List ℕ → (ℕ → ℕ) → Option (ℕ × ℕ)
+judged_in u n g cs losses only H own load = given_by (first_row (limit_rows H own load (judged_by (lines_in cs losses) (registered_in u n g) only)))
 
 -- what a unit's border sum is lessened by in an hour: its rights, or nothing for a marked one
 unfoldable pub taken_off : Unit → Notice → ℕ → ℕ
 taken_off u g h = cond u.rights 0 (cond g.given (hourly g.energies h) 0)
+
+-- limit 12 of a unit in an hour: the border sum with its loss, then less its rights
+unfoldable pub line_at : Unit → Notice → List Notice → List ℕ → ℕ → Option ℕ
+line_at u g cs losses h = lessened (taken_off u g h) (increased_sum (unit_loss losses (unit_in u)) (border_sum (map notice_in cs) u.border h))
 
 -- a limit by hour in an hour, none where it does not apply
 unfoldable pub limit_at : O.Option (List ℕ) → ℕ → Option ℕ

@@ -2,15 +2,16 @@
 #![tactic(auto)]
 
 ghost use Rattle.std.specs.Prelude.{◌≡◌, cond, map, ℕ, ◌+◌, ◌-◌, ◌<◌, ◌≤◌, replicate, get_or, length};
-ghost use Rattle.rules.specs.Units.{border_sum, lessened};
+ghost use Rattle.rules.specs.Units.{border_sum, increased, increased_sum};
 ghost use Rattle.judge_loads.specs.Loads.{IndicesIn, load_by};
 ghost use Rattle.session.specs.Parts.{said};
-ghost use Rattle.judge_limits.specs.Limits.{notice_in, taken_off, maximum_limit_for, own_limits_for, border_limits_for, first_passed, limit_at};
+ghost use Rattle.judge_limits.specs.Limits.{notice_in, line_at, maximum_limit_for, own_limits_for, border_limits_for, first_passed, limit_at};
 
 use answer::Refusal;
 use judge_loads::lowest_hour;
 use rules::row::Row;
-use rules::{DIRECTIONS, HOURS, LAST_BORDER};
+use rules::{DIRECTIONS, HOURS, LAST_BORDER, LOSSES, WHOLE};
+use session::units::unit_loss;
 use session::{Energies, Notice, Unit};
 use std::array;
 
@@ -39,10 +40,34 @@ fn together(exports: &[u32; HOURS], imports: &[u32; HOURS]) -> [u64; HOURS]
     array::from_fn(|h| u64::from(exports[h]) + u64::from(imports[h]))
 }
 
-// Limit 12 by hour: "at a border with both directions published, the sum of the two capacities".
+// The sum "becomes (sum × (10,000 + l)) / 10,000 rounded down". 10,000 + l is parted into ten thousands, of which a sound session's loss leaves one, and
+// a rest: so no product passes 64 bits, whatever loss is read.
+fn increased(loss: u32, export: u32, import: u32) -> u64
+    ensures { result ≡ increased loss (export + import) }
+{
+    let sum = u64::from(export) + u64::from(import);
+    let times = u64::from(loss / WHOLE) + 1;
+    let rest = u64::from(loss % WHOLE);
+    sum * times + sum * rest / u64::from(WHOLE)
+}
+
+// In each hour. Not inlined: most borders have no loss, and `border_limit` keeps its sums in registers there.
+#[inline(never)]
+fn increased_together(loss: u32, exports: &[u32; HOURS], imports: &[u32; HOURS]) -> [u64; HOURS]
+    ensures sums { (h : ℕ) → h < 25 → get_or result h 0 ≡ increased loss (get_or exports.now h 0 + get_or imports.now h 0) }
+    ensures long { (length result ≡ 25) × (length exports.now ≡ 25) × (length imports.now ≡ 25) }
+{
+    array::from_fn(|h| increased(loss, exports[h], imports[h]))
+}
+
+// The sum that is limit 12, by hour: "at a border with both directions published, the sum of the two capacities", by a loss.
 #[tactic(auto, using(crate::proofs::BorderLaws::border_laws))]
-pub fn border_limit(border: u32, capacities: &[Notice; DIRECTIONS]) -> Option<[u64; HOURS]>
-    ensures { (h : ℕ) → limit_at result h ≡ border_sum (map notice_in capacities.now) border h }
+pub fn border_limit(
+    border: u32,
+    loss: u32,
+    capacities: &[Notice; DIRECTIONS],
+) -> Option<[u64; HOURS]>
+    ensures { (h : ℕ) → limit_at result h ≡ increased_sum loss (border_sum (map notice_in capacities.now) border h) }
 {
     let 1..=LAST_BORDER = border else {
         return None;
@@ -53,7 +78,10 @@ pub fn border_limit(border: u32, capacities: &[Notice; DIRECTIONS]) -> Option<[u
     if !export.given || !import.given {
         return None;
     }
-    Some(together(&export.energies, &import.energies))
+    if loss == 0 {
+        return Some(together(&export.energies, &import.energies));
+    }
+    Some(increased_together(loss, &export.energies, &import.energies))
 }
 
 // "lessened by them, never below 0" in each hour.
@@ -64,18 +92,21 @@ fn less(sums: &[u64; HOURS], rights: &[u32; HOURS]) -> [u64; HOURS]
     array::from_fn(|h| sums[h].saturating_sub(u64::from(rights[h])))
 }
 
-// Limit 12 of a unit by hour: "An unmarked one's border sum is lessened by" the rights. Where no sum applies nothing is lessened.
+// Limit 12 of a unit by hour: the sum with its loss, "before rights come off"; "An unmarked one's border sum is lessened by them". Where no sum applies
+// nothing is lessened.
 pub fn unit_line(
     unit: &Unit,
     rights: &Notice,
     capacities: &[Notice; DIRECTIONS],
+    losses: &[u32; LOSSES],
 ) -> Option<[u64; HOURS]>
-    ensures { (h : ℕ) → limit_at result h ≡ lessened (taken_off unit.now rights.now h) (border_sum (map notice_in capacities.now) unit.now.border h) }
+    ensures { (h : ℕ) → limit_at result h ≡ line_at unit.now rights.now capacities.now losses.now h }
 {
+    let loss = unit_loss(unit, losses);
     if unit.rights || !rights.given {
-        return border_limit(unit.border, capacities);
+        return border_limit(unit.border, loss, capacities);
     }
-    let Some(sums) = border_limit(unit.border, capacities) else {
+    let Some(sums) = border_limit(unit.border, loss, capacities) else {
         return None;
     };
     Some(less(&sums, &rights.energies))

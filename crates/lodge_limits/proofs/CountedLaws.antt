@@ -48,6 +48,6 @@ module _ (s : Session) (p : Pending) (a : Awaits s p) (long : length s.energies 
 
 -- by whether it is a default one
 pub by-default : (s : Session) (p : Pending) (default : Bool) → p.fields.default ≡ default
-    → judged_in p.holder.unit (get_or s.notices p.holder.at bare_notice) (get_or s.rights p.holder.at bare_notice) s.capacities default s.hours p.fields.energies (load_for s p) ≡ judged_for s p
+    → judged_in p.holder.unit (get_or s.notices p.holder.at bare_notice) (get_or s.rights p.holder.at bare_notice) s.capacities s.losses default s.hours p.fields.energies (load_for s p) ≡ judged_for s p
 by-default s p default e =
-    ap (λ (d : Bool). judged_in p.holder.unit (get_or s.notices p.holder.at bare_notice) (get_or s.rights p.holder.at bare_notice) s.capacities d s.hours p.fields.energies (load_for s p)) (sym e)
+    ap (λ (d : Bool). judged_in p.holder.unit (get_or s.notices p.holder.at bare_notice) (get_or s.rights p.holder.at bare_notice) s.capacities s.losses d s.hours p.fields.energies (load_for s p)) (sym e)

@@ -11,7 +11,7 @@ use Rattle.session.specs.Parts.{said, given_by}
 use Rattle.session.specs.declared.Session.{Session}
 use Rattle.answer.specs.declared.Refusal.{Refusal}
 use Rattle.std.specs.declared.result.Result.{Result}
-use Rattle.session.proofs.ImageLaws.{hours-as, capacities-as, notice-as, rights-at}
+use Rattle.session.proofs.ImageLaws.{hours-as, capacities-as, losses-as, notice-as, rights-at}
 use Rattle.judge_loads.specs.Loads.{load_in}
 use Rattle.judge_limits.proofs.NoticeLaws.{judged-by}
 use Rattle.lodge_keys.specs.Beside.{marks_for}
@@ -30,6 +30,6 @@ judged-for s p j a t b e =
     let registered = U.unit_of b.units m.unit in
     let i = p.holder.at in
     t
-    ∙ (judged-by registered (lines_of b) s.hours m.energies (load_in m.energies (marks_for s m) (take s.standing s.energies)) _ _ _ _ m.default (L.judged_at b.standing (fields_in m))
-    (found-as s b e m.unit p.holder a.holder) (notice-as s b e m.unit i a.holder.index a.holder.inside bare_notice) (rights-at s b e m.unit i a.holder.index a.holder.inside bare_notice) (capacities-as s b e) (λ h low high. load-as s b e m h)
+    ∙ (judged-by registered (lines_of b) s.hours m.energies (load_in m.energies (marks_for s m) (take s.standing s.energies)) _ _ _ _ _ m.default (L.judged_at b.standing (fields_in m))
+    (found-as s b e m.unit p.holder a.holder) (notice-as s b e m.unit i a.holder.index a.holder.inside bare_notice) (rights-at s b e m.unit i a.holder.index a.holder.inside bare_notice) (capacities-as s b e) (sym (losses-as s b e)) (λ h low high. load-as s b e m h)
     ∙ ap (λ H. given_by (first_row (L.limit_rows H m.energies (L.judged_at b.standing (fields_in m)) (L.judged_by (lines_of b) registered m.default)))) (sym (hours-as s b e)))

@@ -33,7 +33,7 @@ passed_for s p limits = first_passed limits s.hours p.fields.energies (load_for 
 
 -- that by the limits of its unit, with its notices
 abbrev pub judged_with : Session → Pending → Notice → Notice → Option (ℕ × ℕ)
-judged_with s p notice rights = judged_in p.holder.unit notice rights s.capacities p.fields.default s.hours p.fields.energies (load_for s p)
+judged_with s p notice rights = judged_in p.holder.unit notice rights s.capacities s.losses p.fields.default s.hours p.fields.energies (load_for s p)
 
 -- with those that the session keeps
 abbrev pub judged_for : Session → Pending → Option (ℕ × ℕ)

@@ -80,7 +80,7 @@ pub fn judge(s: &Session, p: &Pending) -> Result<(), Refusal>
     let near = own_limits(unit, &s.notices[p.holder.at]);
     judge_by(s, p, &sums, &near)?;
     let rights = &s.rights[p.holder.at];
-    let line = unit_line(unit, rights, &s.capacities);
+    let line = unit_line(unit, rights, &s.capacities, &s.losses);
     let far = border_limits(unit, rights, line);
     judge_by(s, p, &sums, &far)
 }

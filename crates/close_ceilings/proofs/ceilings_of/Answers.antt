@@ -11,5 +11,5 @@ loop-p-preserved c =
     let a = c.args in
     record {
       long = rw (c.push.ensures.items, length-append l.ceilings.items (c.ceilings_at.result ∷ [])) (ap (λ n. n + 1) l.invariant.long);
-      ceilings = λ cs lent. rw (c.push.ensures.items) (ceilings_more a.units.now a.notices.now a.rights.now cs l.ceilings.items c.ceilings_at.result l.p l.invariant.long (c.ceilings_at.ensures cs lent) (l.invariant.ceilings cs lent));
+      ceilings = λ cs losses lent. rw (c.push.ensures.items) (ceilings_more a.units.now a.notices.now a.rights.now cs losses l.ceilings.items c.ceilings_at.result l.p l.invariant.long (c.ceilings_at.ensures cs losses lent) (l.invariant.ceilings cs losses lent));
     }
