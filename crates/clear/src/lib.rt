@@ -53,7 +53,11 @@ fn clear_hours(s: &Session) -> DayEnd
     requires { Within s.now }
     ensures { HoursAs s.now s.now.hours result.figures result.steps }
 {
-    let holders = clear_gather::holders_of(&s.units[..s.enrolled], &s.lodgements[..s.standing]);
+    let holders = clear_gather::holders_of(
+        &s.units[..s.enrolled],
+        &s.losses,
+        &s.lodgements[..s.standing],
+    );
     let none = session::no_figures();
     let n = s.hours as usize;
     let mut figures = [none; HOURS];

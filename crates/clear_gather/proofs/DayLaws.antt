@@ -21,7 +21,7 @@ use Rattle.session.specs.Laid.{pad}
 use Rattle.session.specs.Image as I
 use Rattle.session.specs.Parts.{number_is}
 use Rattle.session.proofs.IndexLaws.{get_or-map}
-use Rattle.session.proofs.ImageLaws.{units-as, lodgements-as}
+use Rattle.session.proofs.ImageLaws.{units-as, lodgements-as, losses-as}
 use Rattle.rules.specs.Match as M
 use Rattle.rules.specs.Clearing as R
 use Rattle.hour_offers.specs.declared.Holder.{Holder}
@@ -29,8 +29,8 @@ use Rattle.hour_offers.specs.View.{holder_in}
 use Rattle.clear_gather.specs.Built.{unit_among, holder_of, no_holder, Holders, counts, counts_at, energy_on, chosen}
 use Rattle.clear_gather.proofs.ListLaws.{all-indices, laid-at, first-map}
 
-abbrev holder_with : ℕ → Unit → M.Holder
-holder_with n u = record { number = n; unit = u.number; border = u.border; purchase = u.purchase; legacy = u.legacy }
+abbrev holder_with : ℕ → List ℕ → Unit → M.Holder
+holder_with n losses u = record { number = n; unit = u.number; border = u.border; purchase = u.purchase; legacy = u.legacy; loss = U.unit_loss losses (I.unit_in u) }
 
 abbrev pub blank : L.Lodgement
 blank = record { key = record { execution = false; default = false; unit = 0; contract = 0 }; number = 0; energies = []; prices = [] }
@@ -120,15 +120,15 @@ module _ (s : Session) (b : B.Book) (e : s ≡ I.image b) where
   unfolding unit_among U.unit_of U.has_number
   among-as n = first-map U.nobody I.unit_of (number_is n) b.units
 
-  pub holders-as : (hs : List Holder) → Holders s hs → hs ≡ map (λ l. holder_of (map I.unit_of b.units) (I.lodgement_as l)) b.standing
-  holders-as hs c = c ∙ (rw (units-as s b e, lodgements-as s b e) (map-map (holder_of (map I.unit_of b.units)) I.lodgement_as b.standing))
+  pub holders-as : (hs : List Holder) → Holders s hs → hs ≡ map (λ l. holder_of (map I.unit_of b.units) b.losses (I.lodgement_as l)) b.standing
+  holders-as hs c = c ∙ (rw (units-as s b e, lodgements-as s b e, ← (losses-as s b e)) (map-map (holder_of (map I.unit_of b.units) b.losses) I.lodgement_as b.standing))
 
-  pub holder-at : (hs : List Holder) → Holders s hs → (i : ℕ) → i < length b.standing → holder_in (get_or hs i no_holder) ≡ R.holder_of b.units (standing b i)
+  pub holder-at : (hs : List Holder) → Holders s hs → (i : ℕ) → i < length b.standing → holder_in (get_or hs i no_holder) ≡ R.holder_of b.units b.losses (standing b i)
   unfolding R.holder_of holder_of
   holder-at hs c i h =
       ap (λ (x : List Holder). holder_in (get_or x i no_holder)) (holders-as hs c)
-      ∙ (ap holder_in (get_or-map (λ l. holder_of (map I.unit_of b.units) (I.lodgement_as l)) blank no_holder b.standing i h)
-      ∙ ap (λ (u : Unit). holder_with (standing b i).number u) (among-as (standing b i).key.unit))
+      ∙ (ap holder_in (get_or-map (λ l. holder_of (map I.unit_of b.units) b.losses (I.lodgement_as l)) blank no_holder b.standing i h)
+      ∙ ap (λ (u : Unit). holder_with (standing b i).number b.losses u) (among-as (standing b i).key.unit))
 
   pub holders-long : (hs : List Holder) → Holders s hs → length hs ≡ length b.standing
   holders-long hs c = ap length (holders-as hs c) ∙ length-map b.standing _

@@ -18,7 +18,7 @@ use Rattle.rules.specs.Book as B
 use Rattle.rules.specs.Judging.{is_accepted}
 use Rattle.rules.specs.Closing as C
 use Rattle.rules.specs.Match.{Holder, Offer}
-use Rattle.rules.specs.Borders.{Directed, Execution}
+use Rattle.rules.specs.Borders.{Directed, Execution, runs}
 use Rattle.rules.specs.Clearing as R
 use Rattle.rules.specs.DayBook.{entry}
 use Rattle.rules.specs.Sound as S
@@ -44,7 +44,7 @@ use Rattle.hour.proofs.PairLaws.{all-last-ones, last_apart}
 use Rattle.hour.proofs.LineLaws.{capacity-abroad, capacity-home}
 use Rattle.session.proofs.LaidLaws.{any-map}
 use Rattle.session.specs.Image as I
-use Rattle.clear_gather.specs.Holding.{Holding, unit_for, lodgement_for, offer_for, execution_for, insert_all, published_for, notice_for, book_of}
+use Rattle.clear_gather.specs.Holding.{Holding, unit_for, lodgement_for, offer_for, execution_for, insert_all, published_for, notice_for, loss_among, book_of}
 use Rattle.clear_gather.proofs.ListLaws.{flat, kept-flat, eight}
 use Rattle.clear_gather.proofs.HourLaws.{hour-same}
 use Rattle.clear_gather.proofs.RangeLaws.{first_one}
@@ -135,7 +135,7 @@ module _ (execution : Bool) (x : Holder) (energy price : ℕ) (s : Said executio
 -- Units
 
 unit-parts : {n m c d : ℕ} {p q l k : Bool} → n ≡ m → c ≡ d → p ≡ q → l ≡ k
-    → unit_for (record { number = 0; unit = n; border = c; purchase = p; legacy = l }) ≡ unit_for (record { number = 0; unit = m; border = d; purchase = q; legacy = k })
+    → unit_for (record { number = 0; unit = n; border = c; purchase = p; legacy = l; loss = 0 }) ≡ unit_for (record { number = 0; unit = m; border = d; purchase = q; legacy = k; loss = 0 })
 unit-parts a b c d = rw (a, b, c, d)
 
 unit-same : (x y : Holder) → x.unit ≡ y.unit → SameUnit x y → unit_for x ≡ unit_for y
@@ -222,6 +222,34 @@ unfolding optional published_for hourly
 optional-held None = refl
 optional-held (Given energy) = refl
 
+-- Losses
+
+-- two of one border and side have one loss
+abbrev OneLoss : Execution → Execution → Type 0
+OneLoss x y = x.holder.border ≡ y.holder.border → x.holder.purchase ≡ y.holder.purchase → x.holder.loss ≡ y.holder.loss
+
+-- of a purchase's border its own loss is found
+loss-among : (y : Execution) → y.holder.purchase ≡ true → {zs : List Execution} → Some (λ z. z ≡ y) zs → All (λ z. OneLoss z y) zs → loss_among zs y.holder.border ≡ y.holder.loss
+unfolding loss_among runs
+loss-among y p (here {x = z} e) (more f t) =
+    let own : runs y.holder.border true z.holder ≡ true = rw (e, eq-eqb y.holder.border y.holder.border refl, p) refl in
+    rw own (ap (λ (x : Execution). x.holder.loss) e)
+loss-among y p (there {x = z} s) (more f t) =
+    by_bool (runs y.holder.border true z.holder)
+    (λ u. let a = both _ _ u in rw u (f (eqb-true _ _ a.0) (beq-true _ _ a.1 ∙ sym p)))
+    (λ u. rw u (loss-among y p s t))
+
+most-among : (border : ℕ) {zs : List Execution} → All (λ z. z.holder.loss ≤ U.max_loss) zs → loss_among zs border ≤ U.max_loss
+unfolding loss_among
+most-among border none = omega arith
+most-among border (more {x = z} h t) = by_bool (runs border true z.holder) (λ u. rw u h) (λ u. rw u (most-among border t))
+
+domestic-among : {zs : List Execution} → All (λ z. z.holder.border ≡ 0 → z.holder.loss ≡ 0) zs → loss_among zs 0 ≡ 0
+unfolding loss_among runs
+domestic-among none = refl
+domestic-among (more {x = z} h t) =
+    by_bool (runs 0 true z.holder) (λ u. rw u (h (eqb-true _ _ (both _ _ u).0))) (λ u. rw u (domestic-among t))
+
 module _ (h : Hour) (r : Ready h) where
   abbrev ls : List Execution
   ls = lodgements_of (hour_in h)
@@ -239,7 +267,15 @@ module _ (h : Hour) (r : Ready h) where
   unfolding lodgements_of
   ranged =
       all_append (all-mapped lodgement_of (all_map (λ o g. g.holder) r.ranges.offers))
-      (all_map (λ y g. record { number = g.holder.number; unit = g.holder.unit; border = (omega arith, g.holder.border.1); legacy = g.holder.legacy }) r.ranges.executions)
+      (all_map (λ y g. record {
+        number = g.holder.number;
+        unit = g.holder.unit;
+        border = (omega arith, g.holder.border.1);
+        legacy = g.holder.legacy;
+        loss = g.holder.loss;
+        sale = g.holder.sale;
+        domestic = g.holder.domestic;
+      }) r.ranges.executions)
 
   units-sound : S.UnitsSound 24 us
   unfolding same_unit
@@ -255,10 +291,36 @@ module _ (h : Hour) (r : Ready h) where
     partnered = all-mapped (λ y. unit_for y.holder) (all-every (λ y e. absurd (false≢true e)) (last_ones same_unit ls));
   }
 
+  -- Losses
+
+  abbrev losses : List ℕ
+  losses = map (loss_among ls) (from 0 5)
+
+  loss-at : (c : ℕ) → c < 5 → U.loss_of losses c ≡ loss_among ls c
+  unfolding U.loss_of
+  loss-at c m = from-at (loss_among ls) 0 0 5 c m ∙ ap (loss_among ls) (omega arith)
+
+  losses-sound : S.LossesSound losses
+  losses-sound = record {
+    count = length-map (from 0 5) (loss_among ls) ∙ length_from 0 5;
+    domestic = loss-at 0 (omega arith) ∙ domestic-among (all_map (λ y g. g.domestic) ranged);
+    range = all-mapped (loss_among ls) (all-every (λ c. most-among c (all_map (λ y g. g.loss) ranged)) (from 0 5));
+  }
+
+  -- a lodgement's is its unit's
+  losses-held : All (λ y. U.unit_loss losses (unit_for y.holder).unit ≡ y.holder.loss) ls
+  unfolding U.unit_loss
+  losses-held =
+      all_both {P = λ y. Some (λ z. z ≡ y) ls × All (λ z. OneLoss z y) ls} {Q = λ y. HolderWithin 0 y.holder}
+      (λ y s g. by_bool y.holder.purchase
+      (λ t. rw t (loss-at y.holder.border (omega (arith, g.border.1)) ∙ loss-among y t s.0 s.1))
+      (λ t. rw t (sym (g.sale t))))
+      (all_both (λ y s a. (s, a)) (each-among ls) (every_two (λ y b p. refl) (λ y z f b p. sym (f (sym b) (sym p))) r.units.losses)) ranged
+
   -- a lodgement's unit is found
-  found : All (λ y. (U.is_registered us y.holder.unit ≡ true) × (U.unit_of us y.holder.unit ≡ unit_for y.holder)) ls
+  units-found : All (λ y. (U.is_registered us y.holder.unit ≡ true) × (U.unit_of us y.holder.unit ≡ unit_for y.holder)) ls
   unfolding U.is_registered U.unit_of U.has_number
-  found =
+  units-found =
       all_both (λ y s a.
       let u = y.holder.unit in
       let t : any (U.has_number u) us ≡ true = any-map (λ z. unit_for z.holder) (U.has_number u) (last_ones same_unit ls) ∙ some-any (λ z. eqb z.holder.unit u) (some-map (λ z e. eq-eqb _ _ e) s) in (
@@ -270,8 +332,12 @@ module _ (h : Hour) (r : Ready h) where
       (last_has ls)
       (every_two (λ y e. record { border = refl; purchase = refl; legacy = refl }) (λ y z f e. let s = f (sym e) in record { border = sym s.border; purchase = sym s.purchase; legacy = sym s.legacy }) r.units.agree)
 
+  -- with its loss
   abbrev Found : Holder → Type 0
-  Found x = (U.is_registered us x.unit ≡ true) × (U.unit_of us x.unit ≡ unit_for x)
+  Found x = (U.is_registered us x.unit ≡ true) × ((U.unit_of us x.unit ≡ unit_for x) × (U.unit_loss losses (unit_for x).unit ≡ x.loss))
+
+  found : All (λ y. Found y.holder) ls
+  found = all_both (λ y f l. (f.0, (f.1, l))) units-found losses-held
 
   offers-found : All (λ o. Found o.holder) (hour_in h).offers
   unfolding lodgements_of
@@ -322,7 +388,7 @@ module _ (h : Hour) (r : Ready h) where
   unfolding L.domestic_execution U.domestic
   holders =
       all_inserted (all-mapped offer_for (all_map (λ o f. record { registered = f.0; border = refl }) offers-found))
-      (all-mapped execution_for (all_both (λ y f g. record { registered = f.0; border = ap (λ (q : U.Registered). eqb q.unit.border 0) f.1 ∙ ne_eqb y.holder.border 0 (λ z. absurd (omega (arith, g.holder.border.0))) }) executions-found r.ranges.executions))
+      (all-mapped execution_for (all_both (λ y f g. record { registered = f.0; border = ap (λ (q : U.Registered). eqb q.unit.border 0) f.1.0 ∙ ne_eqb y.holder.border 0 (λ z. absurd (omega (arith, g.holder.border.0))) }) executions-found r.ranges.executions))
 
   standing-sound : S.StandingSound 24 us (insert_all os xs) 65535
   unfolding M.top_price
@@ -357,6 +423,7 @@ module _ (h : Hour) (r : Ready h) where
       units = rw hours-day units-sound;
       capacities = rw hours-day notices-sound;
       standing = rw hours-day standing-sound;
+      losses = losses-sound;
       stage = λ e. absurd (false≢true e);
     };
     directions = length-map (from 0 8) (notice_for h.capacities) ∙ length_from 0 8;
@@ -404,9 +471,9 @@ module _ (h : Hour) (r : Ready h) where
   -- Ceilings
 
   limits-held : (y : Execution) → U.unit_of us y.holder.unit ≡ unit_for y.holder
-      → B.limits_of (book_of h) y.holder.unit ≡ U.limits (record { capacities = notice }) (unit_for y.holder)
+      → B.limits_of (book_of h) y.holder.unit ≡ U.limits (record { capacities = notice; losses = losses }) (unit_for y.holder)
   unfolding B.limits_of book_of
-  limits-held y f = ap (U.limits (record { capacities = notice })) f
+  limits-held y f = ap (U.limits (record { capacities = notice; losses = losses })) f
 
   -- without rights nothing is taken off
   lessened-none : (s : Maybe ℕ) → U.lessened 0 s ≡ s
@@ -414,26 +481,29 @@ module _ (h : Hour) (r : Ready h) where
   lessened-none nothing = refl
   lessened-none (some s) = ap some (omega arith)
 
-  limits-kept : (y : Execution) → y.holder.border < 5 → unit_energy ls y.holder.unit ≤ U.max_energy
-      → U.passes (unit_energy ls y.holder.unit) (line_in (hour_in h).capacities y.holder.border) ≡ false
-      → any (λ k. U.passes (unit_energy ls y.holder.unit) (k.at 1)) (U.limits (record { capacities = notice }) (unit_for y.holder)) ≡ false
-  unfolding U.limits U.own_limits U.border_limits U.maximum_limit U.available_limit U.border_limit U.rights_limit U.available_at U.rights_at U.passes
-  limits-kept y l m q =
-      let e = unit_energy ls y.holder.unit in
-      of-any-false (λ k. U.passes e (k.at 1)) (more (le-ltb U.max_energy e m) (more (le-ltb U.max_energy e m) (more (ap (U.passes e) (lessened-none _ ∙ line-held y.holder.border l) ∙ q) (more refl none))))
+  -- a lodgement's energy does not pass limit 12
+  abbrev Unpassed : Execution → Type 0
+  Unpassed y = U.passes (unit_energy ls y.holder.unit) (U.increased_sum y.holder.loss (line_in (hour_in h).capacities y.holder.border)) ≡ false
 
-  ceiling-held : (y : Execution) → U.unit_of us y.holder.unit ≡ unit_for y.holder → y.holder.border < 5 → unit_energy ls y.holder.unit ≤ U.max_energy
-      → U.passes (unit_energy ls y.holder.unit) (line_in (hour_in h).capacities y.holder.border) ≡ false → unit_energy ls y.holder.unit ≤ B.ceiling_of (book_of h) y.holder.unit 1
+  limits-kept : (y : Execution) → U.unit_loss losses (unit_for y.holder).unit ≡ y.holder.loss → y.holder.border < 5 → unit_energy ls y.holder.unit ≤ U.max_energy → Unpassed y
+      → any (λ k. U.passes (unit_energy ls y.holder.unit) (k.at 1)) (U.limits (record { capacities = notice; losses = losses }) (unit_for y.holder)) ≡ false
+  unfolding U.limits U.own_limits U.border_limits U.maximum_limit U.available_limit U.border_limit U.rights_limit U.available_at U.rights_at U.passes
+  limits-kept y i l m q =
+      let e = unit_energy ls y.holder.unit in
+      of-any-false (λ k. U.passes e (k.at 1)) (more (le-ltb U.max_energy e m) (more (le-ltb U.max_energy e m) (more (ap (U.passes e) (lessened-none _ ∙ ap₂ U.increased_sum i (line-held y.holder.border l)) ∙ q) (more refl none))))
+
+  ceiling-held : (y : Execution) → Found y.holder → y.holder.border < 5 → unit_energy ls y.holder.unit ≤ U.max_energy → Unpassed y
+      → unit_energy ls y.holder.unit ≤ B.ceiling_of (book_of h) y.holder.unit 1
   ceiling-held y f l m q =
       ltb-false (B.ceiling_of (book_of h) y.holder.unit 1) (unit_energy ls y.holder.unit) (over-ceiling (book_of h) y.holder.unit 1 (unit_energy ls y.holder.unit) ∙ unpassed)
     where
       unpassed : any (λ k. U.passes (unit_energy ls y.holder.unit) (k.at 1)) (B.limits_of (book_of h) y.holder.unit) ≡ false
-      unpassed = ap (λ rs. any (λ k. U.passes (unit_energy ls y.holder.unit) (k.at 1)) rs) (limits-held y f) ∙ limits-kept y l m q
+      unpassed = ap (λ rs. any (λ k. U.passes (unit_energy ls y.holder.unit) (k.at 1)) rs) (limits-held y f.1.0) ∙ limits-kept y f.1.1 l m q
 
   ceilings : All (λ y. unit_energy ls y.holder.unit ≤ B.ceiling_of (book_of h) y.holder.unit 1) ls
   ceilings =
       all_both {P = λ y. Found y.holder × HolderWithin 0 y.holder}
-      {Q = λ y. (unit_energy ls y.holder.unit ≤ U.max_energy) × (U.passes (unit_energy ls y.holder.unit) (line_in (hour_in h).capacities y.holder.border) ≡ false)} (λ y f q. ceiling-held y f.0.1 (omega (arith, f.1.border.1)) q.0 q.1)
+      {Q = λ y. (unit_energy ls y.holder.unit ≤ U.max_energy) × Unpassed y} (λ y f q. ceiling-held y f.0 (omega (arith, f.1.border.1)) q.0 q.1)
       (all_both (λ y p q. (p, q)) found ranged) (all_both (λ y p q. (p, q)) r.units.maxima r.units.lines)
 
   -- what holds of a lodgement's unit in the hour holds of it in the book
@@ -530,15 +600,22 @@ module _ (h : Hour) (r : Ready h) where
   unmatched = all-mapped fresh_in (all-every (λ o. refl) h.offers.items)
 
   abbrev holder_by : ℕ → U.Registered → Holder
-  holder_by n q = record { number = n; unit = q.unit.number; border = q.unit.border; purchase = q.unit.purchase; legacy = q.unit.legacy }
+  holder_by n q = record { number = n; unit = q.unit.number; border = q.unit.border; purchase = q.unit.purchase; legacy = q.unit.legacy; loss = U.unit_loss losses q.unit }
 
-  offer-back : (o : Offer) → Found o.holder → o.matched ≡ 0 → R.offer_at us 1 (offer_for o) ≡ o
+  abbrev with_loss : Holder → ℕ → Holder
+  with_loss x l = record { number = x.number; unit = x.unit; border = x.border; purchase = x.purchase; legacy = x.legacy; loss = l }
+
+  -- its holder is the rules'
+  holder-back : (x : Holder) → Found x → holder_by x.number (U.unit_of us x.unit) ≡ x
+  holder-back x f = ap (holder_by x.number) f.1.0 ∙ ap (with_loss x) f.1.1
+
+  offer-back : (o : Offer) → Found o.holder → o.matched ≡ 0 → R.offer_at us losses 1 (offer_for o) ≡ o
   unfolding R.offer_at R.holder_of L.energy_at hourly
-  offer-back o f m = ap₂ (λ q n. record { holder = holder_by o.holder.number q; price = o.price; offered = o.offered; matched = n }) f.1 (sym m)
+  offer-back o f m = ap₂ (λ x n. record { holder = x; price = o.price; offered = o.offered; matched = n }) (holder-back o.holder f) (sym m)
 
-  execution-back : (y : Execution) → Found y.holder → R.execution_at us 1 (execution_for y) ≡ y
+  execution-back : (y : Execution) → Found y.holder → R.execution_at us losses 1 (execution_for y) ≡ y
   unfolding R.execution_at R.holder_of L.energy_at hourly
-  execution-back y f = ap (λ q. record { holder = holder_by y.holder.number q; energy = y.energy }) f.1
+  execution-back y f = ap (λ x. record { holder = x; energy = y.energy }) (holder-back y.holder f)
 
   named-all : keep (λ l. ltb 0 (L.energy_at l 1)) (insert_all os xs) ≡ insert_all os xs
   named-all = keep_all (λ l. ltb 0 (L.energy_at l 1)) (all_map (λ l p. lt-ltb 0 (L.energy_at l 1) p.named) plain)
@@ -547,8 +624,8 @@ module _ (h : Hour) (r : Ready h) where
   unfolding R.hour_of_day book_of
   hour-held =
       hour-same capacities-held
-      (ap (λ ks. map (R.offer_at us 1) (keep (λ l. not l.key.execution) ks)) named-all ∙ (ap (map (R.offer_at us 1)) offers-kept ∙ map_back offer_for (R.offer_at us 1) (all_both offer-back offers-found unmatched)))
-      (ap (λ ks. map (R.execution_at us 1) (keep (λ l. l.key.execution) ks)) named-all ∙ (ap (map (R.execution_at us 1)) executions-kept ∙ map_back execution_for (R.execution_at us 1) (all_map execution-back executions-found)))
+      (ap (λ ks. map (R.offer_at us losses 1) (keep (λ l. not l.key.execution) ks)) named-all ∙ (ap (map (R.offer_at us losses 1)) offers-kept ∙ map_back offer_for (R.offer_at us losses 1) (all_both offer-back offers-found unmatched)))
+      (ap (λ ks. map (R.execution_at us losses 1) (keep (λ l. l.key.execution) ks)) named-all ∙ (ap (map (R.execution_at us losses 1)) executions-kept ∙ map_back execution_for (R.execution_at us losses 1) (all_map execution-back executions-found)))
 
   book-closed : (book_of h).closed ≡ true
   unfolding book_of

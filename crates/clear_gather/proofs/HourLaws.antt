@@ -100,20 +100,20 @@ module _ (s : Session) (b : B.Book) (e : s ≡ I.image b) (closed : b.closed ≡
   unfolding price_on
   price-as i l = ap (λ (g : Energies). get_or g.prices k 0) (energies-at s b e i l) ∙ sym (hourly-suc (standing b i).prices k)
 
-  pub offers-as : map fresh_in h.offers.items ≡ map (R.offer_at b.units (suc k)) (keep (chosen_in b false k) b.standing)
+  pub offers-as : map fresh_in h.offers.items ≡ map (R.offer_at b.units b.losses (suc k)) (keep (chosen_in b false k) b.standing)
   unfolding R.offer_at
   offers-as =
       ap (map fresh_in) t.offers
       ∙ (map-map fresh_in (offer_on s hs k) _
-      ∙ gathered s b e closed false k (R.offer_at b.units (suc k)) (λ i. fresh_in (offer_on s hs k i)) (length hs) (holders-long s b e hs holders)
+      ∙ gathered s b e closed false k (R.offer_at b.units b.losses (suc k)) (λ i. fresh_in (offer_on s hs k i)) (length hs) (holders-long s b e hs holders)
       (λ i l. offer-same (holder-at s b e hs holders i l) (price-as i l) (energy-as i l)))
 
-  pub executions-as : map execution_in h.executions.items ≡ map (R.execution_at b.units (suc k)) (keep (chosen_in b true k) b.standing)
+  pub executions-as : map execution_in h.executions.items ≡ map (R.execution_at b.units b.losses (suc k)) (keep (chosen_in b true k) b.standing)
   unfolding R.execution_at
   executions-as =
       ap (map execution_in) t.executions
       ∙ (map-map execution_in (execution_on s hs k) _
-      ∙ gathered s b e closed true k (R.execution_at b.units (suc k)) (λ i. execution_in (execution_on s hs k i)) (length hs) (holders-long s b e hs holders)
+      ∙ gathered s b e closed true k (R.execution_at b.units b.losses (suc k)) (λ i. execution_in (execution_on s hs k i)) (length hs) (holders-long s b e hs holders)
       (λ i l. execution-same (holder-at s b e hs holders i l) (energy-as i l)))
 
   -- the hour is the book's
@@ -122,5 +122,5 @@ module _ (s : Session) (b : B.Book) (e : s ≡ I.image b) (closed : b.closed ≡
   hour-as g =
       hour-same
       (capacities-said s b e g k h.capacities t.capacities)
-      (offers-as ∙ ap (map (R.offer_at b.units (suc k))) (sym (named-offers b k)))
-      (executions-as ∙ ap (map (R.execution_at b.units (suc k))) (sym (named-executions b k)))
+      (offers-as ∙ ap (map (R.offer_at b.units b.losses (suc k))) (sym (named-offers b k)))
+      (executions-as ∙ ap (map (R.execution_at b.units b.losses (suc k))) (sym (named-executions b k)))

@@ -83,11 +83,11 @@ module _ (b : B.Book) (sound : S.Sound b) (h : ℕ) (start : 1 ≤ h) where
   abbrev day : R.Hour
   day = R.hour_of_day b (C.accepted_at b) h
 
-  made : lodgements_of day ≡ map (R.execution_at b.units h) taken
+  made : lodgements_of day ≡ map (R.execution_at b.units b.losses h) taken
   unfolding lodgements_of R.hour_of_day R.offer_at R.execution_at
   made =
-      ap (λ (l : List Execution). l ++ map (R.execution_at b.units h) (keep (λ l. l.key.execution) among)) (map-map lodgement_of (R.offer_at b.units h) (keep (λ l. not l.key.execution) among))
-      ∙ sym (map-parts (R.execution_at b.units h) (keep (λ l. not l.key.execution) among) (keep (λ l. l.key.execution) among))
+      ap (λ (l : List Execution). l ++ map (R.execution_at b.units b.losses h) (keep (λ l. l.key.execution) among)) (map-map lodgement_of (R.offer_at b.units b.losses h) (keep (λ l. not l.key.execution) among))
+      ∙ sym (map-parts (R.execution_at b.units b.losses h) (keep (λ l. not l.key.execution) among) (keep (λ l. l.key.execution) among))
 
   -- what holds of all that stand holds of them
   all-taken : {P : L.Lodgement → Type 0} → All P b.standing → All P taken
@@ -109,48 +109,55 @@ module _ (b : B.Book) (sound : S.Sound b) (h : ℕ) (start : 1 ≤ h) where
       pairwise_append (pairwise-apart (λ k l f e. f (sym e)) (λ l. not l.key.execution) (λ l. l.key.execution) (λ l e. not-true l.key.execution e) d)
       (pairwise-keep (λ l. not l.key.execution) d) (pairwise-keep (λ l. l.key.execution) d)
 
-  numbers-made : Pairwise (λ k l. k.holder.number ≡ l.holder.number → ⊥) (map (R.execution_at b.units h) taken)
+  numbers-made : Pairwise (λ k l. k.holder.number ≡ l.holder.number → ⊥) (map (R.execution_at b.units b.losses h) taken)
   unfolding R.execution_at R.holder_of
-  numbers-made = pairwise_map (R.execution_at b.units h) (λ k l f. f) numbers
+  numbers-made = pairwise_map (R.execution_at b.units b.losses h) (λ k l f. f) numbers
 
   -- Units
 
   same-unit : (k l : L.Lodgement) → Own k → Own l → (U.unit_of b.units k.key.unit).unit.number ≡ (U.unit_of b.units l.key.unit).unit.number → k.key.unit ≡ l.key.unit
   same-unit k l p q e = sym p.1 ∙ e ∙ q.1
 
-  agree : Pairwise (λ k l. k.holder.unit ≡ l.holder.unit → SameUnit k.holder l.holder) (map (R.execution_at b.units h) taken)
+  agree : Pairwise (λ k l. k.holder.unit ≡ l.holder.unit → SameUnit k.holder l.holder) (map (R.execution_at b.units b.losses h) taken)
   unfolding R.execution_at R.holder_of
   agree =
-      pairwise_map (R.execution_at b.units h) (λ k l f. f)
+      pairwise_map (R.execution_at b.units b.losses h) (λ k l f. f)
       (pairwise-all (λ k l p q e. let n = same-unit k l p q e in
       record { border = ap (λ u. (U.unit_of b.units u).unit.border) n; purchase = ap (λ u. (U.unit_of b.units u).unit.purchase) n; legacy = ap (λ u. (U.unit_of b.units u).unit.legacy) n }) own)
+
+  -- a border's purchases have its loss, and sales none
+  losses : Pairwise (λ k l. k.holder.border ≡ l.holder.border → k.holder.purchase ≡ l.holder.purchase → k.holder.loss ≡ l.holder.loss) (map (R.execution_at b.units b.losses h) taken)
+  unfolding R.execution_at R.holder_of U.unit_loss
+  losses =
+      pairwise_map (R.execution_at b.units b.losses h) (λ k l f. f)
+      (pairwise-all (λ k l p q c d. ap₂ (λ purchase border. cond purchase (U.loss_of b.losses border) 0) d c) own)
 
   single : Pairwise (λ o p. o.holder.unit ≡ p.holder.unit → ⊥) day.offers
   unfolding R.hour_of_day R.offer_at R.holder_of C.accepted_at
   single =
-      pairwise_map (R.offer_at b.units h) (λ k l f. f)
+      pairwise_map (R.offer_at b.units b.losses h) (λ k l f. f)
       (pairwise-with (λ k l p q f e. f (sym p ∙ e ∙ q))
       (all_keep (λ l. not l.key.execution) (all_keep named (all_keep _ (all_map (λ l k. unit-number b.units l.key.unit k.registered) sound.standing.holders))))
       (offers-apart b sound named))
 
-  registered : All (λ x. U.is_registered b.units x.holder.unit ≡ true) (map (R.execution_at b.units h) taken)
+  registered : All (λ x. U.is_registered b.units x.holder.unit ≡ true) (map (R.execution_at b.units b.losses h) taken)
   unfolding R.execution_at R.holder_of
-  registered = all-mapped (R.execution_at b.units h) (all_map (λ l p. ap (U.is_registered b.units) p.1 ∙ p.0.registered) own)
+  registered = all-mapped (R.execution_at b.units b.losses h) (all_map (λ l p. ap (U.is_registered b.units) p.1 ∙ p.0.registered) own)
 
-  few : length (last_ones same_unit (map (R.execution_at b.units h) taken)) ≤ 64
+  few : length (last_ones same_unit (map (R.execution_at b.units b.losses h) taken)) ≤ 64
   unfolding same_unit
   few =
       omega (
         arith,
-        as_many (λ (x : Execution). x.holder.unit) b.units (pairwise-weaken (λ x y n. eqb-false x.holder.unit y.holder.unit n) (last_apart same_unit (map (R.execution_at b.units h) taken))) (all-last-ones same_unit registered),
+        as_many (λ (x : Execution). x.holder.unit) b.units (pairwise-weaken (λ x y n. eqb-false x.holder.unit y.holder.unit n) (last_apart same_unit (map (R.execution_at b.units b.losses h) taken))) (all-last-ones same_unit registered),
         sound.units.room,
       )
 
   -- Energies
 
-  energy-own : (u : ℕ) → unit_energy (map (R.execution_at b.units h) taken) u ≡ energy_on u h taken
+  energy-own : (u : ℕ) → unit_energy (map (R.execution_at b.units b.losses h) taken) u ≡ energy_on u h taken
   unfolding R.execution_at R.holder_of
-  energy-own u = sym (energy-made (λ l. l) (R.execution_at b.units h) u h (all_map (λ l p. (sym p.1, refl)) own)) ∙ ap (energy_on u h) (map-id taken)
+  energy-own u = sym (energy-made (λ l. l) (R.execution_at b.units b.losses h) u h (all_map (λ l p. (sym p.1, refl)) own)) ∙ ap (energy_on u h) (map-id taken)
 
   energy-taken : (u : ℕ) → energy_on u h taken ≤ energy_on u h (C.accepted_at b)
   energy-taken u =
@@ -179,8 +186,12 @@ module _ (b : B.Book) (sound : S.Sound b) (h : ℕ) (start : 1 ≤ h) where
   passes-whole n e nothing k = refl
   passes-whole n e (some s) k = le-ltb s e (omega (arith, ltb-false (s - n) e k))
 
+  -- the increased sum of a unit's border
+  abbrev line_for : U.TradingUnit → Maybe ℕ
+  line_for u = U.increased_sum (U.unit_loss b.losses u) (U.border_sum b.capacities u.border h)
+
   -- an energy within the ceiling passes no limit
-  unpassed : (u e : ℕ) → e ≤ B.ceiling_of b u h → (e ≤ (U.unit_of b.units u).unit.maximum) × (U.passes e (U.border_sum b.capacities (U.unit_of b.units u).unit.border h) ≡ false)
+  unpassed : (u e : ℕ) → e ≤ B.ceiling_of b u h → (e ≤ (U.unit_of b.units u).unit.maximum) × (U.passes e (line_for (U.unit_of b.units u).unit) ≡ false)
   unfolding B.limits_of U.limits U.own_limits U.border_limits U.maximum_limit U.available_limit U.border_limit U.passes
   unpassed u e l =
       let a = any_false (λ k. U.passes e (k.at h)) (B.limits_of b u) (sym (over-ceiling b u h e) ∙ le-ltb (B.ceiling_of b u h) e l) in
@@ -191,27 +202,28 @@ module _ (b : B.Book) (sound : S.Sound b) (h : ℕ) (start : 1 ≤ h) where
     unit = (U.unit_of b.units l.key.unit).unit
 
     abbrev energy : ℕ
-    energy = unit_energy (map (R.execution_at b.units h) taken) unit.number
+    energy = unit_energy (map (R.execution_at b.units b.losses h) taken) unit.number
 
-    unit-within : (energy ≤ U.max_energy) × (U.passes energy (U.border_sum b.capacities unit.border h) ≡ false)
+    unit-within : (energy ≤ U.max_energy) × (U.passes energy (line_for unit) ≡ false)
     unit-within =
-        let e : energy ≡ energy_on l.key.unit h taken = ap (unit_energy (map (R.execution_at b.units h) taken)) p.1 ∙ energy-own l.key.unit in
+        let e : energy ≡ energy_on l.key.unit h taken = ap (unit_energy (map (R.execution_at b.units b.losses h) taken)) p.1 ∙ energy-own l.key.unit in
         let w = unpassed l.key.unit energy (omega (arith, e, energy-taken l.key.unit, within l.key.unit)) in
         (omega (arith, w.0, (unit-good b sound h l p.0).maximum), w.1)
 
-  maxima : All (λ x. unit_energy (map (R.execution_at b.units h) taken) x.holder.unit ≤ U.max_energy) (map (R.execution_at b.units h) taken)
+  maxima : All (λ x. unit_energy (map (R.execution_at b.units b.losses h) taken) x.holder.unit ≤ U.max_energy) (map (R.execution_at b.units b.losses h) taken)
   unfolding R.execution_at R.holder_of
-  maxima = all-mapped (R.execution_at b.units h) (all_map (λ l p. (unit-within l p).0) own)
+  maxima = all-mapped (R.execution_at b.units b.losses h) (all_map (λ l p. (unit-within l p).0) own)
 
   module _ (line : (c : ℕ) → c < 5 → line_in day.capacities c ≡ U.border_sum b.capacities c h) where
-    lines : All (λ x. U.passes (unit_energy (map (R.execution_at b.units h) taken) x.holder.unit) (line_in day.capacities x.holder.border) ≡ false) (map (R.execution_at b.units h) taken)
+    lines : All (λ x. U.passes (unit_energy (map (R.execution_at b.units b.losses h) taken) x.holder.unit) (U.increased_sum x.holder.loss (line_in day.capacities x.holder.border)) ≡ false) (map (R.execution_at b.units b.losses h) taken)
     unfolding R.execution_at R.holder_of
-    lines = all-mapped (R.execution_at b.units h) (all_map (λ l p. ap (U.passes (energy l p)) (line (unit l p).border (omega (arith, (unit-good b sound h l p.0).border))) ∙ (unit-within l p).1) own)
+    lines = all-mapped (R.execution_at b.units b.losses h) (all_map (λ l p. ap (λ s. U.passes (energy l p) (U.increased_sum (U.unit_loss b.losses (unit l p)) s)) (line (unit l p).border (omega (arith, (unit-good b sound h l p.0).border))) ∙ (unit-within l p).1) own)
 
     pub day-units : UnitsPossible day
     day-units = record {
       numbers = rw made numbers-made;
       agree = rw made agree;
+      losses = rw made losses;
       single = single;
       few = rw made few;
       maxima = rw made maxima;

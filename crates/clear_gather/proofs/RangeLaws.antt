@@ -26,7 +26,7 @@ use Rattle.hour_offers.specs.declared.Holder.{Holder as Own}
 use Rattle.hour_offers.specs.View.{execution_in}
 use Rattle.hour.specs.declared.Hour.{Hour}
 use Rattle.hour.specs.View.{fresh_in, hour_in}
-use Rattle.hour.specs.Ready.{Between, OfferWithin, ExecutionWithin, HourInRange}
+use Rattle.hour.specs.Ready.{Between, HolderWithin, OfferWithin, ExecutionWithin, HourInRange}
 use Rattle.clear_gather.proofs.ListLaws.{all-within}
 use Rattle.session.specs.declared.Session.{Session}
 use Rattle.session.specs.Laid.{pad}
@@ -78,6 +78,20 @@ good-unit u h =
       legacy = λ t. positive u.border (rw t at p.1);
     }
 
+-- a unit's loss
+
+loss-most : (ls : List ℕ) → S.LossesSound ls → (u : U.TradingUnit) → u.border ≤ 4 → U.unit_loss ls u ≤ U.max_loss
+unfolding U.unit_loss U.loss_of
+loss-most ls k u m = by_bool u.purchase (λ t. rw t (RL.all-at u.border 0 k.range (omega (arith, k.count)))) (λ t. rw t (omega arith))
+
+sale-loss : (ls : List ℕ) (u : U.TradingUnit) → u.purchase ≡ false → U.unit_loss ls u ≡ 0
+unfolding U.unit_loss
+sale-loss ls u t = rw t refl
+
+domestic-loss : (ls : List ℕ) → S.LossesSound ls → (u : U.TradingUnit) → u.border ≡ 0 → U.unit_loss ls u ≡ 0
+unfolding U.unit_loss
+domestic-loss ls k u z = by_bool u.purchase (λ t. rw (t, z) k.domestic) (λ t. rw t refl)
+
 -- a lodgement in an hour
 record Fit (us : List U.Registered) (h : ℕ) (l : L.Lodgement) : Type 0 where
   number : Between 1 65535 l.number
@@ -112,6 +126,18 @@ module _ (b : B.Book) (sound : S.Sound b) (h : ℕ) where
   unfolding C.accepted_at
   named-fits = all_both (λ l f p. (f, ltb-true _ _ p)) (all_keep is_named (all_keep _ standing-fits)) (keep-passes is_named (C.accepted_at b))
 
+  holder-within : (first : ℕ) (l : L.Lodgement) → Fit b.units h l → first ≤ (U.unit_of b.units l.key.unit).unit.border → HolderWithin first (R.holder_of b.units b.losses l)
+  unfolding R.holder_of
+  holder-within first l g m = record {
+    number = g.number;
+    unit = g.unit.number;
+    border = (m, g.unit.border);
+    legacy = g.unit.legacy;
+    loss = loss-most b.losses sound.losses (U.unit_of b.units l.key.unit).unit g.unit.border;
+    sale = sale-loss b.losses (U.unit_of b.units l.key.unit).unit;
+    domestic = domestic-loss b.losses sound.losses (U.unit_of b.units l.key.unit).unit;
+  }
+
   -- the hour that the rules make of it
   abbrev day : R.Hour
   day = R.hour_of_day b (C.accepted_at b) h
@@ -119,9 +145,9 @@ module _ (b : B.Book) (sound : S.Sound b) (h : ℕ) where
   offers-within : All OfferWithin day.offers
   unfolding R.hour_of_day R.offer_at R.holder_of
   offers-within =
-      all-mapped (R.offer_at b.units h)
+      all-mapped (R.offer_at b.units b.losses h)
       (all_keep (λ l. not l.key.execution) (all_map (λ l g. record {
-        holder = record { number = g.0.number; unit = g.0.unit.number; border = (omega arith, g.0.unit.border); legacy = g.0.unit.legacy };
+        holder = holder-within 0 l g.0 (omega arith);
         price = g.0.price;
         energy = (g.1, g.0.energy);
       }) named-fits))
@@ -129,9 +155,9 @@ module _ (b : B.Book) (sound : S.Sound b) (h : ℕ) where
   executions-within : All ExecutionWithin day.executions
   unfolding R.hour_of_day R.execution_at R.holder_of
   executions-within =
-      all-mapped (R.execution_at b.units h)
+      all-mapped (R.execution_at b.units b.losses h)
       (all_both (λ l t g. record {
-        holder = record { number = g.0.number; unit = g.0.unit.number; border = (g.0.abroad t, g.0.unit.border); legacy = g.0.unit.legacy };
+        holder = holder-within 1 l g.0 (g.0.abroad t);
         energy = (g.1, g.0.energy);
       }) (keep-passes (λ l. l.key.execution) (keep is_named (C.accepted_at b))) (all_keep (λ l. l.key.execution) named-fits))
 
@@ -150,13 +176,13 @@ module _ (s : Session) (b : B.Book) (e : s ≡ I.image b) (sound : I.Sound b) (c
   unfolding hour_in R.hour_of_day
   offers-count =
       sym (length-map h.offers.items fresh_in) ∙ ap (λ x. length x.offers) same
-      ∙ length-map (keep (λ l. not l.key.execution) (keep (λ l. ltb 0 (L.energy_at l (suc k))) (C.accepted_at b))) (R.offer_at b.units (suc k))
+      ∙ length-map (keep (λ l. not l.key.execution) (keep (λ l. ltb 0 (L.energy_at l (suc k))) (C.accepted_at b))) (R.offer_at b.units b.losses (suc k))
 
   executions-count : length h.executions.items ≡ length (keep (λ l. l.key.execution) (keep (λ l. ltb 0 (L.energy_at l (suc k))) (C.accepted_at b)))
   unfolding hour_in R.hour_of_day
   executions-count =
       sym (length-map h.executions.items execution_in) ∙ ap (λ x. length x.executions) same
-      ∙ length-map (keep (λ l. l.key.execution) (keep (λ l. ltb 0 (L.energy_at l (suc k))) (C.accepted_at b))) (R.execution_at b.units (suc k))
+      ∙ length-map (keep (λ l. l.key.execution) (keep (λ l. ltb 0 (L.energy_at l (suc k))) (C.accepted_at b))) (R.execution_at b.units b.losses (suc k))
 
   capacities-range : All (λ c. unwrap_or c 0 ≤ U.max_energy) h.capacities
   capacities-range =
@@ -171,9 +197,9 @@ module _ (s : Session) (b : B.Book) (e : s ≡ I.image b) (sound : I.Sound b) (c
     room = omega (arith, offers-count, executions-count, all_room b sound.ranges (λ l. ltb 0 (L.energy_at l (suc k))));
     offers = subst (λ x. All OfferWithin x.offers) (sym same) (offers-within b sound.ranges (suc k));
     offers-rise = subst (λ x. Pairwise (λ o p. o.holder.number < p.holder.number) x.offers) (sym same)
-        (pairwise_map (R.offer_at b.units (suc k)) (λ x y g. g) (pairwise-keep (λ l. not l.key.execution) (pairwise-keep (λ l. ltb 0 (L.energy_at l (suc k))) (pairwise-keep _ sound.ranges.standing.rising))));
+        (pairwise_map (R.offer_at b.units b.losses (suc k)) (λ x y g. g) (pairwise-keep (λ l. not l.key.execution) (pairwise-keep (λ l. ltb 0 (L.energy_at l (suc k))) (pairwise-keep _ sound.ranges.standing.rising))));
     executions = subst (λ x. All ExecutionWithin x.executions) (sym same) (executions-within b sound.ranges (suc k));
     executions-rise = subst (λ x. Pairwise (λ o p. o.holder.number < p.holder.number) x.executions) (sym same)
-        (pairwise_map (R.execution_at b.units (suc k)) (λ x y g. g) (pairwise-keep (λ l. l.key.execution) (pairwise-keep (λ l. ltb 0 (L.energy_at l (suc k))) (pairwise-keep _ sound.ranges.standing.rising))));
+        (pairwise_map (R.execution_at b.units b.losses (suc k)) (λ x y g. g) (pairwise-keep (λ l. l.key.execution) (pairwise-keep (λ l. ltb 0 (L.energy_at l (suc k))) (pairwise-keep _ sound.ranges.standing.rising))));
     capacities = capacities-range;
   }

@@ -2,6 +2,7 @@
 use Rattle.std.specs.Prelude.{ℕ, ◌≡◌, Bool, true, false, cond, ◌&&◌, List, map, take, length, ltb, get_or, Option, Some, None}
 use Rattle.std.specs.Bool.{beq}
 use Rattle.rules.specs.Lists.{keep, first, from}
+use Rattle.rules.specs.Units.{unit_loss}
 use Rattle.session.specs.Bare.{bare_notice, bare_energies}
 use Rattle.session.specs.declared.Unit.{Unit}
 use Rattle.session.specs.declared.Notice.{Notice}
@@ -9,7 +10,7 @@ use Rattle.session.specs.declared.Lodgement.{Lodgement}
 use Rattle.session.specs.declared.Energies.{Energies}
 use Rattle.session.specs.declared.Verdict.{Verdict}
 use Rattle.session.specs.declared.Session.{Session}
-use Rattle.session.specs.Image.{no_unit, no_lodgement, no_verdict}
+use Rattle.session.specs.Image.{unit_in, no_unit, no_lodgement, no_verdict}
 use Rattle.session.specs.Parts.{number_is}
 use Rattle.hour_offers.specs.declared.Holder.{Holder}
 use Rattle.hour_offers.specs.declared.Offer.{Offer}
@@ -23,17 +24,17 @@ unfoldable pub unit_among : List Unit → ℕ → Unit
 unit_among us n = first (number_is n) no_unit us
 
 -- whose a lodgement's energies are
-unfoldable pub holder_of : List Unit → Lodgement → Holder
-holder_of us l =
+unfoldable pub holder_of : List Unit → List ℕ → Lodgement → Holder
+holder_of us losses l =
     let u = unit_among us l.key.unit in
-    record { number = l.number; unit = u.number; border = u.border; purchase = u.purchase; legacy = u.legacy }
+    record { number = l.number; unit = u.number; border = u.border; purchase = u.purchase; legacy = u.legacy; loss = unit_loss losses (unit_in u) }
 
 -- the holders of a session's standing lodgements
 abbrev pub Holders : Session → List Holder → Type 0
-Holders s hs = hs ≡ map (holder_of (take s.enrolled s.units)) (take s.standing s.lodgements)
+Holders s hs = hs ≡ map (holder_of (take s.enrolled s.units) s.losses) (take s.standing s.lodgements)
 
 abbrev pub no_holder : Holder
-no_holder = record { number = 0; unit = 0; border = 0; purchase = false; legacy = false }
+no_holder = record { number = 0; unit = 0; border = 0; purchase = false; legacy = false; loss = 0 }
 
 -- What stands at an index
 

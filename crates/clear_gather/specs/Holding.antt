@@ -7,7 +7,7 @@ use Rattle.rules.specs.Lodging as L
 use Rattle.rules.specs.Book as B
 use Rattle.rules.specs.Closing as C
 use Rattle.rules.specs.Match.{Holder, Offer}
-use Rattle.rules.specs.Borders.{Execution}
+use Rattle.rules.specs.Borders.{Execution, runs}
 use Rattle.rules.specs.Clearing as R
 use Rattle.session.specs.Image as I
 use Rattle.hour.specs.declared.Hour.{Hour}
@@ -64,6 +64,11 @@ published_for (Some energy) = some (replicate 24 energy)
 unfoldable pub notice_for : List (Option ℕ) → ℕ → U.Published
 notice_for cs d = published_for (get_or cs d None)
 
+-- a border's loss: that of a purchase there, and 0 where there is none
+unfoldable pub loss_among : List Execution → ℕ → ℕ
+loss_among [] border = 0
+loss_among (x ∷ xs) border = cond (runs border true x.holder) x.holder.loss (loss_among xs border)
+
 -- A closed book of an ordinary day. Its last number is the largest, 65,535, so that it is above every lodgement's. The book is sound; that calls
 -- lead to it is not said.
 unfoldable pub book_of : Hour → B.Book
@@ -75,4 +80,5 @@ book_of h = record {
   last = 65535;
   closed = true;
   cleared = false;
+  losses = map (loss_among (lodgements_of (hour_in h))) (from 0 5);
 }

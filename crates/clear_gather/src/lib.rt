@@ -8,8 +8,9 @@ ghost use Rattle.clear_gather.specs.Built.{unit_among, holder_of, capacity_on, B
 use arrayvec::ArrayVec;
 use hour::Hour;
 use hour_offers::{Execution, Holder, Offer};
-use rules::{DIRECTIONS, LODGEMENTS};
-use session::{Lodgement, Notice, Session, Unit, Verdict, units};
+use rules::{DIRECTIONS, LODGEMENTS, LOSSES};
+use session::units::{self, unit_loss};
+use session::{Lodgement, Notice, Session, Unit, Verdict};
 
 // The unit with a number among some units; of a number that none has, a unit with nothing, which stands for none in C's arrays.
 fn unit_among(units: &[Unit], number: u32) -> Unit
@@ -23,8 +24,8 @@ fn unit_among(units: &[Unit], number: u32) -> Unit
 
 // Whose a lodgement's energies are.
 #[tactic(auto, unfolding(crate::specs::Built::holder_of))]
-fn holder_of(units: &[Unit], lodgement: &Lodgement) -> Holder
-    ensures { result ≡ holder_of units.now lodgement.now }
+fn holder_of(units: &[Unit], losses: &[u32; LOSSES], lodgement: &Lodgement) -> Holder
+    ensures { result ≡ holder_of units.now losses.now lodgement.now }
 {
     let unit = unit_among(units, lodgement.key.unit);
     Holder {
@@ -33,17 +34,22 @@ fn holder_of(units: &[Unit], lodgement: &Lodgement) -> Holder
         border: unit.border,
         purchase: unit.purchase,
         legacy: unit.legacy,
+        loss: unit_loss(&unit, losses),
     }
 }
 
 // The holders of some lodgements, each found once for all hours of the day. (Lengths: DECISIONS.)
-pub fn holders_of(units: &[Unit], lodgements: &[Lodgement]) -> ArrayVec<Holder, LODGEMENTS>
+pub fn holders_of(
+    units: &[Unit],
+    losses: &[u32; LOSSES],
+    lodgements: &[Lodgement],
+) -> ArrayVec<Holder, LODGEMENTS>
     requires { length lodgements.now ≤ 128 }
-    ensures { result.items ≡ map (holder_of units.now) lodgements.now }
+    ensures { result.items ≡ map (holder_of units.now losses.now) lodgements.now }
 {
     let mut holders = ArrayVec::new();
     for lodgement in lodgements {
-        holders.push(holder_of(units, lodgement));
+        holders.push(holder_of(units, losses, lodgement));
     }
     holders
 }

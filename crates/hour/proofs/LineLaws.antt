@@ -3,6 +3,7 @@ use Prim.Native.Nat.{ℕ, ◌+◌, ◌-◌, ◌*◌, ◌/◌, ◌^◌, ◌≤◌
 use mathlib.Core.Path.{◌≡◌, refl, sym, ap, ap₂, ◌∙◌}
 use mathlib.Core.Bool.{Bool, false, cond, ◌&&◌, ◌||◌}
 use mathlib.Core.List.{List, [], ◌∷◌, map}
+use mathlib.Core.Option.{Option as Sum, some as sum-of, none as no-sum}
 use native.Mathlib.Omega.{arith}
 use lib.Dec.{eqb, ltb}
 use borrow.Author.Tests.{ltb-true, ltb-false, lt-ltb, le-ltb, ne_eqb}
@@ -12,11 +13,12 @@ use Rattle.std.specs.List.{list_any, sum_by}
 use Rattle.std.proofs.lemmas.List.Sums.{sum_by-cons}
 use Rattle.std.specs.Prelude.{is_some, Option, None}
 use Rattle.rules.specs.Lists.{All, none, more, any, keep, sum, sum_of}
-use Rattle.rules.specs.Units.{direction, max_energy, passes}
-use Rattle.rules.specs.Borders.{Directed, Execution}
+use Rattle.rules.specs.Units.{direction, max_energy, passes, increased, increased_sum}
+use Rattle.rules.specs.Borders.{Directed, Execution, border_figure}
 use Rattle.rules.proofs.ListLaws.{all_keep, any-list}
 use Rattle.rules.proofs.IndexLaws.{from_all}
 use Rattle.rules.proofs.SumLaws.{sum-keep}
+use Rattle.rules.proofs.CrossingLaws.{figure-within}
 use Rattle.hour_offers.specs.declared.Execution.{Execution as Lodgement}
 use Rattle.hour_offers.specs.View.{execution_in, executions_in}
 use Rattle.hour_offers.specs.Sound.{ExecutionInRange}
@@ -54,6 +56,16 @@ sum_above x y n =
     rw t (by_bool (ltb y (n - x)) (λ s. let l = ltb-true y (n - x) s in rw (s, lt-ltb (x + y) n (omega arith))) (λ s. let l = ltb-false y (n - x) s in rw (s, le-ltb (x + y) n (omega arith)))))
     (λ t. let k = ltb-false x n t in rw (t, le-ltb (x + y) n (omega arith)))
 
+-- an energy passes the increased sum exactly where its border figure passes the sum
+pub figure_passes : (l e : ℕ) (s : Sum ℕ) → passes (border_figure l e) s ≡ passes e (increased_sum l s)
+unfolding passes increased_sum
+figure_passes l e no-sum = refl
+figure_passes l e (sum-of s) =
+    by_bool (ltb s (border_figure l e))
+    (λ t. let k = ltb-true s (border_figure l e) t in
+    rw t (by_bool (ltb (increased l s) e) (λ u. rw u) (λ u. absurd (omega (arith, k, (figure-within l e s).1 (ltb-false (increased l s) e u))))))
+    (λ t. rw (t, le-ltb (increased l s) e ((figure-within l e s).0 (ltb-false s (border_figure l e) t))))
+
 -- The energy of a unit
 
 module _ (u : ℕ) where
@@ -86,7 +98,8 @@ over_each cs es xs = any-map execution_in (is_over cs es) xs ∙ any-list (λ x.
 
 -- the test of a lodgement's unit: `above` of whether its energy is above the largest maximum
 pub is-over : (cs : List Directed) (xs : List Lodgement) (x : Execution) (e : ℕ) (above : Bool) → e ≡ sum_by (λ y. cond (eqb y.holder.unit x.holder.unit) y.energy 0) xs → ltb max_energy e ≡ above
-    → (above || passes e (line_in cs x.holder.border)) ≡ is_over cs (executions_in xs) x
+    → (above || passes e (increased_sum x.holder.loss (line_in cs x.holder.border))) ≡ is_over cs (executions_in xs) x
 unfolding is_over beyond
 is-over cs xs x e above q a =
-    ap (λ b. b || passes e (line_in cs x.holder.border)) (sym a) ∙ ap (beyond cs x.holder.border) (q ∙ energy_summed x.holder.unit xs)
+    ap (λ b. b || passes e (increased_sum x.holder.loss (line_in cs x.holder.border))) (sym a)
+    ∙ ap (beyond cs x.holder.border x.holder.loss) (q ∙ energy_summed x.holder.unit xs)

@@ -1,17 +1,17 @@
 -- The test of an hour and what it stands for.
 use Prim.Native.Nat.{ℕ, zero, suc, ◌+◌, ◌≤◌, ◌<◌}
-use mathlib.Core.Path.{◌≡◌, refl}
-use mathlib.Core.Bool.{Bool, true, not}
+use mathlib.Core.Path.{◌≡◌, refl, sym, ◌∙◌}
+use mathlib.Core.Bool.{Bool, true, false, not, true≢false}
 use mathlib.Core.List.{List, [], ◌∷◌, map}
 use native.Mathlib.Nat.{lt_trans}
 use native.Mathlib.Omega.{arith}
 use lib.Dec.{ltb, eqb}
 use lib.ListN.{get_or, length, length-map}
-use borrow.Author.Tests.{leb-true, le-leb, lt-ltb, ltb-true, ltb-false, le-ltb, eqb-false, ne_eqb, not-true}
+use borrow.Author.Tests.{leb-true, le-leb, lt-ltb, ltb-true, ltb-false, le-ltb, eqb-true, eqb-false, ne_eqb, not-true}
 use Rattle.std.specs.Prelude.{unwrap_or, Option, Some, None}
 use Rattle.std.specs.List.{list_all}
 use Rattle.rules.specs.Lists.{All, none, more, Pairwise, empty, ahead}
-use Rattle.rules.specs.Units.{max_energy, max_price, bad_number}
+use Rattle.rules.specs.Units.{max_energy, max_price, max_loss, bad_number}
 use Rattle.rules.specs.Match as M
 use Rattle.rules.specs.Borders as B
 use Rattle.rules.proofs.BoolLaws.{by_bool, both, neither}
@@ -19,7 +19,7 @@ use Rattle.rules.proofs.ListLaws.{all_map, all_append, all-mapped}
 use Rattle.rules.proofs.ElementLaws.{all-unmapped, pairwise_map}
 use Rattle.hour_offers.specs.View.{offer_in, execution_in, executions_in}
 use Rattle.hour_offers.specs.Sound.{Sound, ExecutionInRange}
-use Rattle.hour.specs.Ranges.{within, holder_within, offer_within, execution_within, rises, capacity_within, lodged_within, offer_number, execution_number, capacities_within}
+use Rattle.hour.specs.Ranges.{within, loss_within, holder_within, offer_within, execution_within, rises, capacity_within, lodged_within, offer_number, execution_number, capacities_within}
 use Rattle.hour.specs.declared.Hour.{Hour}
 use Rattle.hour.specs.View.{fresh_in, hour_in}
 use Rattle.hour.specs.Units.{lodgement_of, lodgements_of}
@@ -79,23 +79,48 @@ number-told : (n : ℕ) → Between 1 65535 n → not (bad_number n) ≡ true
 unfolding bad_number
 number-told n h = rw (ne_eqb n 0 (λ z. absurd (omega arith)), le-ltb 65535 n h.1)
 
+-- a loss: no more than any border has, and 0 for a sale and a domestic unit
+abbrev LossWithin : M.Holder → Type 0
+LossWithin x = (x.loss ≤ max_loss) × ((x.purchase ≡ false → x.loss ≡ 0) × (x.border ≡ 0 → x.loss ≡ 0))
+
+loss-holds : (x : M.Holder) → loss_within x ≡ true → LossWithin x
+unfolding loss_within
+loss-holds x e =
+    by_bool (eqb x.loss 0)
+    (λ t. let z = eqb-true x.loss 0 t in (omega (arith, z), ((λ s. z), (λ h. z))))
+    (λ t. let p = both _ _ (rw t at e) in
+    let q = both _ _ p.1 in
+    (leb-true _ _ q.1, ((λ s. absurd (true≢false (sym p.0 ∙ s))), (λ h. absurd (eqb-false x.border 0 (not-true _ q.0) h)))))
+
+loss-told : (x : M.Holder) → LossWithin x → loss_within x ≡ true
+unfolding loss_within
+loss-told x r =
+    by_bool (eqb x.loss 0) (λ t. rw t)
+    (λ t. let some-loss = eqb-false x.loss 0 t in
+    rw t (by_bool x.purchase (λ s. rw (s, ne_eqb x.border 0 (λ z. some-loss (r.1.1 z)), le-leb x.loss max_loss r.0)) (λ s. absurd (some-loss (r.1.0 s)))))
+
 holder-holds : (first : ℕ) (x : M.Holder) → holder_within first x ≡ true → HolderWithin first x
 unfolding holder_within
 holder-holds first x e =
-    let p = both _ _ e in
+    let o = both _ _ e in
+    let p = both _ _ o.0 in
     let q = both _ _ p.0 in
     let r = both _ _ q.0 in
+    let l = loss-holds x o.1 in
     record {
       number = good-number x.number r.0;
       unit = good-number x.unit r.1;
       border = within-holds first 4 x.border q.1;
       legacy = λ t. some x.border (eqb-false x.border 0 (rw t at (not-true _ p.1)));
+      loss = l.0;
+      sale = l.1.0;
+      domestic = l.1.1;
     }
 
 holder-told : (first : ℕ) (x : M.Holder) → HolderWithin first x → holder_within first x ≡ true
 unfolding holder_within
 holder-told first x r =
-    rw (number-told x.number r.number, number-told x.unit r.unit, within-told first 4 x.border r.border)
+    rw (number-told x.number r.number, number-told x.unit r.unit, within-told first 4 x.border r.border, loss-told x (r.loss, (r.sale, r.domestic)))
     (by_bool x.legacy (λ t. rw (t, ne_eqb x.border 0 (λ z. absurd (omega (arith, r.legacy t))))) (λ t. rw t))
 
 offer-holds : (o : M.Offer) → offer_within o ≡ true → OfferWithin o

@@ -1,7 +1,7 @@
 -- The tests of an hour's parts.
-use Rattle.std.specs.Prelude.{ℕ, Bool, true, not, ◌&&◌, List, [], ◌∷◌, ltb, leb, eqb, map, Option, Some, None}
+use Rattle.std.specs.Prelude.{ℕ, Bool, true, not, ◌&&◌, ◌||◌, List, [], ◌∷◌, ltb, leb, eqb, map, Option, Some, None}
 use Rattle.std.specs.List.{list_all}
-use Rattle.rules.specs.Units.{max_energy, max_price, bad_number}
+use Rattle.rules.specs.Units.{max_energy, max_price, max_loss, bad_number}
 use Rattle.rules.specs.Match as R
 use Rattle.rules.specs.Borders as B
 use Rattle.hour_offers.specs.declared.Offer.{Offer}
@@ -12,9 +12,14 @@ use Rattle.hour_offers.specs.View.{offer_in, execution_in}
 unfoldable pub within : ℕ → ℕ → ℕ → Bool
 within least most x = leb least x && leb x most
 
--- a lodging number, a unit's number, its border and its legacy mark that a session has together, borders going from `first` to 4
+-- no loss, or that of a purchase at a border
+unfoldable pub loss_within : R.Holder → Bool
+loss_within x = eqb x.loss 0 || (x.purchase && (not (eqb x.border 0) && leb x.loss max_loss))
+
+-- a lodging number, a unit's number, its border, its legacy mark and its loss that a session has together, borders going from `first` to 4
 unfoldable pub holder_within : ℕ → R.Holder → Bool
-holder_within first x = not (bad_number x.number) && not (bad_number x.unit) && within first 4 x.border && not (x.legacy && eqb x.border 0)
+holder_within first x =
+    not (bad_number x.number) && not (bad_number x.unit) && within first 4 x.border && not (x.legacy && eqb x.border 0) && loss_within x
 
 -- the same, and a price and an energy that a lodgement has in an hour that it names
 unfoldable pub offer_within : R.Offer → Bool

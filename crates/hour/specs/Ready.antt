@@ -1,7 +1,7 @@
 -- An hour that a session can hold, the test for it, and what clearing it gives.
 use Rattle.std.specs.Prelude.{ℕ, ◌+◌, ◌≤◌, ◌<◌, ◌≡◌, Bool, true, false, cond, ◌&&◌, map, length, leb, eqb, unwrap_or, Option, Some, None}
 use Rattle.rules.specs.Lists.{All, Pairwise}
-use Rattle.rules.specs.Units.{max_energy, max_price, passes}
+use Rattle.rules.specs.Units.{max_energy, max_price, max_loss, passes, increased_sum}
 use Rattle.rules.specs.Match.{Holder, Offer}
 use Rattle.rules.specs.Borders.{Execution}
 use Rattle.rules.specs.Clearing as C
@@ -23,6 +23,10 @@ pub record HolderWithin (first : ℕ) (x : Holder) : Type 0 where
   pub border : Between first 4 x.border
   -- "a legacy mark [..] (borders 1 to 4 only)"
   pub legacy : x.legacy ≡ true → 1 ≤ x.border
+  -- K2: "Each border 1 to 4 gets a loss l, 0 to 2,000", which "exporters there must bring": a purchase's there is its border's, every other one 0
+  pub loss : x.loss ≤ max_loss
+  pub sale : x.purchase ≡ false → x.loss ≡ 0
+  pub domestic : x.border ≡ 0 → x.loss ≡ 0
 
 pub record OfferWithin (o : Offer) : Type 0 where
   pub holder : HolderWithin 0 o.holder
@@ -70,14 +74,17 @@ pub record UnitsPossible (x : C.Hour) : Type 0 where
   pub numbers : Pairwise (λ k l. k.holder.number ≡ l.holder.number → ⊥) (lodgements_of x)
   -- "A unit has a number and an agent [..], a border [..], a side [..], a maximum energy, and a legacy mark": a number has one of each
   pub agree : Pairwise (λ k l. k.holder.unit ≡ l.holder.unit → SameUnit k.holder l.holder) (lodgements_of x)
+  -- K2: "Each border 1 to 4 gets a loss l", one for all its purchases; that of every sale is 0
+  pub losses : Pairwise (λ k l. k.holder.border ≡ l.holder.border → k.holder.purchase ≡ l.holder.purchase → k.holder.loss ≡ l.holder.loss) (lodgements_of x)
   -- "the unit's unhidden offer": of two with one unit the normal one hides the default one
   pub single : Pairwise (λ o p. o.holder.unit ≡ p.holder.unit → ⊥) x.offers
   -- "At most 64 units."
   pub few : length (last_ones same_unit (lodgements_of x)) ≤ 64
   -- "its energy, plus that of those accepted before it on its unit" does not pass the ceiling, which is at most the largest energy
   pub maxima : All (λ l. unit_energy (lodgements_of x) l.holder.unit ≤ max_energy) (lodgements_of x)
-  -- and at most "at a border with both directions published, the sum of the two capacities (limit 12)"
-  pub lines : All (λ l. passes (unit_energy (lodgements_of x) l.holder.unit) (line_in x.capacities l.holder.border) ≡ false) (lodgements_of x)
+  -- and at most "at a border with both directions published, the sum of the two capacities (limit 12)", K2: which for a purchase unit
+  -- "becomes (sum × (10,000 + l)) / 10,000 rounded down"
+  pub lines : All (λ l. passes (unit_energy (lodgements_of x) l.holder.unit) (increased_sum l.holder.loss (line_in x.capacities l.holder.border)) ≡ false) (lodgements_of x)
 
 -- An hour that a session can hold: exactly the hours of sound, closed books (`Sound` of crates/session/specs/Image.antt). Every hour gathered from a
 -- session that stands for such a book is ready (`hour-ready` of crates/clear_gather/proofs/HourReadyLaws.antt), and every ready hour is hour 1 of one

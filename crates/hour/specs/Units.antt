@@ -3,7 +3,7 @@ use Rattle.std.specs.Prelude.{ℕ, ◌+◌, Bool, true, false, cond, not, ◌&&�
 use Rattle.std.specs.Bool.{beq}
 use Rattle.std.proofs.Math.Option as O
 use Rattle.rules.specs.Lists.{keep, any, sum_of}
-use Rattle.rules.specs.Units.{max_energy, passes}
+use Rattle.rules.specs.Units.{max_energy, passes, increased_sum}
 use Rattle.rules.specs.Match.{Offer}
 use Rattle.rules.specs.Borders.{Directed, Execution}
 use Rattle.rules.specs.Clearing as C
@@ -49,20 +49,27 @@ last_ones p (x ∷ xs) = cond (any (p x) xs) (last_ones p xs) (x ∷ last_ones p
 unfoldable pub same_unit : Execution → Execution → Bool
 same_unit x y = eqb x.holder.unit y.holder.unit
 
--- one number of two lodgements, or one unit's number with two borders, sides or marks
-unfoldable pub clash : Execution → Execution → Bool
-clash x y =
-    eqb x.holder.number y.holder.number
-    || (eqb x.holder.unit y.holder.unit && (not (eqb x.holder.border y.holder.border) || (not (beq x.holder.purchase y.holder.purchase) || not (beq x.holder.legacy y.holder.legacy))))
+-- one unit's number with two borders, sides or marks
+unfoldable pub other_unit : Execution → Execution → Bool
+other_unit x y =
+    eqb x.holder.unit y.holder.unit && (not (eqb x.holder.border y.holder.border) || (not (beq x.holder.purchase y.holder.purchase) || not (beq x.holder.legacy y.holder.legacy)))
 
--- an energy that no unit at a border has: above the largest maximum, or above limit 12
-unfoldable pub beyond : List Directed → ℕ → ℕ → Bool
-beyond cs border energy = ltb max_energy energy || passes energy (line_in cs border)
+-- one border and side with two losses
+unfoldable pub other_loss : Execution → Execution → Bool
+other_loss x y = eqb x.holder.border y.holder.border && (beq x.holder.purchase y.holder.purchase && not (eqb x.holder.loss y.holder.loss))
+
+-- two lodgements that no session has: of one number, or with what one unit, or one border and side, does not have twice
+unfoldable pub clash : Execution → Execution → Bool
+clash x y = eqb x.holder.number y.holder.number || (other_unit x y || other_loss x y)
+
+-- an energy that no unit of a border and a loss has: above the largest maximum, or above limit 12
+unfoldable pub beyond : List Directed → ℕ → ℕ → ℕ → Bool
+beyond cs border loss energy = ltb max_energy energy || passes energy (increased_sum loss (line_in cs border))
 
 -- the energy of a lodgement's unit
 unfoldable pub is_over : List Directed → List Execution → Execution → Bool
-is_over cs xs x = beyond cs x.holder.border (unit_energy xs x.holder.unit)
+is_over cs xs x = beyond cs x.holder.border x.holder.loss (unit_energy xs x.holder.unit)
 
--- 64 units at most, each with one border, side and mark, and no more energy than it can have
+-- 64 units at most, each with one border, side and mark, one loss for a border's purchases, and no more energy than a unit can have
 unfoldable pub lodgements_possible : List Directed → List Execution → Bool
 lodgements_possible cs xs = leb (length (last_ones same_unit xs)) 64 && (not (any_pair clash xs) && not (any (is_over cs xs) xs))

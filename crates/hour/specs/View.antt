@@ -28,7 +28,7 @@ hour_in h = record {
 
 -- the rules' records as the code has them
 abbrev pub holder_as : M.Holder → Holder
-holder_as x = record { number = x.number; unit = x.unit; border = x.border; purchase = x.purchase; legacy = x.legacy }
+holder_as x = record { number = x.number; unit = x.unit; border = x.border; purchase = x.purchase; legacy = x.legacy; loss = x.loss }
 
 abbrev pub offer_as : M.Offer → Offer
 offer_as o = record { holder = holder_as o.holder; price = o.price; offered = o.offered; matched = o.matched }

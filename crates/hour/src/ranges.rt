@@ -2,12 +2,21 @@
 ghost use Rattle.std.specs.Prelude.{◌≡◌, ℕ, Bool, map};
 ghost use Rattle.std.specs.List.{list_all};
 ghost use Rattle.hour_offers.specs.View.{holder_in, offer_in, execution_in};
-ghost use Rattle.hour.specs.Ranges.{holder_within, offer_within, execution_within, offer_number, execution_number, lodged_within, rises, capacity_within};
+ghost use Rattle.hour.specs.Ranges.{loss_within, holder_within, offer_within, execution_within, offer_number, execution_number, lodged_within, rises, capacity_within};
 
 use hour_offers::{Execution, Holder, Offer};
-use rules::{DIRECTIONS, MAX_ENERGY, MAX_PRICE};
+use rules::{DIRECTIONS, MAX_ENERGY, MAX_LOSS, MAX_PRICE};
 
-// Whether a holder's numbers and border are within their ranges, borders going from `first` on, and a legacy mark at a border: "(borders 1 to 4 only)".
+// Whether a holder has no loss, or is a purchase at a border with one that a border can have.
+#[tactic(auto, unfolding(crate::specs::Ranges::loss_within))]
+fn loss_within(holder: Holder) -> bool
+    ensures { result ≡ loss_within (holder_in holder) }
+{
+    holder.loss == 0 || (holder.purchase && holder.border != 0 && holder.loss <= MAX_LOSS)
+}
+
+// Whether a holder's numbers and border are within their ranges, borders going from `first` on, a legacy mark at a border, "(borders 1 to 4 only)", and
+// the loss within its range.
 #[tactic(auto, unfolding(crate::specs::Ranges::holder_within, crate::specs::Ranges::within))]
 fn holder_within(first: u32, holder: Holder) -> bool
     ensures { result ≡ holder_within first (holder_in holder) }
@@ -16,6 +25,7 @@ fn holder_within(first: u32, holder: Holder) -> bool
         && !rules::bad_number(holder.unit)
         && (first..=4).contains(&holder.border)
         && !(holder.legacy && holder.border == 0)
+        && loss_within(holder)
 }
 
 // What stands in an hour's list of lodgements: an offer or an execution.

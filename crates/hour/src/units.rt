@@ -7,7 +7,7 @@ ghost use Rattle.hour_offers.specs.View.{execution_in, executions_in};
 ghost use Rattle.hour_offers.specs.Sound.{ExecutionInRange};
 ghost use Rattle.hour_borders.specs.Directions.{published_in};
 ghost use Rattle.hour.specs.View.{energy_among, fresh_in, hour_in};
-ghost use Rattle.hour.specs.Units.{lodgement_of, lodgements_of, line_in, any_pair, last_ones, same_unit, clash, beyond, is_over, lodgements_possible};
+ghost use Rattle.hour.specs.Units.{lodgement_of, lodgements_of, line_in, any_pair, last_ones, same_unit, other_unit, other_loss, clash, beyond, is_over, lodgements_possible};
 ghost use Rattle.hour.specs.Ready.{HourInRange, units_possible};
 
 use crate::Hour;
@@ -41,15 +41,30 @@ fn add(executions: &[Execution], lodgements: &mut ArrayVec<Execution, LODGEMENTS
     }
 }
 
-// Whether two lodgements have one number, or one unit's number and two units' border, side or mark.
+// Whether two lodgements have one unit's number and two units' border, side or mark.
+#[tactic(auto, unfolding(crate::specs::Units::other_unit))]
+fn other_unit(x: &Execution, y: &Execution) -> bool
+    ensures { result ≡ other_unit (execution_in x.now) (execution_in y.now) }
+{
+    let (a, b) = (&x.holder, &y.holder);
+    a.unit == b.unit && (a.border != b.border || a.purchase != b.purchase || a.legacy != b.legacy)
+}
+
+// Whether two lodgements have one border and side and two losses: "Each border 1 to 4 gets a loss l".
+#[tactic(auto, unfolding(crate::specs::Units::other_loss))]
+fn other_loss(x: &Execution, y: &Execution) -> bool
+    ensures { result ≡ other_loss (execution_in x.now) (execution_in y.now) }
+{
+    let (a, b) = (&x.holder, &y.holder);
+    a.border == b.border && a.purchase == b.purchase && a.loss != b.loss
+}
+
+// Whether a session cannot have two lodgements together.
 #[tactic(auto, unfolding(crate::specs::Units::clash))]
 fn clash(x: &Execution, y: &Execution) -> bool
     ensures { result ≡ clash (execution_in x.now) (execution_in y.now) }
 {
-    let (a, b) = (&x.holder, &y.holder);
-    a.number == b.number
-        || (a.unit == b.unit
-            && (a.border != b.border || a.purchase != b.purchase || a.legacy != b.legacy))
+    x.holder.number == y.holder.number || other_unit(x, y) || other_loss(x, y)
 }
 
 // Whether a lodgement clashes with one of the others.
@@ -122,11 +137,11 @@ fn capacity(capacities: &[Option<u32>; DIRECTIONS], border: u32, export: bool) -
     }
 }
 
-// Whether an energy passes limit 12: "at a border with both directions published, the sum of the two capacities". What is left of it
+// Whether a figure passes "at a border with both directions published, the sum of the two capacities" (limit 12). What is left of it
 // above the one is compared with the other, since the type of an option in an array does not tell that two can be added.
 #[tactic(auto, unfolding(crate::specs::Units::line_in, crate::specs::Units::both_of, rules::specs::Units::passes), using(crate::proofs::LineLaws::sum_above))]
-fn passes_line(capacities: &[Option<u32>; DIRECTIONS], border: u32, energy: u32) -> bool
-    ensures { result ≡ passes energy (line_in (published_in capacities.now) border) }
+fn passes_line(capacities: &[Option<u32>; DIRECTIONS], border: u32, figure: u32) -> bool
+    ensures { result ≡ passes figure (line_in (published_in capacities.now) border) }
 {
     let Some(export) = capacity(capacities, border, true) else {
         return false;
@@ -134,17 +149,19 @@ fn passes_line(capacities: &[Option<u32>; DIRECTIONS], border: u32, energy: u32)
     let Some(import) = capacity(capacities, border, false) else {
         return false;
     };
-    export < energy && import < energy - export
+    export < figure && import < figure - export
 }
 
-// Whether a lodgement's unit has more than any unit at its border can have.
+// Whether a lodgement's unit has more than any unit of its border and loss can have. An energy passes "(sum × (10,000 + l)) / 10,000 rounded down" exactly
+// where its figure passes the sum, and for that 32 bits are enough.
 fn is_over(capacities: &[Option<u32>; DIRECTIONS], lodgements: &[Execution], x: &Execution) -> bool
     requires few { length lodgements.now ≤ 128 }
     requires in_range { All ExecutionInRange (executions_in lodgements.now) }
     ensures { result ≡ is_over (published_in capacities.now) (executions_in lodgements.now) (execution_in x.now) }
 {
     let energy = energy_of(lodgements, x.holder.unit);
-    MAX_ENERGY < energy || passes_line(capacities, x.holder.border, energy)
+    let figure = crossing::figure(x.holder.loss, energy);
+    MAX_ENERGY < energy || passes_line(capacities, x.holder.border, figure)
 }
 
 // Whether the unit of one of some lodgements has more than it can have.

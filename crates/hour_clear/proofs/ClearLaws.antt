@@ -22,12 +22,11 @@ use Rattle.rules.proofs.IndexLaws.{from_all, map-all}
 use Rattle.hour_offers.specs.declared.Offer.{Offer}
 use Rattle.hour_offers.specs.declared.Execution.{Execution}
 use Rattle.hour_offers.specs.View.{offers_in, executions_in}
-use Rattle.hour_offers.specs.Sound.{ExecutionInRange}
 use Rattle.std.specs.List.{refill}
 use Rattle.hour_borders.specs.Directions.{directed, energies_of, published_in}
 use Rattle.hour_borders.specs.Flows.{MarketFlows, ExecutionFlows}
 use Rattle.hour_borders.proofs.DirectionLaws.{published-once}
-use Rattle.hour_cut.specs.Cuts.{Enough, Lowered}
+use Rattle.hour_cut.specs.Cuts.{Enough}
 use Rattle.hour_market.specs.declared.Market.{Market}
 use Rattle.hour_market.specs.Parts.{MarketCleared}
 use Rattle.hour.specs.declared.Hour.{Hour}
@@ -123,10 +122,6 @@ module _ {h : Hour} (r : HourInRange h) where
   pub executed-small : All (λ (x : Execution). x.energy ≤ max_energy) (figures_as (C.clear_hour (hour_in h))).executions.items
   unfolding figures_as
   executed-small = all-mapped execution_as (each_all (λ x y f k. le_trans f.energy k.energy.1) (H.hour-cleared (hour_in h) (hour-sound r)).executions r.executions)
-
--- executions stay in their ranges where they are cut
-pub lowered-in-range : {xs ys : List RuleExecution} → Each Lowered xs ys → All ExecutionInRange xs → All ExecutionInRange ys
-lowered-in-range l a = each_all (λ x y h k. record { border = rw h.holder k.border; energy = le_trans h.energy k.energy }) l a
 
 -- a list written over another as long as it
 take-front : {A : Type 0} (ws ys : List A) → take (length ws) (ws ++ ys) ≡ ws

@@ -54,13 +54,12 @@ pub fn clear_in_range(h: &Hour) -> Option<Figures>
         uncut(&h.executions, &mut figures.executions);
         let before = hour_borders::execution_flows(&figures.executions);
         let market = hour_market::clear(&mut figures.offers, &h.capacities, &before);
-        hour_cut::cut(
+        let bilateral = hour_cut::cut(
             &mut figures.executions,
             &h.capacities,
             &market.flows,
             &before,
         );
-        let bilateral = hour_borders::execution_flows(&figures.executions);
         figures.maxima = market.maxima;
         figures.market = market.flows;
         figures.bilateral = bilateral;
