@@ -8,9 +8,9 @@
  *         cc -Iinclude program.c target/staticlib/libgate.a -o program
  *
  * First:  gate_matches(), false where the archive is of another version than this header.
- * A day:  gate_open, then gate_register, gate_capacity, gate_unavailability, gate_rights, gate_lodge and gate_annul in any order and
- *         number (a unit is registered before it is named), then gate_close, then gate_clear; gate_verdict from closing on, the other
- *         queries from clearing on. A call that comes too early or too late is refused and changes nothing.
+ * A day:  gate_open, then gate_register, gate_capacity, gate_unavailability, gate_rights, gate_loss, gate_lodge and gate_annul in any
+ *         order and number (a unit is registered before it is named), then gate_close, then gate_clear; gate_verdict from closing on, the
+ *         other queries from clearing on. A call that comes too early or too late is refused and changes nothing.
  *
  * Ownership. The caller owns every struct, message and buffer. Nothing is kept after a call returns, nothing is allocated, there
  * is no global state, and nothing is called but memcpy, memmove and memset: no system call, no callback. A session is plain data:
@@ -29,7 +29,9 @@
  *
  * Units of measure: energy in tenths of a MWh, 0 to 99,999; price in hundredths of a euro per MWh, 0 to 18,030. An hour is a number, 1 to
  * the day's 23, 24 or 25, never a clock name. Balances are exports less imports. A maximum is counted in its own direction: one
- * of imports bounds the balance negated. At a border a sale is an import, a purchase an export.
+ * of imports bounds the balance negated. At a border a sale is an import, a purchase an export. A loss is in hundredths of a percent,
+ * 0 to 2,000. Capacities, balances and maxima are counted at the border: an export of e, of one lodgement in one hour, counts there
+ * e x 10,000 / (10,000 + loss), rounded up, an import what it is. A unit's energies, matched or executed, are not counted so.
  */
 #ifndef GATE_H
 #define GATE_H
@@ -48,7 +50,7 @@ extern "C" {
 /* ------------------------------------------------------------------------------------------------ version */
 
 /* Of this header. It rises with each change of a name, a struct or a meaning; a session of one version is not one of another. */
-#define GATE_VERSION 3
+#define GATE_VERSION 4
 
 /* ------------------------------------------------------------------------------------------------ sizes */
 
@@ -60,6 +62,7 @@ enum {
     GATE_DIRECTIONS = 8,      /* export and import of the four borders: see gate_direction */
     GATE_MAX_ENERGY = 99999,
     GATE_MAX_PRICE = 18030,
+    GATE_MAX_LOSS = 2000,
     GATE_MESSAGE = 108,       /* bytes of the longest message */
     GATE_STACK = 524288       /* bytes of stack that a call may use, what it returns not counted */
 };
@@ -100,8 +103,9 @@ enum {
     GATE_REFUSED_FULL = 9,       /* 64 units; 128 lodgements and none of this key; 65,535 accepted */
     GATE_REFUSED_MAXIMUM = 10,   /* limit 10 passed: the unit's maximum */
     GATE_REFUSED_AVAILABLE = 11, /* limit 11 passed: its available energy */
-    GATE_REFUSED_BORDER = 12,    /* limit 12 passed: the sum of both capacities of its border, where both are published; less the
-                                    agent's rights, never below 0, for a French unit without them */
+    GATE_REFUSED_BORDER = 12,    /* limit 12 passed: the sum of both capacities of its border, where both are published; for a purchase
+                                    unit times (10,000 + loss) / 10,000, rounded down; less the agent's rights, never below 0, for
+                                    a French unit without them */
     GATE_REFUSED_RIGHTS = 15,    /* limit 15 of a unit with rights passed: its agent's rights on its side, 0 without a notice. Of registering
                                     (hour 0): the agent has no French unit of that side without them */
     GATE_REFUSED_ABSENT = 13,    /* no such key, or lodging number (0 too) not standing at closing */
@@ -162,6 +166,12 @@ typedef struct GateRights {
     uint32_t energies[GATE_HOURS];
     uint32_t reserved3;
 } GateRights;
+
+/* The loss of a border's exports, which is 0 until it is set. It replaces the border's earlier one. */
+typedef struct GateLoss {
+    uint32_t border; /* 1 to 4 */
+    uint32_t loss;   /* hundredths of a percent, 0 to 2,000 */
+} GateLoss;
 
 /* A direction of a capacity notice: absent (then count and energies are not looked at), which means no maximum, or `count` energies,
  * hour 1 first, of which 0 is a maximum too. Before the first notice every direction is absent. */
@@ -266,8 +276,8 @@ typedef struct GateVerdict {
     uint32_t hour;
 } GateVerdict;
 
-/* An hour's figures, after clearing. Energies at the borders stand by direction (gate_direction), those of units by the unit's
- * index. */
+/* An hour's figures, after clearing. Those at the borders stand by direction (gate_direction) and are counted at the border; energies of
+ * units stand by the unit's index. */
 typedef struct GateHourFigures {
     uint32_t price;
     uint32_t market[GATE_DIRECTIONS];
@@ -295,6 +305,8 @@ typedef struct GateSession {
     GateHourFigures figures[GATE_HOURS];           /* hour 1 first, once cleared */
     uint32_t reserved2;
     GateNotice rights[GATE_UNITS];             /* of its agent and side, at each French unit's index */
+    uint32_t losses[5];                        /* by border, 0 domestic */
+    uint32_t reserved3;
 } GateSession;
 
 /* A date's answer, and its fresh session. */
@@ -313,6 +325,7 @@ GATE_ASSERT(sizeof(GateClock) == 8 && offsetof(GateClock, second) == 4);
 GATE_ASSERT(sizeof(GateUnit) == 20 && offsetof(GateUnit, maximum) == 12 && offsetof(GateUnit, purchase) == 16 && offsetof(GateUnit, legacy) == 17 && offsetof(GateUnit, rights) == 18);
 GATE_ASSERT(sizeof(GateUnavailability) == 112 && offsetof(GateUnavailability, unit) == 8 && offsetof(GateUnavailability, energies) == 12);
 GATE_ASSERT(sizeof(GateRights) == 120 && offsetof(GateRights, purchase) == 4 && offsetof(GateRights, count) == 8 && offsetof(GateRights, energies) == 16);
+GATE_ASSERT(sizeof(GateLoss) == 8 && offsetof(GateLoss, loss) == 4);
 GATE_ASSERT(sizeof(GatePublished) == 112 && offsetof(GatePublished, published) == 8 && offsetof(GatePublished, energies) == 12);
 GATE_ASSERT(sizeof(GateCapacities) == 896);
 GATE_ASSERT(sizeof(GateKey) == 12 && offsetof(GateKey, unit) == 4);
@@ -330,9 +343,9 @@ GATE_ASSERT(offsetof(GateSession, standing) == 8792 && offsetof(GateSession, lod
 GATE_ASSERT(offsetof(GateSession, energies) == 10848 && offsetof(GateSession, last) == 36448);
 GATE_ASSERT(offsetof(GateSession, closed) == 36452 && offsetof(GateSession, cleared) == 36453);
 GATE_ASSERT(offsetof(GateSession, verdicts) == 36456 && offsetof(GateSession, figures) == 37992);
-GATE_ASSERT(offsetof(GateSession, rights) == 53296);
-GATE_ASSERT(sizeof(GateSession) == 59952);
-GATE_ASSERT(sizeof(GateOpening) == 59984 && offsetof(GateOpening, session) == 32);
+GATE_ASSERT(offsetof(GateSession, rights) == 53296 && offsetof(GateSession, losses) == 59952);
+GATE_ASSERT(sizeof(GateSession) == 59976);
+GATE_ASSERT(sizeof(GateOpening) == 60008 && offsetof(GateOpening, session) == 32);
 
 /* ------------------------------------------------------------------------------------------------ the archive */
 
@@ -381,6 +394,9 @@ GateResponse gate_unavailability(GateSession *session, GateUnavailability notice
 /* Takes a rights notice, which replaces the earlier one of the agent and side: accepted. Refused 2, 4, 5, 6. */
 GateResponse gate_rights(GateSession *session, GateRights notice);
 
+/* Sets a border's loss, which replaces its earlier one: accepted. Refused 2, 5. */
+GateResponse gate_loss(GateSession *session, GateLoss loss);
+
 /* Takes a capacity notice, which replaces the one before it: accepted. Refused 2, 4, 5. */
 GateResponse gate_capacity(GateSession *session, GateCapacities notice);
 
@@ -408,7 +424,7 @@ GateResponse gate_matched(const GateSession *session, uint32_t unit, uint32_t ho
 /* A unit's executed energy in an hour, after cuts, a figure. Refused 2, 4, 5, 6. */
 GateResponse gate_executed(const GateSession *session, uint32_t unit, uint32_t hour);
 
-/* The final market balance of a border 1 to 4 in an hour, a figure. Refused 2, 4, 5. */
+/* The final market balance of a border 1 to 4 in an hour, a figure, counted at the border. Refused 2, 4, 5. */
 GateResponse gate_market_balance(const GateSession *session, uint32_t border, uint32_t hour);
 
 /* The final balance of its executions, a figure. Refused 2, 4, 5. */

@@ -161,6 +161,16 @@ pub struct Rights {
     pub reserved3: u32,
 }
 
+/// A border's loss.
+#[repr(C)]
+#[derive(Clone, Copy, PartialEq, Eq)]
+pub struct Loss {
+    /// The border.
+    pub border: u32,
+    /// The loss of its exports, in hundredths of a percent.
+    pub loss: u32,
+}
+
 /// A message's fields.
 #[repr(C)]
 #[derive(Clone, Copy, PartialEq, Eq)]
@@ -353,6 +363,10 @@ pub struct Session {
     pub reserved2: u32,
     /// The units' rights.
     pub rights: [Notice; 64],
+    /// The losses by border, 0 at home.
+    pub losses: [u32; 5],
+    /// Reserved.
+    pub reserved3: u32,
 }
 
 /// A struct of numbers and flags in which no byte is padding: each pattern of bytes is a value of it.
@@ -403,6 +417,7 @@ plain! {
     Capacities { directions }
     Availability { count, unit, energies }
     Rights { agent, purchase, reserved, reserved2, count, energies, reserved3 }
+    Loss { border, loss }
     Fields { execution, default, reserved, unit, contract, map, energies, prices }
     Reading { row, fields }
     Written { row, reserved, count }
@@ -415,7 +430,7 @@ plain! {
     HourFigures { price, market, bilateral, maxima, matched, executed }
     Session {
         date, hours, enrolled, units, notices, capacities, standing, lodgements, energies, last, closed, cleared, reserved,
-        verdicts, figures, reserved2, rights
+        verdicts, figures, reserved2, rights, losses, reserved3
     }
 }
 
@@ -434,6 +449,7 @@ mod declared {
         pub fn gate_register(session: *mut Session, unit: Unit) -> Response;
         pub fn gate_unavailability(session: *mut Session, notice: Availability) -> Response;
         pub fn gate_rights(session: *mut Session, notice: Rights) -> Response;
+        pub fn gate_loss(session: *mut Session, loss: Loss) -> Response;
         pub fn gate_capacity(session: *mut Session, notice: Capacities) -> Response;
         pub fn gate_lodge(session: *mut Session, message: *const u8, length: usize) -> Response;
         pub fn gate_annul(session: *mut Session, key: Key) -> Response;
@@ -454,7 +470,7 @@ mod declared {
 // else, and bytes that are there up to their length. The interface asks for nothing more, so none of them has a condition.
 
 /// The version of `include/gate.h` that these declarations are of (`GATE_VERSION` there).
-pub const VERSION: u32 = 3;
+pub const VERSION: u32 = 4;
 
 /// Whether the archive that is linked is of this version, with sessions of this size.
 pub fn matches() -> bool {
@@ -516,6 +532,12 @@ pub fn unavailability(session: &mut Session, notice: Availability) -> Response {
 pub fn rights(session: &mut Session, notice: Rights) -> Response {
     // SAFETY: the session is a reference's, lent to this call alone.
     unsafe { declared::gate_rights(session, notice) }
+}
+
+/// A border's loss.
+pub fn loss(session: &mut Session, loss: Loss) -> Response {
+    // SAFETY: the session is a reference's, lent to this call alone.
+    unsafe { declared::gate_loss(session, loss) }
 }
 
 /// A capacity notice.

@@ -267,6 +267,12 @@ impl Gate {
         done(&ffi::rights(&mut self.session, notice))
     }
 
+    /// Sets the loss of a border's exports, in hundredths of a percent, up to 2,000; it replaces the border's earlier one. Refused as 2
+    /// or 5.
+    pub fn loss(&mut self, border: u32, loss: u32) -> Result<(), Refusal> {
+        done(&ffi::loss(&mut self.session, ffi::Loss { border, loss }))
+    }
+
     /// Lodges a message. Refused as 2, 3, 4, 5, 6, 9, 10, 11, 12 or 15.
     pub fn lodge(&mut self, message: &[u8]) -> Result<LodgingNumber, Refusal> {
         let response = &ffi::lodge(&mut self.session, message);
@@ -322,7 +328,8 @@ impl Gate {
         amount(&ffi::executed(&self.session, unit, hour))
     }
 
-    /// A border's final market balance in an hour, exports less imports, after clearing. Refused as 2, 4 or 5.
+    /// A border's final market balance in an hour, exports less imports, after clearing. Balances and maxima are counted at the border,
+    /// where an export of e counts e × 10,000 / (10,000 + loss), rounded up; a unit's energies are not. Refused as 2, 4 or 5.
     pub fn market_balance(&self, border: u32, hour: u32) -> Result<i64, Refusal> {
         figure(&ffi::market_balance(&self.session, border, hour))
     }
@@ -389,6 +396,9 @@ impl Exchange for Gate {
     }
     fn rights(&mut self, agent: u32, purchase: bool, energies: &Energies) -> Result<(), Refusal> {
         self.rights(agent, purchase, energies)
+    }
+    fn loss(&mut self, border: u32, loss: u32) -> Result<(), Refusal> {
+        self.loss(border, loss)
     }
     fn lodge(&mut self, message: &[u8]) -> Result<LodgingNumber, Refusal> {
         self.lodge(message)

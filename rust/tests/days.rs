@@ -185,6 +185,7 @@ fn answer<E: Exchange>(session: &mut E, words: &[&str]) -> Option<String> {
         ["rights", agent, side @ ("sale" | "purchase"), list] => {
             made(session, Call::Rights(number(agent)?, *side == "purchase", &energies(list)?))
         }
+        ["loss", border, loss] => made(session, Call::Loss(number(border)?, number(loss)?)),
         ["available", unit, list] => made(session, Call::Available(number(unit)?, &energies(list)?)),
         [kind @ ("offer" | "execution"), rest @ ..] => {
             let (key, hours) = key(*kind == "execution", rest)?;
@@ -320,7 +321,7 @@ fn told(seed: u64, list: &List) -> Vec<String> {
         });
     }
     // A number of a line has nine digits at most.
-    lines.iter().map(|line| line.replace(&u32::MAX.to_string(), "999999999")).collect()
+    lines.iter().map(|line| line.replace(&u32::MAX.to_string(), "999999999").replace("4294957296", "999990000")).collect()
 }
 
 /// Random lists as days, with the model's answers, into the folder `TOLD`.

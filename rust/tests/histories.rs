@@ -111,7 +111,7 @@ fn play(seed: u64, list: &List, bytes: (u8, u8), seen: &mut Differences) {
 }
 
 fn reserved_are_0(s: &ffi::Session) -> bool {
-    (s.reserved, s.reserved2) == (0, 0)
+    (s.reserved, s.reserved2, s.reserved3) == (0, 0, 0)
         && s.units.iter().all(|unit| unit.reserved == 0)
         && s.notices.iter().chain(&s.capacities).chain(&s.rights).all(|notice| (notice.reserved, notice.reserved2) == (0, 0))
         && s.lodgements.iter().all(|lodgement| lodgement.key.reserved == 0)

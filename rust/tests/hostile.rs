@@ -129,6 +129,11 @@ fn plausible(session: &mut ffi::Session, rng: &mut Rng) {
     for notice in session.notices.iter_mut().chain(&mut session.capacities).chain(&mut session.rights) {
         notice.energies.iter_mut().for_each(|energy| *energy = rng.below(most));
     }
+    // 10,000 is added to a loss: the last 10,000 numbers would pass 32 bits.
+    let largest = rng.pick(&[2_000, 2_000, 2_001, 100_000, u32::MAX]);
+    let near = rng.chance(50);
+    let loss = |rng: &mut Rng| if near { largest - rng.below(largest.min(10_002)) } else { rng.below(largest) + 1 };
+    session.losses.iter_mut().for_each(|place| *place = loss(rng));
 }
 
 /// Sets bytes of a session at random, all of them or a few.

@@ -25,6 +25,7 @@ fn mirrors() -> Vec<Layout> {
         layout!("GateUnit" Unit { number, agent, border, maximum, purchase, legacy, rights, reserved }),
         layout!("GateUnavailability" Availability { count, unit, energies }),
         layout!("GateRights" Rights { agent, purchase, reserved, reserved2, count, energies, reserved3 }),
+        layout!("GateLoss" Loss { border, loss }),
         layout!("GatePublished" Published { count, published, reserved, reserved2, energies }),
         layout!("GateCapacities" Capacities { directions }),
         layout!("GateKey" Key { execution, default as "is_default", reserved, unit, contract }),
@@ -41,7 +42,7 @@ fn mirrors() -> Vec<Layout> {
         layout!("GateHourFigures" HourFigures { price, market, bilateral, maxima, matched, executed }),
         layout!("GateSession" Session {
             date, hours, enrolled, units, notices, capacities, standing, lodgements, energies, last, closed, cleared,
-            reserved, verdicts, figures, reserved2, rights
+            reserved, verdicts, figures, reserved2, rights, losses, reserved3
         }),
         layout!("GateOpening" Opening { response, session }),
     ]
@@ -108,6 +109,7 @@ fn the_numbers_of_the_header_are_ours() {
         ("GATE_HOURS", jeddyspangle::MOST_HOURS),
         ("GATE_MAX_ENERGY", jeddyspangle::LARGEST_ENERGY as usize),
         ("GATE_MAX_PRICE", jeddyspangle::HIGHEST_PRICE as usize),
+        ("GATE_MAX_LOSS", jeddyspangle::LARGEST_LOSS as usize),
         ("GATE_MESSAGE", jeddyspangle::LONGEST_MESSAGE),
         ("GATE_STACK", jeddyspangle::STACK),
     ] {

@@ -52,6 +52,9 @@ impl<const FAULT: u8> Exchange for Planted<FAULT> {
     fn rights(&mut self, agent: u32, purchase: bool, energies: &Energies) -> Result<(), Refusal> {
         self.session.rights(agent, purchase, energies)
     }
+    fn loss(&mut self, border: u32, loss: u32) -> Result<(), Refusal> {
+        self.session.loss(border, loss)
+    }
     fn lodge(&mut self, message: &[u8]) -> Result<LodgingNumber, Refusal> {
         self.session.lodge(message)
     }

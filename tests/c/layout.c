@@ -354,6 +354,110 @@ static void rights(void) {
     CHECK(canaries());
 }
 
+/* A message's fields with the same energy and price in every hour of the day. */
+static GateFields flat(uint32_t unit, uint32_t contract, uint32_t energy, uint32_t price) {
+    GateFields m = every_hour(contract != 0, false, unit, contract, energy, price);
+    for (uint32_t h = 0; h < s->hours; h++) {
+        m.energies[h] = energy;
+        m.prices[h] = price;
+    }
+    return m;
+}
+
+static GatePublished line_of(uint32_t energy) {
+    GatePublished p = published(0);
+    for (size_t i = 0; i < s->hours; i++) p.energies[i] = energy;
+    return p;
+}
+
+/* K2: each border's loss at its place, refused ones that change nothing, a border sum that is brought, and case 12 with a loss of 2,000 beside
+ * a Portuguese border with one of 1,500. */
+static void losses(void) {
+    const GateDate spring = {2006, 3, 26};
+    open_day(spring);
+    for (uint32_t b = 0; b <= 4; b++) CHECK(s->losses[b] == 0);
+    for (uint32_t b = 1; b <= 4; b++) CHECK(accepted(call_loss(s, (GateLoss){b, 500 * b})));
+    for (uint32_t b = 0; b <= 4; b++) CHECK(s->losses[b] == 500 * b);
+    static GateSession before;
+    before = *s;
+    const GateLoss none[] = {{0, 0}, {0, 1}, {5, 0}, {UINT32_MAX, 1}, {1, GATE_MAX_LOSS + 1}, {4, UINT32_MAX}, {2, UINT32_MAX - 9999}};
+    for (size_t i = 0; i < sizeof none / sizeof *none; i++) CHECK(refused(call_loss(s, none[i]), GATE_REFUSED_RANGE, 0));
+    CHECK(same_session(&before, s));
+    CHECK(accepted(call_loss(s, (GateLoss){GATE_FRANCE, GATE_MAX_LOSS})) && accepted(call_loss(s, (GateLoss){GATE_ANDORRA, 0})));
+    CHECK(s->losses[0] == 0 && s->losses[1] == 2000 && s->losses[2] == 0 && s->losses[3] == 1500 && s->losses[4] == 2000 && s->reserved3 == 0);
+
+    const GateUnit units[] = {
+        unit_of(1, 1, GATE_DOMESTIC, false, 99999, false), unit_of(2, 2, GATE_DOMESTIC, true, 99999, false), unit_of(3, 3, GATE_FRANCE, true, 99999, false),
+        unit_of(4, 4, GATE_FRANCE, true, 99999, false),    unit_of(5, 5, GATE_PORTUGAL, true, 99999, false), unit_of(6, 6, GATE_PORTUGAL, false, 99999, false),
+    };
+    for (size_t i = 0; i < 6; i++) CHECK(accepted(call_register(s, units[i])));
+    GateCapacities c;
+    memset(&c, 0, sizeof c);
+    c.directions[gate_direction(GATE_FRANCE, true)] = line_of(100);
+    c.directions[gate_direction(GATE_PORTUGAL, true)] = line_of(30);
+    c.directions[gate_direction(GATE_PORTUGAL, false)] = line_of(41);
+    CHECK(accepted(call_capacity(s, c)));
+    CHECK(s->losses[1] == 2000 && s->losses[3] == 1500);
+    CHECK(numbered(lodge(flat(1, 0, 900, 3000)), 1) && numbered(lodge(flat(3, 0, 150, 5000)), 2));
+    CHECK(numbered(lodge(flat(2, 0, 100, 4000)), 3) && numbered(lodge(flat(4, 12, 60, 0)), 4));
+    /* 71 x 1.15 = 81.65; what is sold keeps 71. */
+    CHECK(refused(lodge(flat(5, 0, 82, 5000)), GATE_REFUSED_BORDER, 1) && numbered(lodge(flat(5, 0, 81, 5000)), 5));
+    CHECK(refused(lodge(flat(6, 0, 72, 18030)), GATE_REFUSED_BORDER, 1) && numbered(lodge(flat(6, 0, 71, 18030)), 6));
+    CHECK(accepted(call_close(s)));
+    verdicts_agree();
+    before = *s;
+    CHECK(refused(call_loss(s, (GateLoss){1, 0}), GATE_REFUSED_GATE, 0) && refused(call_loss(s, (GateLoss){0, UINT32_MAX}), GATE_REFUSED_GATE, 0));
+    CHECK(same_session(&before, s));
+    CHECK(is(call_clear(s), GATE_STEPS, 0, 0, 0, 23));
+    for (uint32_t h = 1; h <= 23; h++) {
+        CHECK(figure(gate_market_maximum(s, GATE_FRANCE, true, h), 71) && figure(gate_market_balance(s, GATE_FRANCE, h), 71));
+        CHECK(figure(gate_matched(s, 3, h), 85) && figure(gate_executed(s, 4, h), 34));
+        CHECK(figure(gate_bilateral_maximum(s, GATE_FRANCE, true, h), 29) && figure(gate_bilateral_balance(s, GATE_FRANCE, h), 29));
+        /* 81 counts 71 (70.4), of which 30 are left: 34 (34.5). */
+        CHECK(figure(gate_market_balance(s, GATE_PORTUGAL, h), 30) && figure(gate_matched(s, 5, h), 34));
+        CHECK(figure(gate_matched(s, 1, h), 219) && figure(gate_matched(s, 2, h), 100));
+    }
+    figures_agree();
+    CHECK(canaries());
+}
+
+/* Losses that no call sets, near 2 to the 32nd, in a session: nothing is promised of the answers, but every call returns, and writes nothing
+ * beside the session. */
+static void large_losses(void) {
+    const uint32_t numbers[] = {GATE_MAX_LOSS + 1, UINT32_MAX - 10000, UINT32_MAX - 9999, UINT32_MAX};
+    for (size_t i = 0; i < sizeof numbers / sizeof *numbers; i++) {
+        open_day(LONG_DAY);
+        CHECK(accepted(call_register(s, unit_of(1, 1, GATE_DOMESTIC, false, 99999, false))));
+        CHECK(accepted(call_register(s, unit_of(2, 2, GATE_FRANCE, true, 99999, false))));
+        CHECK(accepted(call_register(s, unit_of(3, 3, GATE_MOROCCO, true, 99999, true))));
+        GateCapacities c;
+        memset(&c, 0, sizeof c);
+        for (uint32_t b = 1; b <= 4; b++) {
+            c.directions[gate_direction(b, true)] = line_of(99999);
+            c.directions[gate_direction(b, false)] = line_of(99999);
+        }
+        CHECK(accepted(call_capacity(s, c)));
+        for (uint32_t b = 0; b <= 4; b++) s->losses[b] = numbers[i];
+        CHECK(numbered(lodge(flat(1, 0, 99999, 3000)), 1));
+        lodge(flat(2, 0, 99999, 5000));
+        lodge(flat(3, 0, 99999, 18030));
+        lodge(flat(2, 12, 99999, 0));
+        c.directions[gate_direction(GATE_FRANCE, true)] = c.directions[gate_direction(GATE_MOROCCO, true)] = line_of(0);
+        CHECK(accepted(call_capacity(s, c)));
+        call_close(s);
+        call_clear(s);
+        for (uint32_t b = 0; b <= 5; b++) {
+            gate_market_balance(s, b, 1);
+            gate_bilateral_balance(s, b, 25);
+            gate_market_maximum(s, b, true, 1);
+            gate_bilateral_maximum(s, b, false, 25);
+        }
+        for (uint32_t number = 0; number <= 5; number++) gate_verdict(s, number);
+        for (uint32_t b = 0; b <= 4; b++) CHECK(s->losses[b] == numbers[i]);
+        CHECK(canaries());
+    }
+}
+
 /* Document 01's case 12 in every hour of the short day, and below zero: the market exports more than the capacity, since executions import. */
 static void cuts(void) {
     const GateDate spring = {2006, 3, 26};
@@ -503,6 +607,13 @@ static void *all_days(void *unused) {
     fill = 0x00;
     rights();
     CHECK(same_session(&first, s));
+    fill = 0xFF;
+    losses();
+    first = *s;
+    fill = 0x00;
+    losses();
+    CHECK(same_session(&first, s));
+    large_losses();
     cuts();
     any_bytes();
     return unused;

@@ -106,6 +106,9 @@ static GateRights rights(uint32_t agent, bool purchase, size_t count, uint32_t e
     for (size_t i = 0; i < GATE_HOURS; i++) n.energies[i] = energy;
     return n;
 }
+static GateLoss loss(uint32_t border, uint32_t lost) {
+    return (GateLoss){border, lost};
+}
 static GateCapacities capacities(size_t count, uint32_t energy) {
     GateCapacities c = {0};
     for (size_t d = 0; d < GATE_DIRECTIONS; d++) {
@@ -169,6 +172,8 @@ static void changes_too_late(void) {
     REFUSED(call_register(s, marked(unit(900, 900, GATE_FRANCE, true))), GATE_REFUSED_GATE, 0);
     REFUSED(call_rights(s, rights(2, true, 24, 5)), GATE_REFUSED_GATE, 0);
     REFUSED(call_rights(s, rights(0, false, 3, 100000)), GATE_REFUSED_GATE, 0);
+    REFUSED(call_loss(s, loss(1, 5)), GATE_REFUSED_GATE, 0);
+    REFUSED(call_loss(s, loss(0, 2001)), GATE_REFUSED_GATE, 0);
     REFUSED(call_capacity(s, capacities(24, 5)), GATE_REFUSED_GATE, 0);
     REFUSED(call_capacity(s, capacities(26, 100000)), GATE_REFUSED_GATE, 0);
     REFUSED_LODGING(key(false, 1, 0), 1, 10, GATE_REFUSED_GATE, 0);
@@ -207,6 +212,11 @@ static void open_refusals(bool registered) {
     REFUSED(call_rights(s, rights(2, true, 24, 100000)), GATE_REFUSED_RANGE, 0);
     REFUSED(call_rights(s, rights(2, false, 24, 5)), GATE_REFUSED_UNIT, 0);
     REFUSED(call_rights(s, rights(901, true, 24, 5)), GATE_REFUSED_UNIT, 0);
+    REFUSED(call_loss(s, loss(1, 2001)), GATE_REFUSED_RANGE, 0);
+    REFUSED(call_loss(s, loss(4, 4294967295u)), GATE_REFUSED_RANGE, 0);
+    REFUSED(call_loss(s, loss(0, 0)), GATE_REFUSED_RANGE, 0);
+    REFUSED(call_loss(s, loss(5, 0)), GATE_REFUSED_RANGE, 0);
+    REFUSED(call_loss(s, loss(4294967295u, 4294967295u)), GATE_REFUSED_RANGE, 0);
     REFUSED(call_unavailability(s, availability(1, 23, 5)), GATE_REFUSED_HOUR, 0);
     REFUSED(call_unavailability(s, availability(1, 24, 100000)), GATE_REFUSED_RANGE, 0);
     REFUSED(call_unavailability(s, availability(901, 24, 5)), GATE_REFUSED_UNIT, 0);
@@ -252,6 +262,8 @@ static void fill(void) {
     REFUSED(call_register(s, marked(unit(3, 1, GATE_FRANCE, true))), GATE_REFUSED_RIGHTS, 0);
     ACCEPTED(call_register(s, marked(unit(3, 2, GATE_FRANCE, true))));
     ACCEPTED(call_rights(s, rights(2, true, 24, 40)));
+    ACCEPTED(call_loss(s, loss(GATE_FRANCE, 25))); /* 200 x 1.0025 = 200.5: its limits stay */
+    ACCEPTED(call_loss(s, loss(GATE_MOROCCO, GATE_MAX_LOSS)));
     ACCEPTED(call_capacity(s, capacities(24, 100)));
     ACCEPTED(call_unavailability(s, availability(1, 24, 700)));
     NUMBERED(lodge(key(false, 1, 0), 1, 500));

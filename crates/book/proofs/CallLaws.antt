@@ -56,3 +56,7 @@ module _ (p : List ℕ) where
       → D.rights n purchase (counted m es) ≡ call_of 8 p
   unfolding call_of
   call-8 n m purchase es x w y z = rw (x, w, y, z)
+
+  pub call-10 : (border l : ℕ) → border ≡ word_at p 0 → l ≡ word_at p 4 → D.loss border l ≡ call_of 10 p
+  unfolding call_of
+  call-10 border l x y = rw (x, y)

@@ -65,7 +65,8 @@ logged-typed k p =
     (λ e. by_bool (eqb k 6) (λ f. rw (a, b, c, d, e, f) (other _ refl))
     (λ f. by_bool (eqb k 7) (λ g. rw (a, b, c, d, e, f, g) (other _ refl))
     (λ g. by_bool (eqb k 8) (λ h. rw (a, b, c, d, e, f, g, h) (other _ refl))
-    (λ h. rw (a, b, c, d, e, f, g, h) (other _ refl)))))))))
+    (λ h. by_bool (eqb k 9) (λ i. rw (a, b, c, d, e, f, g, h, i) (other _ refl))
+    (λ i. rw (a, b, c, d, e, f, g, h, i) (other _ refl))))))))))
 
 -- The loop
 

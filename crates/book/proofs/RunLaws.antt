@@ -16,7 +16,7 @@ use Rattle.session.specs.Steps.{Met, As}
 use Rattle.session.specs.declared.Session.{Session}
 use Rattle.session.specs.declared.Effect.{Effect}
 use Rattle.session.proofs.SoundLaws.{opening-sound, effect-sound}
-use Rattle.book.specs.Runs.{Called, registers, notifies, avails, grants, lodges, annuls, closes, clears, Ran, ended, then, Started, opened, Agrees}
+use Rattle.book.specs.Runs.{Called, registers, notifies, avails, grants, sets, lodges, annuls, closes, clears, Ran, ended, then, Started, opened, Agrees}
 
 -- a call that is no capacity notice says nothing of directions
 abbrev pub is_notice : D.Call → ℕ
@@ -24,6 +24,7 @@ is_notice (D.register u) = 0
 is_notice (D.capacity cs) = 1
 is_notice (D.available n es) = 0
 is_notice (D.rights agent purchase es) = 0
+is_notice (D.loss border l) = 0
 is_notice (D.lodge bytes) = 0
 is_notice (D.annul k) = 0
 is_notice D.close = 0
@@ -37,6 +38,7 @@ directions_of (D.capacity cs) = cs
 directions_of (D.register u) = []
 directions_of (D.available n es) = []
 directions_of (D.rights agent purchase es) = []
+directions_of (D.loss border l) = []
 directions_of (D.lodge bytes) = []
 directions_of (D.annul k) = []
 directions_of D.close = []
@@ -52,6 +54,7 @@ called-typed (registers u m) = other _ refl
 called-typed (notifies n h m) = notice-typed _ (length-map n.directions published_in ∙ h)
 called-typed (avails n m) = other _ refl
 called-typed (grants n m) = other _ refl
+called-typed (sets l m) = other _ refl
 called-typed (lodges bytes m) = other _ refl
 called-typed (annuls k m) = other _ refl
 called-typed (closes m) = other _ refl
@@ -62,6 +65,7 @@ called-met (registers u m) = m
 called-met (notifies n h m) = m
 called-met (avails n m) = m
 called-met (grants n m) = m
+called-met (sets l m) = m
 called-met (lodges bytes m) = m
 called-met (annuls k m) = m
 called-met (closes m) = m

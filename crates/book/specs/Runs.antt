@@ -18,6 +18,8 @@ use Rattle.notify_rights.specs.Rights.{rights_in}
 use Rattle.notify_rights.specs.declared.Rights.{Rights}
 use Rattle.notify_capacity.specs.Capacities.{capacity_in}
 use Rattle.notify_capacity.specs.declared.Capacities.{Capacities}
+use Rattle.set_loss.specs.Losses.{loss_in}
+use Rattle.set_loss.specs.declared.Loss.{Loss}
 
 -- A call was made, with its arguments and what it gave, by value or on a lent session: each premise is the function's own contract (a
 -- capacity notice comes in an array of eight), and the call is what the book is fed.
@@ -26,6 +28,7 @@ pub data Called (s : Session) : D.Call → Effect → Type 0 where
   notifies : (n : Capacities) {r : Effect} → length n.directions ≡ 8 → Met s (capacity_in n) r → Called s (capacity_in n) r
   avails : (n : Availability) {r : Effect} → Met s (available_in n) r → Called s (available_in n) r
   grants : (n : Rights) {r : Effect} → Met s (rights_in n) r → Called s (rights_in n) r
+  sets : (l : Loss) {r : Effect} → Met s (loss_in l) r → Called s (loss_in l) r
   lodges : (message : List ℕ) {r : Effect} → Met s (D.lodge message) r → Called s (D.lodge message) r
   annuls : (key : Key) {r : Effect} → Met s (D.annul (key_in key)) r → Called s (D.annul (key_in key)) r
   closes : {r : Effect} → Met s D.close r → Called s D.close r

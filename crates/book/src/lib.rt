@@ -17,6 +17,7 @@ use notify_rights::Rights;
 use notify_unavailability::Availability;
 use rules::row::Row;
 use session::{Effect, Session};
+use set_loss::Loss;
 
 // A log run: the session at its end, how many calls were run and the bytes of their records. Fewer bytes than the log has: there
 // was room for no more answers, or what follows is no call. Answers go to the caller's room, since there is no heap; `calls` says how much of it
@@ -84,6 +85,16 @@ fn run_rights(s: Session, p: &[u8]) -> Effect
     notify_rights::grant(s, notice)
 }
 
+fn run_loss(s: Session, p: &[u8]) -> Effect
+    ensures { Met s (call_of 10 p.now) result }
+{
+    let loss = Loss {
+        border: book_log::number_at(p, 0),
+        loss: book_log::number_at(p, 4),
+    };
+    set_loss::set(s, loss)
+}
+
 fn run_annul(s: Session, p: &[u8]) -> Effect
     ensures { Met s (call_of 5 p.now) result }
 {
@@ -104,6 +115,7 @@ fn run_call(s: Session, kind: Kind, p: &[u8]) -> Effect
         Kind::Clear => clear::clear(s),
         Kind::Rights => run_rights(s, p),
         Kind::RegisterMarked => run_register(s, true, p),
+        Kind::Loss => run_loss(s, p),
     }
 }
 

@@ -5,7 +5,7 @@ use Rattle.rules.specs.Lists.{from}
 use Rattle.rules.specs.Units.{TradingUnit, Published, Capacities}
 use Rattle.rules.specs.Message.{Key}
 use Rattle.rules.specs.Borders.{positive}
-use Rattle.rules.specs.DayBook.{Call, register, capacity, available, rights, lodge, annul, close, clear}
+use Rattle.rules.specs.DayBook.{Call, register, capacity, available, rights, loss, lodge, annul, close, clear}
 use Rattle.message_bits.specs.Bits.{word_at}
 use Rattle.answer.specs.declared.Response.{Response}
 use Rattle.session.specs.Laid.{counted}
@@ -53,7 +53,7 @@ directions_of p = map (direction_in p) (from 0 8)
 -- Records
 
 -- whether the count of bytes that follow is that of the kind: register, capacity, available, lodge (a
--- message of any length), annul, close, clear, rights, register with the mark
+-- message of any length), annul, close, clear, rights, register with the mark, loss
 unfoldable pub is_call : ℕ → ℕ → Bool
 is_call kind size =
     cond (eqb kind 1) (eqb size 18)
@@ -64,7 +64,8 @@ is_call kind size =
     (cond (eqb kind 6) (eqb size 0)
     (cond (eqb kind 7) (eqb size 0)
     (cond (eqb kind 8) (eqb size 109)
-    (eqb kind 9 && eqb size 18))))))))
+    (cond (eqb kind 9) (eqb size 18)
+    (eqb kind 10 && eqb size 8)))))))))
 
 -- the call that the bytes say, of a kind and count that `is_call` admits
 unfoldable pub call_of : ℕ → List ℕ → Call
@@ -77,7 +78,8 @@ call_of kind p =
     (cond (eqb kind 6) close
     (cond (eqb kind 7) clear
     (cond (eqb kind 8) (rights (word_at p 0) (mark_at p 4) (counted (word_at p 5) (numbers_at p 9)))
-    (register (unit_of true p)))))))))
+    (cond (eqb kind 9) (register (unit_of true p))
+    (loss (word_at p 0) (word_at p 4))))))))))
 
 -- the bytes that follow a record's head of three: its kind, and their count in two
 unfoldable pub size_of : List ℕ → ℕ

@@ -1,7 +1,7 @@
 -- The kinds of records.
 use Rattle.std.specs.Prelude.{ℕ, ◌≡◌, ◌≤◌, ◌<◌, Bool, true, eqb, Result, MatchResult}
 use Rattle.book_log.specs.declared.Kind.{Kind}
-use Rattle.book_log.specs.declared.Kind.TheVariants.{Register, Capacity, Available, Lodge, Annul, Close, Clear, Rights, RegisterMarked}
+use Rattle.book_log.specs.declared.Kind.TheVariants.{Register, Capacity, Available, Lodge, Annul, Close, Clear, Rights, RegisterMarked, Loss}
 use Rattle.book_log.specs.declared.UnknownKind.{UnknownKind}
 
 abbrev pub number_of : Kind → ℕ
@@ -15,11 +15,12 @@ number_of = elim [
   | Clear ↦ 7
   | Rights ↦ 8
   | RegisterMarked ↦ 9
+  | Loss ↦ 10
 ]
 
 -- the kind with this number, or the number where no kind has it
 abbrev pub Decodes : ℕ → Result Kind UnknownKind → Type 0
-Decodes n r = MatchResult r (λ kind. number_of kind ≡ n) (λ e. (e.0 ≡ n) × (1 ≤ n → 9 < n))
+Decodes n r = MatchResult r (λ kind. number_of kind ≡ n) (λ e. (e.0 ≡ n) × (1 ≤ n → 10 < n))
 
 -- whether a record of this kind has so many bytes
 abbrev pub has_size : Kind → ℕ → Bool
@@ -33,4 +34,5 @@ has_size = elim [
   | Clear ↦ λ size. eqb size 0
   | Rights ↦ λ size. eqb size 109
   | RegisterMarked ↦ λ size. eqb size 18
+  | Loss ↦ λ size. eqb size 8
 ]

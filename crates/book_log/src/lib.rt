@@ -23,12 +23,14 @@ const RIGHTS_SIZE: usize = 109;
 
 const KEY_SIZE: usize = 10;
 
+const LOSS_SIZE: usize = 8;
+
 // A capacity notice has eight directions.
 const DIRECTION_SIZE: usize = 105;
 
 const CAPACITY_SIZE: usize = DIRECTIONS * DIRECTION_SIZE;
 
-// What a record calls for. Its numbers are 1 to 9; queries have theirs from 101 on (crates/query_any).
+// What a record calls for. Its numbers are 1 to 10; queries have theirs from 101 on (crates/query_any).
 #[derive(Clone, Copy, Debug, PartialEq, Eq)]
 pub enum Kind {
     Register,
@@ -41,6 +43,7 @@ pub enum Kind {
     Rights,
     // Of a unit "with rights": 1 stays the record of a unit without them.
     RegisterMarked,
+    Loss,
 }
 
 // A number that is no kind's; a type of its own, as `UnknownRow`.
@@ -63,6 +66,7 @@ impl TryFrom<u8> for Kind {
             7 => Ok(Kind::Clear),
             8 => Ok(Kind::Rights),
             9 => Ok(Kind::RegisterMarked),
+            10 => Ok(Kind::Loss),
             _ => Err(UnknownKind(number)),
         }
     }
@@ -90,6 +94,7 @@ impl Kind {
             Kind::Annul => size == KEY_SIZE,
             Kind::Close | Kind::Clear => size == 0,
             Kind::Rights => size == RIGHTS_SIZE,
+            Kind::Loss => size == LOSS_SIZE,
         }
     }
 }

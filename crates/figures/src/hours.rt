@@ -1,15 +1,15 @@
 // An hour given line by line, cleared, and its figures shown.
 ghost use Rattle.std.specs.Prelude.{◌≡◌, ◌+◌, true, false, Some, None};
 ghost use Rattle.std.proofs.Math.IntN.{sub_ℕ};
-ghost use Rattle.figures.specs.Hours.{no_parts, with_part, put_in, in_range_of, cleared_of, answer_in_range, answer_of};
+ghost use Rattle.figures.specs.Hours.{no_parts, with_loss, with_part, put_in, in_range_of, cleared_of, answer_in_range, answer_of};
 
 use arrayvec::ArrayVec;
 use hour::{Figures, Hour};
-use hour_offers::{Execution, Offer};
-use rules::DIRECTIONS;
+use hour_offers::{Execution, Holder, Offer};
+use rules::{DIRECTIONS, LOSSES};
 use std::{fmt, mem};
 
-// A part of an hour: a lodgement, or the capacity of a border's direction.
+// A part of an hour: a lodgement, the capacity of a border's direction, or the loss of a border.
 #[derive(Clone, Copy)]
 pub(crate) enum Part {
     Offer(Offer),
@@ -19,17 +19,52 @@ pub(crate) enum Part {
         export: bool,
         energy: u32,
     },
+    Loss {
+        border: u32,
+        loss: u32,
+    },
 }
 
-// Whether an hour can have a part, which it then has. It has room for so many lodgements, and no hour has a capacity of border 0. A capacity of
-// what is no border is passed over.
-fn takes(hour: &mut Hour, part: Part) -> bool
-    ensures taken { result ≡ true → with_part part hour.old ≡ Some hour.new }
-    ensures full { result ≡ false → with_part part hour.old ≡ None }
+// The parts of an hour that are given so far: the hour, and the losses of the borders, which its lodgements take with them.
+#[derive(Drop)]
+pub(crate) struct Given {
+    hour: Hour,
+    losses: [u32; LOSSES],
+}
+
+// A holder with the loss of its border, if it buys and has none of its own.
+#[tactic(auto, unfolding(rules::specs::Units::loss_of))]
+fn with_loss(losses: &[u32; LOSSES], holder: Holder) -> Holder
+    ensures { result ≡ with_loss losses.now holder }
+{
+    if holder.purchase && holder.loss == 0 {
+        let loss = losses.get(holder.border as usize).copied().unwrap_or(0);
+        Holder { loss, ..holder }
+    } else {
+        holder
+    }
+}
+
+// Whether an hour can have a part, which it then has. It has room for so many lodgements, and no hour has a capacity of border 0, or a loss of what
+// is no border. A capacity of that is passed over.
+fn takes(given: &mut Given, part: Part) -> bool
+    ensures taken { result ≡ true → with_part part given.old ≡ Some given.new }
+    ensures full { result ≡ false → with_part part given.old ≡ None }
 {
     match part {
-        Part::Offer(offer) => hour.offers.try_push(offer).is_ok(),
-        Part::Execution(execution) => hour.executions.try_push(execution).is_ok(),
+        Part::Offer(offer) => {
+            let holder = with_loss(&given.losses, offer.holder);
+            let offer = Offer { holder, ..offer };
+            given.hour.offers.try_push(offer).is_ok()
+        }
+        Part::Execution(execution) => {
+            let holder = with_loss(&given.losses, execution.holder);
+            let execution = Execution {
+                holder,
+                ..execution
+            };
+            given.hour.executions.try_push(execution).is_ok()
+        }
         Part::Capacity {
             border,
             export,
@@ -39,33 +74,42 @@ fn takes(hour: &mut Hour, part: Part) -> bool
                 return false;
             }
             if border < 5 {
-                hour.capacities[hour_borders::direction(border, export)] = Some(energy);
+                given.hour.capacities[hour_borders::direction(border, export)] = Some(energy);
             }
             true
+        }
+        Part::Loss { border, loss } => {
+            let is_border = border != 0 && border < 5;
+            if is_border {
+                given.losses[border as usize] = loss;
+            }
+            is_border
         }
     }
 }
 
 // The hour that is being given; none after a part that no hour has, or more lodgements than one has room for.
 #[derive(Drop)]
-pub(crate) struct NextHour(Option<Hour>);
+pub(crate) struct NextHour(Option<Given>);
 
 impl NextHour {
     pub(crate) fn new() -> NextHour
         ensures { result.0 ≡ Some no_parts }
     {
-        NextHour(Some(Hour {
+        let hour = Hour {
             offers: ArrayVec::new(),
             executions: ArrayVec::new(),
             capacities: [None; DIRECTIONS],
-        }))
+        };
+        let losses = [0; LOSSES];
+        NextHour(Some(Given { hour, losses }))
     }
 
     pub(crate) fn put(&mut self, part: Part)
         ensures { self.new.0 ≡ put_in part self.old.0 }
     {
-        if let Some(hour) = &mut self.0 {
-            if !takes(hour, part) {
+        if let Some(given) = &mut self.0 {
+            if !takes(given, part) {
                 self.0 = None;
             }
         }
@@ -76,8 +120,8 @@ impl NextHour {
         ensures answer { result.0 ≡ answer_in_range self.old.0 }
         ensures next { self.new.0 ≡ Some no_parts }
     {
-        let NextHour(hour) = mem::replace(self, NextHour::new());
-        Answer(hour.and_then(|hour| Cleared::in_range(hour)))
+        let NextHour(given) = mem::replace(self, NextHour::new());
+        Answer(given.and_then(|given| Cleared::in_range(given.hour)))
     }
 
     // The hour cleared if a session can hold it, and the next begins.
@@ -85,8 +129,8 @@ impl NextHour {
         ensures answer { result.0 ≡ answer_of self.old.0 }
         ensures next { self.new.0 ≡ Some no_parts }
     {
-        let NextHour(hour) = mem::replace(self, NextHour::new());
-        Answer(hour.and_then(|hour| Cleared::of(hour)))
+        let NextHour(given) = mem::replace(self, NextHour::new());
+        Answer(given.and_then(|given| Cleared::of(given.hour)))
     }
 }
 

@@ -11,10 +11,11 @@
 //                                    an offer of the next hour, of a unit with the lodging number
 //     x NUMBER BORDER PURCHASE ENERGY
 //                                    an execution of it
-//     O NUMBER UNIT BORDER PURCHASE LEGACY ENERGY PRICE
-//     X NUMBER UNIT BORDER PURCHASE LEGACY ENERGY
-//                                    the same, of a unit with a number of its own
+//     O NUMBER UNIT BORDER PURCHASE LEGACY ENERGY PRICE LOSS
+//     X NUMBER UNIT BORDER PURCHASE LEGACY ENERGY LOSS
+//                                    the same, of a unit with a number of its own, and a loss of its own, which may be left out
 //     k BORDER EXPORT ENERGY         a capacity of it
+//     l BORDER LOSS                  the loss of the border's purchases that follow and have none of their own
 //     h                              the hour so given, cleared if it is in its ranges; the next begins
 //     H                              the same, if a session can hold it
 //

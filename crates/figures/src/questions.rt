@@ -45,6 +45,7 @@ impl Question {
             b'O' => Some(Question::Part(offer_of_unit(numbers))),
             b'X' => Some(Question::Part(execution_of_unit(numbers))),
             b'k' => Some(Question::Part(capacity(numbers))),
+            b'l' => Some(Question::Part(loss(numbers))),
             b'h' => Some(Question::ClearInRange),
             b'H' => Some(Question::Clear),
             _ => None,
@@ -120,13 +121,13 @@ fn write(mut numbers: Numbers<'_>) -> Question {
     Question::Write(room as usize, fields)
 }
 
-// Of a unit with the number of its lodgement.
+// Of a unit with the number of its lodgement, not given a loss.
 fn offer(mut numbers: Numbers<'_>) -> Part {
     let number = numbers.number();
     offered(number, number, numbers)
 }
 
-// Of a unit with a number of its own.
+// Of a unit with a number of its own, and with a loss where one stands behind the price.
 fn offer_of_unit(mut numbers: Numbers<'_>) -> Part {
     let number = numbers.number();
     let unit = numbers.number();
@@ -139,12 +140,14 @@ fn offered(number: u32, unit: u32, mut numbers: Numbers<'_>) -> Part {
     let legacy = numbers.mark();
     let energy = numbers.number();
     let price = numbers.number();
+    let loss = numbers.number();
     let holder = Holder {
         number,
         unit,
         border,
         purchase,
         legacy,
+        loss,
     };
     Part::Offer(Offer::new(holder, price, energy))
 }
@@ -161,11 +164,12 @@ fn execution(mut numbers: Numbers<'_>) -> Part {
         border,
         purchase,
         legacy: false,
+        loss: 0,
     };
     Part::Execution(Execution::new(holder, energy))
 }
 
-// Of a unit with a number and a legacy mark of its own.
+// Of a unit with a number and a legacy mark of its own, and with a loss where one stands behind the energy.
 fn execution_of_unit(mut numbers: Numbers<'_>) -> Part {
     let number = numbers.number();
     let unit = numbers.number();
@@ -173,12 +177,14 @@ fn execution_of_unit(mut numbers: Numbers<'_>) -> Part {
     let purchase = numbers.mark();
     let legacy = numbers.mark();
     let energy = numbers.number();
+    let loss = numbers.number();
     let holder = Holder {
         number,
         unit,
         border,
         purchase,
         legacy,
+        loss,
     };
     Part::Execution(Execution::new(holder, energy))
 }
@@ -193,4 +199,11 @@ fn capacity(mut numbers: Numbers<'_>) -> Part {
         export,
         energy,
     }
+}
+
+// Of a border's exports.
+fn loss(mut numbers: Numbers<'_>) -> Part {
+    let border = numbers.number();
+    let loss = numbers.number();
+    Part::Loss { border, loss }
 }

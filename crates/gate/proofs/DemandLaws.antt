@@ -21,6 +21,7 @@ use Rattle.session.specs.Steps.{Opens}
 use Rattle.notify_unavailability.specs.Notices.{available_in}
 use Rattle.notify_rights.specs.Rights.{rights_in}
 use Rattle.notify_capacity.specs.Capacities.{capacity_in}
+use Rattle.set_loss.specs.Losses.{loss_in}
 use Rattle.query.specs.Replies.{Answered}
 use Rattle.book.specs.Runs as R
 use Rattle.book.specs.Runs.{Called}
@@ -31,6 +32,7 @@ use Rattle.gate.specs.contracts.gate_register as register
 use Rattle.gate.specs.contracts.gate_capacity as capacity
 use Rattle.gate.specs.contracts.gate_unavailability as available
 use Rattle.gate.specs.contracts.gate_rights as rights
+use Rattle.gate.specs.contracts.gate_loss as loss
 use Rattle.gate.specs.contracts.gate_lodge as lodge
 use Rattle.gate.specs.contracts.gate_annul as annul
 use Rattle.gate.specs.contracts.gate_close as close
@@ -59,6 +61,7 @@ pub record GateDemanded {M : Type 1} {𝓤 : Ura M} (𝓛 : Logic 𝓤) (at_mem 
   pub notifies : Promises 𝓤 capacity.ended (capacity.clauses 𝓛 at_mem run) (λ κs a r e. length a.1.0.directions ≡ 8 → Called a.0.now (capacity_in a.1.0) (record { session = e.0.now; answer = r }))
   pub avails : Promises 𝓤 available.ended (available.clauses 𝓛 at_mem run) (λ κs a r e. Called a.0.now (available_in a.1.0) (record { session = e.0.now; answer = r }))
   pub grants : Promises 𝓤 rights.ended (rights.clauses 𝓛 at_mem run) (λ κs a r e. Called a.0.now (rights_in a.1.0) (record { session = e.0.now; answer = r }))
+  pub sets : Promises 𝓤 loss.ended (loss.clauses 𝓛 at_mem run) (λ κs a r e. Called a.0.now (loss_in a.1.0) (record { session = e.0.now; answer = r }))
   pub lodges : Promises 𝓤 lodge.ended (lodge.clauses 𝓛 at_mem run) (λ κs a r e. Called a.0.now (D.lodge a.1.0.now) (record { session = e.0.now; answer = r }))
   pub annuls : Promises 𝓤 annul.ended (annul.clauses 𝓛 at_mem run) (λ κs a r e. Called a.0.now (D.annul (key_in a.1.0)) (record { session = e.0.now; answer = r }))
   pub closes : Promises 𝓤 close.ended (close.clauses 𝓛 at_mem run) (λ κs a r e. Called a.0.now D.close (record { session = e.0.now; answer = r }))
@@ -82,6 +85,7 @@ gate-demand-3 {𝓤 = 𝓤} 𝓛 at_mem run = record {
   notifies = record { ghost = λ κs a. tt; asks = λ κs a. id⊢ 𝓤 _; gives = λ κs a g r e. fact_mono 𝓤 _ _ (λ m h. R.notifies a.1.0 h m) };
   avails = record { ghost = λ κs a. tt; asks = λ κs a. id⊢ 𝓤 _; gives = λ κs a g r e. fact_mono 𝓤 _ _ (λ m. R.avails a.1.0 m) };
   grants = record { ghost = λ κs a. tt; asks = λ κs a. id⊢ 𝓤 _; gives = λ κs a g r e. fact_mono 𝓤 _ _ (λ m. R.grants a.1.0 m) };
+  sets = record { ghost = λ κs a. tt; asks = λ κs a. id⊢ 𝓤 _; gives = λ κs a g r e. fact_mono 𝓤 _ _ (λ m. R.sets a.1.0 m) };
   lodges = record { ghost = λ κs a. tt; asks = λ κs a. id⊢ 𝓤 _; gives = λ κs a g r e. fact_mono 𝓤 _ _ (λ m. R.lodges a.1.0.now m) };
   annuls = record { ghost = λ κs a. tt; asks = λ κs a. id⊢ 𝓤 _; gives = λ κs a g r e. fact_mono 𝓤 _ _ (λ m. R.annuls a.1.0 m) };
   closes = record { ghost = λ κs a. tt; asks = λ κs a. id⊢ 𝓤 _; gives = λ κs a g r e. fact_mono 𝓤 _ _ (λ m. R.closes m) };

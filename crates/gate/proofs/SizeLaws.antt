@@ -3,5 +3,5 @@ use mathlib.Core.Path.{◌≡◌, refl}
 use prog.Memory.{size}
 use Rattle.session.proofs.Session.TheLaws as T'
 
-pub session-size : size T'.mir ≡ 59952
+pub session-size : size T'.mir ≡ 59976
 session-size = refl

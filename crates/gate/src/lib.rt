@@ -15,6 +15,7 @@ ghost use Rattle.session.specs.Steps.{Opens, Met};
 ghost use Rattle.notify_unavailability.specs.Notices.{available_in};
 ghost use Rattle.notify_rights.specs.Rights.{rights_in};
 ghost use Rattle.notify_capacity.specs.Capacities.{capacity_in};
+ghost use Rattle.set_loss.specs.Losses.{loss_in};
 ghost use Rattle.query.specs.Replies.{Answered};
 
 use answer::{ClockName, Response};
@@ -25,23 +26,24 @@ use notify_rights::Rights;
 use notify_unavailability::Availability;
 use session::{Key, Opened, Session, Unit};
 use session_changes::{perform, settle};
+use set_loss::Loss;
 
 // What the archive is: a program asks before its first call whether it was compiled with the header of this archive.
 
 // `GATE_VERSION` of include/gate.h. Each change of a name, a struct or a meaning there raises it.
 #[unsafe(no_mangle)]
 pub extern "C" fn gate_version() -> u32
-    ensures { result ≡ 3 }
+    ensures { result ≡ 4 }
 {
-    3
+    4
 }
 
 // The bytes of a session: the size of its type (`session-size` of proofs/SizeLaws.antt).
 #[unsafe(no_mangle)]
 pub extern "C" fn gate_session_size() -> u64
-    ensures { result ≡ 59952 }
+    ensures { result ≡ 59976 }
 {
-    59952
+    59976
 }
 
 // Dates
@@ -129,6 +131,14 @@ pub extern "C" fn gate_capacity(s: &mut Session, notice: Capacities) -> Response
     ensures { Met s.old (capacity_in notice) (record { session = s.new; answer = result }) }
 {
     perform(s, &notice)
+}
+
+// Sets the loss of a border: 2, 5.
+#[unsafe(no_mangle)]
+pub extern "C" fn gate_loss(s: &mut Session, loss: Loss) -> Response
+    ensures { Met s.old (loss_in loss) (record { session = s.new; answer = result }) }
+{
+    perform(s, &loss)
 }
 
 // Lodges a message: 2, 3, 4, 5, 6, 9, 10, 11, 12, 15.

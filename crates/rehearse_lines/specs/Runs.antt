@@ -13,10 +13,11 @@ use Rattle.session.specs.declared.Session.{Session}
 use Rattle.notify_capacity.specs.Capacities.{capacity_in}
 use Rattle.notify_unavailability.specs.Notices.{available_in}
 use Rattle.notify_rights.specs.Rights.{rights_in}
+use Rattle.set_loss.specs.Losses.{loss_in}
 use Rattle.query.specs.Replies.{Answered}
 use Rattle.query_any.specs.Asked.{query_in}
 use Rattle.rehearse_words.specs.declared.calls.Call.{Call}
-use Rattle.rehearse_words.specs.declared.calls.Call.TheVariants.{Register, Capacity, Available, Rights, Lodge, Annul, Close, Clear}
+use Rattle.rehearse_words.specs.declared.calls.Call.TheVariants.{Register, Capacity, Available, Rights, Loss, Lodge, Annul, Close, Clear}
 use Rattle.rehearse_words.specs.declared.lines.Line.{Line}
 use Rattle.rehearse_words.specs.declared.lines.Line.TheVariants as L
 use Rattle.rehearse_lines.specs.declared.telling.Said.{Said}
@@ -29,6 +30,7 @@ call_in = elim [
   | Capacity notice ↦ capacity_in notice
   | Available notice ↦ available_in notice
   | Rights notice ↦ rights_in notice
+  | Loss loss ↦ loss_in loss
   | Lodge message ↦ D.lodge message.items
   | Annul key ↦ D.annul (key_in key)
   | Close ↦ D.close

@@ -45,6 +45,7 @@ fn effect(s: Session, call: Call) -> Effect
         Call::Capacity(notice) => notify_capacity::capacity(s, notice),
         Call::Available(notice) => notify_unavailability::available(s, notice),
         Call::Rights(notice) => notify_rights::grant(s, notice),
+        Call::Loss(loss) => set_loss::set(s, loss),
         Call::Lodge(message) => lodge::lodge(s, message.as_slice()),
         Call::Annul(key) => annul::annul(s, key),
         Call::Close => close::close(s),

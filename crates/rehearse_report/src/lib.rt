@@ -2,6 +2,9 @@
 // (docs/REHEARSAL.md, "Report").
 #![tactic(auto)]
 
+ghost use Rattle.std.specs.Prelude.{◌≡◌, eqb, not};
+ghost use Rattle.std.specs.List.{list_any};
+
 use borders::Hours;
 use calendar::Date;
 use session::Session;
@@ -45,15 +48,27 @@ impl fmt::Display for Day {
     }
 }
 
+// Whether a border has a loss: then exports do not count there what units have.
+fn loses(session: &Session) -> bool
+    ensures { result ≡ list_any (λ loss. not (eqb loss 0)) session.now.losses }
+{
+    session.losses.iter().any(|loss| *loss != 0)
+}
+
 #[derive(Clone, Copy)]
 struct Figures<'a>(&'a Session);
 
 impl fmt::Display for Figures<'_> {
     fn fmt<W: fmt::Write>(&self, f: &mut fmt::Formatter<W>) -> fmt::Result {
         let session = self.0;
+        let counted = if loses(session) {
+            "; balances and maxima as counted at the border"
+        } else {
+            ""
+        };
         writeln!(
             f,
-            "\n  Energies in tenths of MWh, prices in hundredths of a euro per MWh, balances exports less imports."
+            "\n  Energies in tenths of MWh, prices in hundredths of a euro per MWh, balances exports less imports{counted}."
         )?;
         write!(f, "{}", Hours(session))?;
         for energy in [Energy::Matched, Energy::Executed] {

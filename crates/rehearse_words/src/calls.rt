@@ -9,6 +9,7 @@ use notify_rights::Rights;
 use notify_unavailability::Availability;
 use rules::{DIRECTIONS, HOURS};
 use session::{Key, Published, Unit};
+use set_loss::Loss;
 
 // The most bytes of a message that a line may lodge.
 pub const MESSAGE: usize = 4096;
@@ -19,6 +20,7 @@ pub enum Call {
     Capacity(Capacities),
     Available(Availability),
     Rights(Rights),
+    Loss(Loss),
     // lodge 10000E0000600000003C1194002F9130
     Lodge(ArrayVec<u8, MESSAGE>),
     Annul(Key),
@@ -143,6 +145,16 @@ pub(crate) fn rights(words: &mut Words) -> Option<Rights>
         energies,
         reserved3: 0,
     })
+}
+
+// loss 1 500
+pub(crate) fn loss(words: &mut Words) -> Option<Loss>
+    ensures border { IfSome result (λ loss. number_in (first_word words.old.rest.now) ≡ Some loss.border) }
+    ensures loss { IfSome result (λ loss. number_in (first_word (behind_word words.old.rest.now)) ≡ Some loss.loss) }
+{
+    let border = words.number()?;
+    let loss = words.number()?;
+    Some(Loss { border, loss })
 }
 
 // The index of a border's direction in a capacity notice.

@@ -2,7 +2,7 @@
 ghost use Rattle.std.specs.Prelude.{◌≡◌, All, IsTrue, IsNone, Some, codes};
 ghost use Rattle.rehearse_words.specs.Blanks.{is_blank};
 
-use crate::calls::{Call, availability, capacities, key, rights, unit};
+use crate::calls::{Call, availability, capacities, key, loss, rights, unit};
 use crate::messages::fields;
 use crate::queries::query;
 use crate::words::{Words, number, parted};
@@ -45,6 +45,7 @@ pub fn asked(name: &[u8], words: &mut Words) -> Option<Line>
         b"capacity" => Line::Call(Call::Capacity(capacities(words)?)),
         b"available" => Line::Call(Call::Available(availability(words)?)),
         b"rights" => Line::Call(Call::Rights(rights(words)?)),
+        b"loss" => Line::Call(Call::Loss(loss(words)?)),
         b"offer" => Line::Message(fields(words, false)?),
         b"execution" => Line::Message(fields(words, true)?),
         b"lodge" => Line::Call(Call::Lodge(words.bytes()?)),

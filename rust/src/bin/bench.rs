@@ -38,10 +38,28 @@ fn fields(key: Key, hours: usize, figures: impl Fn(u32) -> (u32, u32)) -> Fields
     })
 }
 
+/// The losses of the four borders.
+type Losses = [u32; 4];
+
+const NO_LOSSES: Losses = [0; 4];
+
+/// Of a day with losses, no two alike.
+const SOME_LOSSES: Losses = [2000, 300, 1500, 777];
+
+/// The least ones: an energy of up to 10,000 counts at the border what it is, by a division.
+const LEAST_LOSSES: Losses = [1; 4];
+
+fn with_losses<E: Exchange>(mut exchange: E, losses: Losses) -> E {
+    for (border, loss) in (1..).zip(losses) {
+        exchange.call(Call::Loss(border, loss)).unwrap();
+    }
+    exchange
+}
+
 /// A long day with 64 units and 128 lodgements of 25 hours: an offer of each unit, two executions of each border unit.
 /// Quiet: every line carries all. Congested: France and Portugal export, Andorra and Morocco import, more than the lines carry.
-fn full<E: Exchange>(congested: bool) -> E {
-    let mut exchange = E::opened(LONG_DAY).1;
+fn full<E: Exchange>(congested: bool, losses: Losses) -> E {
+    let mut exchange = with_losses(E::opened(LONG_DAY).1, losses);
     let border = |number: u32| {
         if number <= 32 {
             0
@@ -91,7 +109,7 @@ fn full<E: Exchange>(congested: bool) -> E {
 
 /// The quiet day, and late notices by which no unit has any energy left: closing refuses every lodgement.
 fn without_units<E: Exchange>() -> E {
-    let mut exchange: E = full(false);
+    let mut exchange: E = full(false, NO_LOSSES);
     for number in 1..=64 {
         exchange.call(Call::Available(number, &Energies::flat(0, 25))).unwrap();
     }
@@ -100,10 +118,11 @@ fn without_units<E: Exchange>() -> E {
 
 /// An hour of 10,000 steps. French exports of 10,000 and imports of 10,000 stand against each other, and a domestic sale of 1 makes
 /// the exports pass by 1: a step takes one tenth of export, and with it goes one of import, which is the dearest sale. 60 domestic
-/// offers are matched anew at each step, and 64 executions of one unit stand beside: 64 units and 127 lodgements.
-fn adversarial<E: Exchange>() -> E {
+/// offers are matched anew at each step, and 64 executions of one unit stand beside: 64 units and 127 lodgements. With the least losses
+/// the exports count as much, and the steps are as many.
+fn adversarial<E: Exchange>(losses: Losses) -> E {
     const MANY: u32 = 10_000;
-    let mut exchange = E::opened(LONG_DAY).1;
+    let mut exchange = with_losses(E::opened(LONG_DAY).1, losses);
     exchange.call(Call::Capacity(&Capacities::none().with(1, Direction::Export, Energies::flat(0, 25)))).unwrap();
     let mut lodge = |unit: Unit, energy: u32, price: u32| {
         exchange.call(Call::Register(unit)).unwrap();
@@ -192,19 +211,26 @@ fn time(case: &mut Case) {
 }
 
 fn main() {
-    let quiet: (Day<Gate>, Day<Session>) = (Day::of(full(false)), Day::of(full(false)));
-    let congested: (Day<Gate>, Day<Session>) = (Day::of(full(true)), Day::of(full(true)));
+    let quiet: (Day<Gate>, Day<Session>) = (Day::of(full(false, NO_LOSSES)), Day::of(full(false, NO_LOSSES)));
+    let congested: (Day<Gate>, Day<Session>) = (Day::of(full(true, NO_LOSSES)), Day::of(full(true, NO_LOSSES)));
     let unavailable: (Day<Gate>, Day<Session>) = (Day::of(without_units()), Day::of(without_units()));
-    let hard: (Day<Gate>, Day<Session>) = (Day::of(adversarial()), Day::of(adversarial()));
+    let hard: (Day<Gate>, Day<Session>) = (Day::of(adversarial(NO_LOSSES)), Day::of(adversarial(NO_LOSSES)));
+    let lossy_quiet: (Day<Gate>, Day<Session>) = (Day::of(full(false, SOME_LOSSES)), Day::of(full(false, SOME_LOSSES)));
+    let lossy_congested: (Day<Gate>, Day<Session>) = (Day::of(full(true, SOME_LOSSES)), Day::of(full(true, SOME_LOSSES)));
+    let lossy_hard: (Day<Gate>, Day<Session>) = (Day::of(adversarial(LEAST_LOSSES)), Day::of(adversarial(LEAST_LOSSES)));
     assert_eq!((quiet.0.steps, quiet.1.steps), (0, 0));
     assert_eq!(congested.0.steps, congested.1.steps);
     assert_eq!(hard.0.steps, hard.1.steps);
+    assert_eq!((lossy_quiet.0.steps, lossy_quiet.1.steps), (0, 0));
+    assert_eq!(lossy_congested.0.steps, lossy_congested.1.steps);
+    assert_eq!(lossy_hard.0.steps, lossy_hard.1.steps);
 
     let two = fields(offer(7), 2, |hour| (100 + hour, 4000));
     let all = fields(offer(7), 25, |hour| (100 + hour, 4000));
     let contract = fields(execution(40, 9), 25, |hour| (30 + hour, 0));
     let beside_bytes = message(&fields(offer(40), 2, |hour| (100 + hour, 4000)));
     let replaced_bytes = message(&fields(execution(40, 2), 25, |hour| (30 + hour, 0)));
+    let export_bytes = message(&fields(offer(35), 25, |hour| (100 + hour, 4000)));
     let crowded_bytes = message(&Fields::of(offer(64)).with(1, 1, 4000));
     let (two_bytes, all_bytes, contract_bytes) = (message(&two), message(&all), message(&contract));
     let key = execution(64, 2);
@@ -288,6 +314,12 @@ fn main() {
     change!("lodge, full: an execution, an offer beside", 300, 50, quiet.lodged, |exchange, index| exchange
         .lodge(&replaced_bytes)
         .unwrap());
+    change!("lodge, full: an export of 25 hours replaced", 300, 50, quiet.lodged, |exchange, index| exchange
+        .lodge(&export_bytes)
+        .unwrap());
+    change!("lodge, full: the same with a loss", 300, 50, lossy_quiet.lodged, |exchange, index| exchange
+        .lodge(&export_bytes)
+        .unwrap());
     change!("lodge: an offer, 64 executions beside", 300, 50, hard.lodged, |exchange, index| exchange
         .lodge(&crowded_bytes)
         .unwrap());
@@ -299,10 +331,12 @@ fn main() {
     change!("unavailability notice, full", 300, 50, quiet.lodged, |exchange, index| exchange
         .unavailability(64, &available)
         .unwrap());
+    change!("loss, full", 300, 50, quiet.lodged, |exchange, index| exchange.loss(1, 500).unwrap());
     change!("register, full: refused", 300, 50, quiet.lodged, |exchange, index| exchange
         .register(unit(65, 0, true))
         .unwrap_err());
     change!("close, full", 300, 1, quiet.lodged, |exchange, index| { exchange.close().unwrap() });
+    change!("close, full, with losses", 300, 1, lossy_quiet.lodged, |exchange, index| { exchange.close().unwrap() });
     change!("close, full: every lodgement refused", 100, 1, unavailable.lodged, |exchange, index| {
         exchange.close().unwrap()
     });
@@ -317,6 +351,21 @@ fn main() {
     change!(format!("clear, one hour of {} steps", hard.0.steps), 40, 1, hard.closed, |exchange, index| exchange
         .clear()
         .unwrap());
+    change!("clear, quiet, with losses", 200, 1, lossy_quiet.closed, |exchange, index| exchange.clear().unwrap());
+    change!(
+        format!("clear, congested, with losses, {} steps", lossy_congested.0.steps),
+        100,
+        1,
+        lossy_congested.closed,
+        |exchange, index| exchange.clear().unwrap()
+    );
+    change!(
+        format!("clear, one hour of {} steps, with losses", lossy_hard.0.steps),
+        40,
+        1,
+        lossy_hard.closed,
+        |exchange, index| exchange.clear().unwrap()
+    );
     read_only!("verdict", |exchange, index| exchange.verdict(index % 128 + 1));
     read_only!("matched", |exchange, index| exchange.matched(index % 64 + 1, index % 25 + 1));
     read_only!("executed", |exchange, index| exchange.executed(index % 64 + 1, index % 25 + 1));

@@ -23,6 +23,8 @@ pub enum Entry {
     Capacity(Box<Capacities>),
     /// A rights notice of an agent, for its purchases or its sales.
     Rights(u32, bool, Energies),
+    /// A border and its loss.
+    Loss(u32, u32),
     Lodge(Vec<u8>),
     Annul(Key),
     Close,
@@ -87,6 +89,7 @@ pub fn answer<E: Exchange>(exchange: &mut E, entry: &Entry) -> Answer {
         Entry::Available(unit, energies) => Call::Available(*unit, energies),
         Entry::Capacity(capacities) => Call::Capacity(capacities),
         Entry::Rights(agent, purchase, energies) => Call::Rights(*agent, *purchase, energies),
+        Entry::Loss(border, loss) => Call::Loss(*border, *loss),
         Entry::Lodge(message) => Call::Lodge(message),
         Entry::Annul(key) => Call::Annul(*key),
         Entry::Close => Call::Close,
@@ -267,6 +270,7 @@ impl fmt::Display for Entry {
                 Ok(())
             }
             Entry::Rights(agent, purchase, list) => write!(f, "rights {agent} {} {}", side(*purchase), energies(list)),
+            Entry::Loss(border, loss) => write!(f, "loss {border} {loss}"),
             Entry::Lodge(message) => {
                 write!(f, "lodge ")?;
                 message.iter().try_for_each(|byte| write!(f, "{byte:02X}"))?;

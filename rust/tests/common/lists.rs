@@ -298,6 +298,69 @@ impl Maker {
         self.calls.push(Entry::Capacity(Box::new(notice)));
     }
 
+    /// A loss of a border, most at those with units that buy.
+    fn loss(&mut self) {
+        let exporters: Vec<u32> = self
+            .units
+            .iter()
+            .filter(|unit| unit.purchase && (1..=4).contains(&unit.border))
+            .map(|unit| unit.border)
+            .collect();
+        let mut border = match exporters.is_empty() || self.rng.chance(20) {
+            true => self.rng.between(1, 4),
+            false => self.rng.pick(&exporters),
+        };
+        let any = self.rng.below(LARGEST_LOSS + 1);
+        let mut loss = self.rng.pick(&[0, 0, 1, 300, 777, 1_500, LARGEST_LOSS, LARGEST_LOSS, any, any]);
+        if self.rng.chance(self.broken) {
+            match self.rng.below(3) {
+                0 => border = self.rng.pick(&[0, 5, 256, u32::MAX]),
+                1 => loss = self.rng.pick(&[2_001, 10_000, u32::MAX - 9_999, u32::MAX]),
+                _ => (border, loss) = (self.rng.pick(&[0, 5]), 2_001),
+            }
+        }
+        self.calls.push(Entry::Loss(border, loss));
+    }
+
+    /// Some losses in a row.
+    fn losses(&mut self) {
+        for _ in 0..self.rng.between(1, 4) {
+            self.loss();
+        }
+    }
+
+    /// An offer or an execution at what a border sum is brought to, or one more.
+    fn at_the_sum(&mut self) {
+        let exporters: Vec<Unit> =
+            self.units.iter().filter(|unit| unit.purchase && (1..=4).contains(&unit.border)).copied().collect();
+        let Some(notice) = self.calls.iter().rev().find_map(|call| match call {
+            Entry::Capacity(notice) => Some(*notice.directions()),
+            _ => None,
+        }) else {
+            return;
+        };
+        if exporters.is_empty() || self.named.is_empty() {
+            return;
+        }
+        let unit = self.rng.pick(&exporters);
+        let loss = self.calls.iter().rev().find_map(|call| match call {
+            Entry::Loss(border, loss) if *border == unit.border => Some(*loss),
+            _ => None,
+        });
+        let hour = self.rng.pick(&self.named.clone()) as usize;
+        let first = (unit.border as usize - 1) * 2;
+        if let (Some(export), Some(import)) = (notice[first], notice[first + 1]) {
+            let sum = u64::from(export.values()[hour - 1]) + u64::from(import.values()[hour - 1]);
+            let brought = sum * (10_000 + u64::from(loss.unwrap_or(0))) / 10_000 + u64::from(self.rng.below(2));
+            let energy = brought.clamp(1, u64::from(LARGEST_ENERGY)) as u32;
+            let execution = self.rng.chance(40);
+            let key = Key { execution, default: false, unit: unit.number & 0xffff, contract: u32::from(execution) };
+            self.keys.push(key);
+            let fields = Fields::of(key).with(hour, energy, 0);
+            self.calls.push(Entry::Lodge(packed(1, u32::from(execution), &fields)));
+        }
+    }
+
     fn fields(&mut self) -> Fields {
         let unit = self.any_unit();
         let border = unit.is_some_and(|unit| unit.border != 0);
@@ -446,7 +509,9 @@ impl Maker {
     fn any_call(&mut self) {
         match self.rng.below(1000) {
             640..=869 if self.theme == Theme::Full && self.rng.chance(85) => self.lodge(),
-            0..=599 => self.lodge(),
+            0..=569 => self.lodge(),
+            570..=579 => self.at_the_sum(),
+            580..=599 => self.loss(),
             600..=639 => self.rights(),
             640..=719 => self.annul(),
             720..=799 => self.capacity(),
@@ -505,6 +570,44 @@ impl Maker {
             self.keys.push(key);
             let fields = Fields::of(key).with(hour, energy, price);
             self.calls.push(Entry::Lodge(packed(1, 0, &fields)));
+        }
+    }
+
+    /// An hour in which one border is over by exports and another by imports, with C and V' near each other. C is legacy exports with a
+    /// loss, which count for less than their energy.
+    fn two_prices(&mut self) {
+        let hour = self.rng.between(1, self.hours) as usize;
+        let out = self.rng.between(1, 4);
+        let back = out % 4 + 1;
+        let loss = self.rng.pick(&[300, 1_500, LARGEST_LOSS, LARGEST_LOSS]);
+        let most = self.rng.pick(&[5, 12, 40, 300]);
+        let [wanted, legacy, imported, more] = [(); 4].map(|()| self.rng.between(1, most));
+        let figure = (legacy * 10_000).div_ceil(10_000 + loss);
+        let dear = self.rng.between(figure.max(2) - 1, legacy + 1);
+        let cheap = wanted + legacy + more;
+        let at_home = cheap + imported + dear - wanted - legacy;
+        // Border, side, legacy mark; energy and price.
+        let lodged = [
+            (0, false, false, cheap, 1_000),
+            (back, false, false, imported, 2_000),
+            (0, false, false, dear, 3_000),
+            (0, true, false, at_home, 9_000),
+            (out, true, false, wanted, 8_000),
+            (out, true, true, legacy, 7_000),
+        ];
+        let flat = |energy| Energies::flat(energy, self.hours as usize);
+        let (export, import) = (self.rng.below(wanted + 1), self.rng.below(imported));
+        let notice =
+            Capacities::none().with(out, Direction::Export, flat(export)).with(back, Direction::Import, flat(import));
+        self.calls.extend([Entry::Capacity(Box::new(notice)), Entry::Loss(out, loss)]);
+        for (number, (border, purchase, legacy, energy, price)) in (121..).zip(lodged) {
+            let maximum = LARGEST_ENERGY;
+            let unit = Unit { number, agent: number, border, purchase, maximum, legacy, rights: false };
+            self.units.push(unit);
+            self.calls.push(Entry::Register(unit));
+            let key = Key { execution: false, default: false, unit: number, contract: 0 };
+            self.keys.push(key);
+            self.calls.push(Entry::Lodge(packed(1, 0, &Fields::of(key).with(hour, energy, price))));
         }
     }
 
@@ -592,8 +695,14 @@ pub fn list(seed: u64) -> List {
     for _ in 0..units {
         maker.register();
     }
+    if maker.rng.chance(30) {
+        maker.losses();
+    }
     if maker.rng.chance(80) {
         maker.capacity();
+    }
+    if maker.rng.chance(45) {
+        maker.losses();
     }
     for _ in 0..body {
         maker.any_call();
@@ -611,6 +720,12 @@ pub fn list(seed: u64) -> List {
     }
     while maker.rng.chance(if theme == Theme::Ladder { 10 } else { 40 }) {
         maker.rights();
+    }
+    if maker.rng.chance(20) {
+        maker.loss();
+    }
+    if theme == Theme::Congested && maker.rng.chance(12) {
+        maker.two_prices();
     }
     if maker.rng.chance(5) {
         maker.calls.push(Entry::AskAll);

@@ -82,6 +82,7 @@ pub fn called(session: &mut ffi::Session, call: &Entry, reserved: u8) -> Respons
             ffi::capacity(session, ffi::Capacities { directions })
         }
         Entry::Rights(agent, purchase, energies) => ffi::rights(session, rights(*agent, *purchase, energies, reserved)),
+        Entry::Loss(border, loss) => ffi::loss(session, ffi::Loss { border: *border, loss: *loss }),
         Entry::Lodge(message) => ffi::lodge(session, message),
         Entry::Annul(one) => ffi::annul(session, key(one, reserved)),
         Entry::Close => ffi::close(session),

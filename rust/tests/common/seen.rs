@@ -15,7 +15,7 @@ pub struct Seen {
     /// Refusals of queries by number.
     pub refused_queries: [u64; 16],
     /// Calls that were carried out.
-    pub accepted: [u64; 8],
+    pub accepted: [u64; 9],
     /// Days of 23, 24 and 25 hours cleared.
     pub cleared: [u64; 3],
     pub with_steps: u64,
@@ -38,8 +38,18 @@ pub struct Seen {
     pub rights_passed: u64,
     /// Lodgements of units with rights that were taken.
     pub with_rights: u64,
+    /// Directions in an hour at their market maximum, after steps, at borders with a loss.
+    pub full_with_loss: u64,
+    /// Bilateral balances of exports that are less than the executed energy of their border's units, by a loss.
+    pub lossy_balances: u64,
     /// Numbers of the list's units with rights.
     marked: Vec<u32>,
+    /// By border, as last set.
+    losses: [u32; 5],
+    /// Of the list's units that buy abroad, number and border.
+    exporters: Vec<(u32, u32)>,
+    /// Executed energy of those in the hour asked, by border.
+    exported: [i64; 5],
     hours: usize,
     steps: u64,
     /// The hour whose maxima are asked, and the borders at their maximum in it.
@@ -48,7 +58,7 @@ pub struct Seen {
     executed: i64,
 }
 
-const CALLS: [&str; 8] = ["register", "available", "capacity", "lodge", "annul", "close", "clear", "rights"];
+const CALLS: [&str; 9] = ["register", "available", "capacity", "lodge", "annul", "close", "clear", "rights", "loss"];
 
 fn index(call: &Entry) -> usize {
     match call {
@@ -59,6 +69,7 @@ fn index(call: &Entry) -> usize {
         Entry::Annul(_) => 4,
         Entry::Close => 5,
         Entry::Rights(..) => 7,
+        Entry::Loss(..) => 8,
         _ => 6,
     }
 }
@@ -71,6 +82,9 @@ impl Seen {
         self.steps = 0;
         self.at_maximum = (0, 0);
         self.marked.clear();
+        self.losses = [0; 5];
+        self.exporters.clear();
+        self.exported = [0; 5];
     }
 
     /// Insists that lists met every refusal of a call, and the rest that is counted.
@@ -92,6 +106,8 @@ impl Seen {
             &self.partners,
             &self.rights_passed,
             &self.with_rights,
+            &self.full_with_loss,
+            &self.lossy_balances,
         ]);
         assert!(counts.into_iter().all(|count| *count >= 20), "too thin:\n{self}");
     }
@@ -120,7 +136,15 @@ impl Observer for Seen {
             _ => self.accepted[index(call)] += 1,
         }
         match (call, answer) {
-            (Entry::Register(unit), Answer::Done) if unit.rights => self.marked.push(unit.number),
+            (Entry::Register(unit), Answer::Done) => {
+                if unit.rights {
+                    self.marked.push(unit.number);
+                }
+                if unit.purchase && unit.border > 0 {
+                    self.exporters.push((unit.number, unit.border));
+                }
+            }
+            (Entry::Loss(border, loss), Answer::Done) => self.losses[*border as usize] = *loss,
             (Entry::Lodge(message), Answer::Number(_)) => {
                 let unit = model::message::read(message).map_or(0, |fields| fields.key.unit);
                 self.with_rights += u64::from(self.marked.contains(&unit));
@@ -137,6 +161,7 @@ impl Observer for Seen {
 
     fn asked(&mut self, query: Query, answer: Answer) {
         self.queries += 1;
+        self.seen_with_losses(query, answer);
         match answer {
             Answer::Refused(refusal) => self.refused_queries[refusal.number() as usize] += 1,
             Answer::Verdict(verdict) => {
@@ -169,6 +194,29 @@ impl Observer for Seen {
                 Query::Market(..) => self.balance = balance,
                 _ => self.executed = balance,
             },
+            _ => {}
+        }
+    }
+}
+
+impl Seen {
+    /// Of balances at borders with a loss. Units are asked before the borders of an hour.
+    fn seen_with_losses(&mut self, query: Query, answer: Answer) {
+        match (query, answer) {
+            (Query::Executed(unit, _), Answer::Amount(energy)) => {
+                if let Some((_, border)) = self.exporters.iter().find(|(number, _)| *number == unit) {
+                    self.exported[*border as usize] += i64::from(energy);
+                }
+            }
+            (Query::Bilateral(border, _), Answer::Figure(balance)) => {
+                let lossy = self.losses[border as usize] > 0 && balance > 0 && balance < self.exported[border as usize];
+                self.lossy_balances += u64::from(lossy);
+            }
+            (Query::MarketMaximum(border, Direction::Export, _), Answer::Maximum(Some(maximum))) => {
+                let full = self.steps > 0 && maximum > 0 && self.balance == maximum;
+                self.full_with_loss += u64::from(full && self.losses[border as usize] > 0);
+            }
+            (Query::Price(_) | Query::Verdict(_), _) => self.exported = [0; 5],
             _ => {}
         }
     }
@@ -207,6 +255,11 @@ impl fmt::Display for Seen {
             f,
             "rights: {} units refused for want of a partner, {} lodgements that pass them; {} taken of units with rights",
             self.partners, self.rights_passed, self.with_rights
+        )?;
+        writeln!(
+            f,
+            "losses: {} directions at their market maximum, {} bilateral balances below the executed energy",
+            self.full_with_loss, self.lossy_balances
         )?;
         write!(
             f,

@@ -110,6 +110,13 @@ fn simpler(call: &Entry) -> Vec<Entry> {
                 }
             }
         }
+        Entry::Loss(border, loss) => {
+            for smaller in [0, loss / 2] {
+                if smaller < *loss {
+                    all.push(Entry::Loss(*border, smaller));
+                }
+            }
+        }
         _ => {}
     }
     all
