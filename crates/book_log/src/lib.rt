@@ -30,7 +30,28 @@ const DIRECTION_SIZE: usize = 105;
 
 const CAPACITY_SIZE: usize = DIRECTIONS * DIRECTION_SIZE;
 
-// What a record calls for. Its numbers are 1 to 10; queries have theirs from 101 on (crates/query_any).
+// The kinds' numbers in a record, by name for who writes a log. Queries have theirs from 101 on (crates/query_any).
+pub const REGISTER: u8 = 1;
+
+pub const CAPACITY: u8 = 2;
+
+pub const AVAILABLE: u8 = 3;
+
+pub const LODGE: u8 = 4;
+
+pub const ANNUL: u8 = 5;
+
+pub const CLOSE: u8 = 6;
+
+pub const CLEAR: u8 = 7;
+
+pub const RIGHTS: u8 = 8;
+
+pub const REGISTER_MARKED: u8 = 9;
+
+pub const LOSS: u8 = 10;
+
+// What a record calls for.
 #[derive(Clone, Copy, Debug, PartialEq, Eq)]
 pub enum Kind {
     Register,
@@ -57,16 +78,16 @@ impl TryFrom<u8> for Kind {
 
     fn try_from(number: u8) -> Result<Kind, UnknownKind> {
         match number {
-            1 => Ok(Kind::Register),
-            2 => Ok(Kind::Capacity),
-            3 => Ok(Kind::Available),
-            4 => Ok(Kind::Lodge),
-            5 => Ok(Kind::Annul),
-            6 => Ok(Kind::Close),
-            7 => Ok(Kind::Clear),
-            8 => Ok(Kind::Rights),
-            9 => Ok(Kind::RegisterMarked),
-            10 => Ok(Kind::Loss),
+            REGISTER => Ok(Kind::Register),
+            CAPACITY => Ok(Kind::Capacity),
+            AVAILABLE => Ok(Kind::Available),
+            LODGE => Ok(Kind::Lodge),
+            ANNUL => Ok(Kind::Annul),
+            CLOSE => Ok(Kind::Close),
+            CLEAR => Ok(Kind::Clear),
+            RIGHTS => Ok(Kind::Rights),
+            REGISTER_MARKED => Ok(Kind::RegisterMarked),
+            LOSS => Ok(Kind::Loss),
             _ => Err(UnknownKind(number)),
         }
     }

@@ -168,15 +168,15 @@ module _ (H : ℕ) (own : List ℕ) (load : ℕ → ℕ) where
     abbrev by-border : Option (ℕ × ℕ)
     by-border = given_by (first_row (limit_rows H own load (border_limits (lines_in cs losses) r)))
 
-    own-parts : judged_in u n g cs losses false H own load ≡ else_by (first_passed (own_limits_for u n) H own load) by-border
+    pub judged-normal : judged_in u n g cs losses false H own load ≡ else_by (first_passed (own_limits_for u n) H own load) by-border
     unfolding first_passed own_limits_for maximum_limit_for limit_rows judged_in judged_by limits own_limits border_limits
-    own-parts = first-parts _ _ _ ∙ ap (λ (o : Option Row). else_by (given_by o) by-border) (sym (rows-two maximum-row available-row))
+    judged-normal = first-parts _ _ _ ∙ ap (λ (o : Option Row). else_by (given_by o) by-border) (sym (rows-two maximum-row available-row))
 
     pub own-passed : (q : ℕ × ℕ) → first_passed (own_limits_for u n) H own load ≡ some q → judged_in u n g cs losses false H own load ≡ some q
     unfolding else_by
-    own-passed q e = own-parts ∙ rw e refl
+    own-passed q e = judged-normal ∙ rw e refl
 
     pub own-unpassed : (line : O.Option (List ℕ)) → ((h : ℕ) → limit_at line h ≡ line_at u g cs losses h)
         → first_passed (own_limits_for u n) H own load ≡ none → judged_in u n g cs losses false H own load ≡ first_passed (border_limits_for u g line) H own load
     unfolding else_by first_passed border_limits_for limit_rows border_limits
-    own-unpassed line is e = own-parts ∙ rw e (ap given_by (sym (rows-two (border-row line is) rights-row)))
+    own-unpassed line is e = judged-normal ∙ rw e (ap given_by (sym (rows-two (border-row line is) rights-row)))

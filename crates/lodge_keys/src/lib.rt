@@ -1,12 +1,11 @@
 // Keys: a message's key, which lodgements are of a key, which hide those of it, and what a key is refused for.
 #![tactic(auto)]
 
-ghost use Rattle.std.specs.Prelude.{◌≡◌, position};
+ghost use Rattle.std.specs.Prelude.{◌≡◌, ◌≤◌, position};
 ghost use Rattle.std.specs.List.{list_any};
 ghost use Rattle.rules.specs.Message.{bad_key};
 ghost use Rattle.rules.specs.Lodging.{same_but_default, same_key, hides};
 ghost use Rattle.session.specs.Image.{key_in};
-ghost use Rattle.session.specs.Parts.{Within};
 ghost use Rattle.lodge_keys.specs.Keys.{key_for, of_key, left_of, hiding};
 ghost use Rattle.lodge_keys.specs.Holding.{HolderFor};
 
@@ -87,9 +86,9 @@ pub fn bad_key(key: Key) -> bool
     message_ranges::bad_key(key.execution, key.unit, key.contract)
 }
 
-// The unit of a key, or row 6: "unregistered, or domestic for an execution". (`Within`: `Session::sound` says why no type has it.)
+// The unit of a key, or row 6: "unregistered, or domestic for an execution". A session is C's struct, so no type says that its count fits.
 pub fn holder_for(s: &Session, key: Key) -> Result<Holder, Row>
-    requires { Within s.now }
+    requires { s.now.enrolled ≤ 64 }
     ensures { HolderFor s.now key result }
 {
     let holder = holder_of(&s.units[..s.enrolled], key.unit).ok_or(Row::Unit)?;

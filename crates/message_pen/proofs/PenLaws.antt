@@ -12,7 +12,8 @@ use lib.ListN.{length, set, take, drop, length-append}
 use lib.Seq.{drop-drop, length-sets, sets-eq}
 use Rattle.rules.specs.Lists.{round_up}
 use Rattle.rules.specs.Message.{bits, groups, bytes_of}
-use Rattle.message_pen.specs.Pens.{PenState, stored, completed_at, AppendedAt, RoomAt}
+use Rattle.message_pen.specs.declared.Pen.{Pen}
+use Rattle.message_pen.specs.Pens.{stored, completed_at, AppendedAt, RoomAt}
 use Rattle.rules.proofs.BitLaws.{length-bits, bits-split, bits-join, length-bytes_of}
 use Rattle.message_pen.proofs.PackLaws.{bits-mod, bytes_of-more, bytes_of-whole, bytes_of-last, sets-append}
 
@@ -61,7 +62,7 @@ shift_fits acc w v h k l =
     rw (shift-whole acc w h k) (omega (arith, digits_lt {q = acc} {m = 256} {r = v} {c = 2 ^ w} h l, pow_mono {i = w} {j = 40} k))
 
 -- w bits of v after those that are written; s is what is written, moved up by w bits
-module _ (buf : List ℕ) (p : PenState) (v w s : ℕ) (h : v < 2 ^ w) (e : s ≡ p.acc * 2 ^ w) where
+module _ (buf : List ℕ) (p : Pen) (v w s : ℕ) (h : v < 2 ^ w) (e : s ≡ p.acc * 2 ^ w) where
   -- the bits that wait, and those of v
   joined : (rest : List ℕ) → bits (p.pos % 8) p.acc ++ (bits w v ++ rest) ≡ bits (p.pos % 8 + w) (s + v) ++ rest
   joined rest = rw (e, ← (bits-join (p.pos % 8) w p.acc v h), append_assoc (bits (p.pos % 8) p.acc) (bits w v) rest)
@@ -80,7 +81,7 @@ module _ (buf : List ℕ) (p : PenState) (v w s : ℕ) (h : v < 2 ^ w) (e : s �
   unfolding round_up
   length_whole n u = rw (length-bytes_of (bits (n * 8) u), length-bits (n * 8) u) (omega arith)
 
-  abbrev pub after : PenState
+  abbrev pub after : Pen
   after = record { pos = p.pos + w; acc = (s + v) % 256 }
 
   pub put_same : (rest : List ℕ)
@@ -101,7 +102,7 @@ module _ (buf : List ℕ) (p : PenState) (v w s : ℕ) (h : v < 2 ^ w) (e : s �
   put-appended new t = record { long = ap length t ∙ long-stored (p.pos / 8) ((s + v) / 2 ^ ((p.pos % 8 + w) % 8)) ((p.pos % 8 + w) / 8); moved = rw (length-bits w v); byte = omega arith; same = λ rest. rw t (put_same rest) }
 
 -- bits after bits
-pub appended-append : {old mid new a b : List ℕ} {p q r : PenState} → AppendedAt old p a mid q → AppendedAt mid q b new r → AppendedAt old p (a ++ b) new r
+pub appended-append : {old mid new a b : List ℕ} {p q r : Pen} → AppendedAt old p a mid q → AppendedAt mid q b new r → AppendedAt old p (a ++ b) new r
 appended-append {a = a} {b = b} f g = record {
   long = g.long ∙ f.long;
   moved = omega (arith, f.moved, g.moved, length-append a b);
@@ -110,19 +111,19 @@ appended-append {a = a} {b = b} f g = record {
 }
 
 -- room for bits and w more is room for w after them
-pub room_after : {old new bs : List ℕ} {p r : PenState} (w : ℕ) → AppendedAt old p bs new r → RoomAt old p (length bs + w) → RoomAt new r w
+pub room_after : {old new bs : List ℕ} {p r : Pen} (w : ℕ) → AppendedAt old p bs new r → RoomAt old p (length bs + w) → RoomAt new r w
 room_after w a h = record { byte = a.byte; within = omega (arith, a.long, a.moved, h.within); small = omega (arith, a.moved, h.small) }
 
-pub room-last : {old new bs : List ℕ} {p r : PenState} → AppendedAt old p bs new r → RoomAt old p (length bs) → RoomAt new r 0
+pub room-last : {old new bs : List ℕ} {p r : Pen} → AppendedAt old p bs new r → RoomAt old p (length bs) → RoomAt new r 0
 room-last {bs = bs} a h = room_after 0 a (rw (add-zero (length bs)) h)
 
 -- The last byte
 
-pub last-whole : (buf : List ℕ) (p : PenState) → p.pos % 8 ≡ 0 → buf ≡ completed_at buf p []
+pub last-whole : (buf : List ℕ) (p : Pen) → p.pos % 8 ≡ 0 → buf ≡ completed_at buf p []
 unfolding completed_at bits bytes_of groups round_up
 last-whole buf p e = rw e
 
-pub last-part : (buf : List ℕ) (p : PenState) → p.acc < 256 → (p.pos % 8 ≡ 0 → ⊥) → set buf (p.pos / 8) (p.acc * 2 ^ (8 - p.pos % 8) % 2 ^ 64 % 256) ≡ completed_at buf p []
+pub last-part : (buf : List ℕ) (p : Pen) → p.acc < 256 → (p.pos % 8 ≡ 0 → ⊥) → set buf (p.pos / 8) (p.acc * 2 ^ (8 - p.pos % 8) % 2 ^ 64 % 256) ≡ completed_at buf p []
 unfolding completed_at
 last-part buf p h n =
     let k : 0 < p.pos % 8 = pos_of_ne-zero n in

@@ -3,50 +3,44 @@ use Rattle.std.specs.Prelude.{ℕ, ◌+◌, ◌*◌, ◌/◌, ◌%◌, ◌^◌, 
 use Rattle.std.proofs.lemmas.List.Edits.{sets}
 use Rattle.rules.specs.Units.{max_energy}
 use Rattle.rules.specs.Message as M
+use Rattle.message_pen.specs.declared.Page.{Page}
 use Rattle.message_pen.specs.declared.Pen.{Pen}
 
 -- the buffer with the last n bytes of v, highest first, from byte `at` on
 unfoldable pub stored : List ℕ → ℕ → ℕ → ℕ → List ℕ
 stored buf at v n = sets buf at (M.bytes_of (M.bits (n * 8) v))
 
--- how far a message is written: `pos` bits, of which the last pos % 8 wait in the low bits of `acc`
-pub record PenState : Type 0 where
-  pub pos : ℕ
-  pub acc : ℕ
-
-abbrev pub first : PenState
+-- the pen at the first bit
+abbrev pub first : Pen
 first = record { pos = 0; acc = 0 }
 
-abbrev pub state_of : Pen → PenState
-state_of p = record { pos = p.pos; acc = p.acc }
-
 -- the buffer once bits `bs` follow those that are written and zero bits fill the last byte
-unfoldable pub completed_at : List ℕ → PenState → List ℕ → List ℕ
+unfoldable pub completed_at : List ℕ → Pen → List ℕ → List ℕ
 completed_at buf p bs = sets buf (p.pos / 8) (M.bytes_of (M.bits (p.pos % 8) p.acc ++ bs))
 
-abbrev pub completed : Pen → List ℕ → List ℕ
-completed p bs = completed_at p.buffer.now (state_of p) bs
+abbrev pub completed : Page → List ℕ → List ℕ
+completed p bs = completed_at p.buffer.now p.pen bs
 
 -- w more bits find room in the buffer
-pub record RoomAt (buf : List ℕ) (p : PenState) (w : ℕ) : Type 0 where
+pub record RoomAt (buf : List ℕ) (p : Pen) (w : ℕ) : Type 0 where
   pub byte : p.acc < 256
   pub within : p.pos + w ≤ length buf * 8
   pub small : p.pos + w < 2 ^ 32
 
-abbrev pub Room : Pen → ℕ → Type 0
-Room p w = RoomAt p.buffer.now (state_of p) w
+abbrev pub Room : Page → ℕ → Type 0
+Room p w = RoomAt p.buffer.now p.pen w
 
 -- bits `bs` are appended: whatever follows, the buffer comes to hold the same
-pub record AppendedAt (old : List ℕ) (p : PenState) (bs : List ℕ) (new : List ℕ) (r : PenState) : Type 0 where
+pub record AppendedAt (old : List ℕ) (p : Pen) (bs : List ℕ) (new : List ℕ) (r : Pen) : Type 0 where
   pub long : length new ≡ length old
   pub moved : r.pos ≡ p.pos + length bs
   pub byte : r.acc < 256
   pub same : (rest : List ℕ) → completed_at new r rest ≡ completed_at old p (bs ++ rest)
 
--- the pen stays at its buffer, and bits `bs` are appended there
-pub record Appended (p : Pen) (bs : List ℕ) (r : Pen) : Type 0 where
+-- the page stays at its buffer, and bits `bs` are appended there
+pub record Appended (p : Page) (bs : List ℕ) (r : Page) : Type 0 where
   pub same : r.buffer.ghost_name ≡ p.buffer.ghost_name
-  pub at : AppendedAt p.buffer.now (state_of p) bs r.buffer.now (state_of r)
+  pub at : AppendedAt p.buffer.now p.pen bs r.buffer.now r.pen
 
 -- fields that are not refused
 pub record InRanges (m : M.Fields) : Type 0 where

@@ -4,7 +4,7 @@
 ghost use Rattle.std.specs.Prelude.{◌≡◌, [], ◌++◌, ℕ, ◌+◌, ◌^◌, ◌≤◌, ◌<◌, length};
 ghost use Rattle.rules.specs.Message.{form1, bits, head_bits, hour_bits};
 ghost use Rattle.message.specs.View.{fields_in};
-ghost use Rattle.message_pen.specs.Pens.{Appended, InRanges, Room, SlotFits, SlotWord, completed, first, state_of, stored};
+ghost use Rattle.message_pen.specs.Pens.{Appended, InRanges, Room, SlotFits, SlotWord, completed, first, stored};
 
 use message::Fields;
 use message::form::{KIND_WIDTH, MARK_WIDTH, NUMBER_WIDTH, PRICE_WIDTH};
@@ -29,25 +29,31 @@ const BYTE_VALUES: u64 = 1 << BYTE;
 // The bytes of a number that is put.
 const WORD_BYTES: usize = 8;
 
-// A message being written into the caller's buffer: `pos` bits so far, of which the last pos % 8 are no whole byte yet and wait in the low bits of `acc`.
-#[derive(Drop)]
-pub struct Pen<'a> {
-    pub buffer: &'a mut [u8],
+// How far a message is written: `pos` bits, of which the last pos % 8 are no whole byte yet and wait in the low bits of `acc`.
+#[derive(Clone, Copy, Debug, PartialEq, Eq)]
+pub struct Pen {
     pub pos: usize,
     pub acc: u64,
 }
 
-impl<'a> Pen<'a> {
+// A message being written into the caller's buffer, and the pen that writes it. The pen is a value of its own, so that who keeps a copy of it can go on
+// from there.
+#[derive(Drop)]
+pub struct Page<'a> {
+    pub buffer: &'a mut [u8],
+    pub pen: Pen,
+}
+
+impl<'a> Page<'a> {
     // At the first bit.
-    pub fn new(buffer: &'a mut [u8]) -> Pen<'a>
+    pub fn new(buffer: &'a mut [u8]) -> Page<'a>
         ensures same_reference { result.buffer.ghost_name ≡ buffer.entry.ghost_name }
         ensures buffer { result.buffer.now ≡ buffer.old }
-        ensures at_first { state_of result ≡ first }
+        ensures at_first { result.pen ≡ first }
     {
-        Pen {
+        Page {
             buffer,
-            pos: 0,
-            acc: 0,
+            pen: Pen { pos: 0, acc: 0 },
         }
     }
 
@@ -56,7 +62,7 @@ impl<'a> Pen<'a> {
         requires eight { n ≤ 8 }
         requires room { from + n ≤ length self.old.buffer.now }
         ensures same_reference { self.new.buffer.ghost_name ≡ self.old.buffer.ghost_name }
-        ensures state { state_of self.new ≡ state_of self.old }
+        ensures pen { self.new.pen ≡ self.old.pen }
         ensures buffer { self.new.buffer.now ≡ stored self.old.buffer.now from v n }
     {
         let bytes = v.to_be_bytes();
@@ -64,18 +70,18 @@ impl<'a> Pen<'a> {
     }
 
     // v in w bits after those that are written. Whole bytes are stored, the rest waits. The room that is asked differs with each call, so that the
-    // pen's type cannot hold it.
+    // page's type cannot hold it.
     pub fn put_bits(&mut self, v: u64, w: usize)
         requires room { Room self.old w }
         requires width { w ≤ 40 }
         requires fits { v < 2 ^ w }
         ensures { Appended self.old (bits w v) self.new }
     {
-        let all = (self.acc << w) + v;
-        let n = self.pos % BYTE + w;
-        self.put_bytes(self.pos / BYTE, all >> (n % BYTE), n / BYTE);
-        self.pos += w;
-        self.acc = all % BYTE_VALUES;
+        let all = (self.pen.acc << w) + v;
+        let n = self.pen.pos % BYTE + w;
+        self.put_bytes(self.pen.pos / BYTE, all >> (n % BYTE), n / BYTE);
+        self.pen.pos += w;
+        self.pen.acc = all % BYTE_VALUES;
     }
 
     // Zero bits fill the last byte.
@@ -83,9 +89,9 @@ impl<'a> Pen<'a> {
         requires { Room self 0 }
         ensures { self.exit.0.now ≡ completed self.entry [] }
     {
-        let left = self.pos % BYTE;
+        let left = self.pen.pos % BYTE;
         if left != 0 {
-            self.buffer[self.pos / BYTE] = ((self.acc << (BYTE - left)) % BYTE_VALUES) as u8;
+            self.buffer[self.pen.pos / BYTE] = ((self.pen.acc << (BYTE - left)) % BYTE_VALUES) as u8;
         }
     }
 }

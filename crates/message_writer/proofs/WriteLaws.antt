@@ -22,7 +22,8 @@ use Rattle.rules.specs.declared.row.Row.{Row}
 use Rattle.rules.specs.declared.row.Row.TheVariants.{Date, Gate, Form as FormRow, Hour, Range, Unit, Taken, Second, Full, Maximum, Available, Border, Absent, Short, Rights}
 use Rattle.rules.specs.Message.{buffer_after}
 use Rattle.message.specs.View.{written_as}
-use Rattle.message_pen.specs.Pens.{PenState, first, completed_at, AppendedAt, RoomAt, InRanges, slots_of}
+use Rattle.message_pen.specs.declared.Pen.{Pen}
+use Rattle.message_pen.specs.Pens.{first, completed_at, AppendedAt, RoomAt, InRanges, slots_of}
 use Rattle.message.proofs.FormLaws.{most_bits, end-le, length-end}
 use Rattle.message_pen.proofs.PenLaws.{appended-append}
 
@@ -120,7 +121,7 @@ module _ (f : Form) (m : Fields) (is : form_for m ≡ f) where
   pub head-room : (buf : List ℕ) → message_length m ≤ length buf → RoomAt buf first 64
   head-room buf l = record { byte = omega arith; within = omega (arith, bits-within.1); small = omega arith }
 
-  pub slots-room : (old : List ℕ) {buf : List ℕ} {p : PenState} → most_bits f < 2 ^ 31 → message_length m ≤ length old → AppendedAt old first (head_bits f m) buf p
+  pub slots-room : (old : List ℕ) {buf : List ℕ} {p : Pen} → most_bits f < 2 ^ 31 → message_length m ≤ length old → AppendedAt old first (head_bits f m) buf p
       → RoomAt buf p (length (slots_of f.width m m.map))
   slots-room old n l a = record {
     byte = a.byte;
@@ -133,7 +134,7 @@ module _ (f : Form) (m : Fields) (is : form_for m ≡ f) where
   unfolding encode message_bits slots_of
   message-written old l = rw append-nil (from_start old (message_bits f m) (omega (arith, length-written f m is)))
 
-  pub owed-given : (old : List ℕ) {a b new : List ℕ} {h e : PenState} {n : ℕ} → InRanges m × (message_length m ≤ length old) → n ≡ message_length m
+  pub owed-given : (old : List ℕ) {a b new : List ℕ} {h e : Pen} {n : ℕ} → InRanges m × (message_length m ≤ length old) → n ≡ message_length m
       → AppendedAt old first (head_bits f m) a h → AppendedAt a h (slots_of f.width m m.map) b e → new ≡ completed_at b e []
       → Owed (write (length old) m) old new (record { row = 0; reserved = 0; count = n })
   unfolding written_as buffer_after

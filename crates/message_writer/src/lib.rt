@@ -11,32 +11,32 @@ use message::form::{MAP_AT, length_for, slot_width};
 use message::hours::Hours;
 use message::judge::bad_fields;
 use message::{Fields, Written};
-use message_pen::{Pen, head_word, slot_word};
+use message_pen::{Page, head_word, slot_word};
 use message_ranges::bad_map;
 use rules::row::Row;
 use rules::{HOURS, MAX_ENERGY};
 
-// The first 64 bits, from the start of the buffer on. (`InRanges`, here and below: `message_pen::head_word` says why no type has it; `Room`: a pen's
+// The first 64 bits, from the start of the buffer on. (`InRanges`, here and below: `message_pen::head_word` says why no type has it; `Room`: a page's
 // `put_bits` does.)
-fn put_head(m: &Fields, pen: &mut Pen<'_>)
+fn put_head(m: &Fields, page: &mut Page<'_>)
     requires ranges { InRanges (fields_in m.now) }
-    requires room { Room pen.old 64 }
-    ensures { Appended pen.old (head_bits form1 (fields_in m.now)) pen.new }
+    requires room { Room page.old 64 }
+    ensures { Appended page.old (head_bits form1 (fields_in m.now)) page.new }
 {
-    pen.put_bits(head_word(m), MAP_AT);
-    pen.put_bits(u64::from(m.map), HOURS);
+    page.put_bits(head_word(m), MAP_AT);
+    page.put_bits(u64::from(m.map), HOURS);
 }
 
 // The slots of the hours that the map names, rising.
-fn put_hours(m: &Fields, pen: &mut Pen<'_>)
+fn put_hours(m: &Fields, page: &mut Page<'_>)
     requires ranges { InRanges (fields_in m.now) }
-    requires room { Room pen.old (length (slots_of form1.width (fields_in m.now) m.now.map)) }
-    ensures { Appended pen.old (slots_of form1.width (fields_in m.now) m.now.map) pen.new }
+    requires room { Room page.old (length (slots_of form1.width (fields_in m.now) m.now.map)) }
+    ensures { Appended page.old (slots_of form1.width (fields_in m.now) m.now.map) page.new }
 {
     let width = slot_width(m.execution);
     for h in Hours::of(m.map) {
         let word = slot_word(m.execution, m.energies[h], m.prices[h]);
-        pen.put_bits(word, width);
+        page.put_bits(word, width);
     }
 }
 
@@ -63,10 +63,10 @@ pub fn write_fields(m: &Fields, buf: &mut [u8]) -> Result<usize, Row>
     ensures buffer { buf.new ≡ buffer_after (writing (length buf.old) (fields_in m.now)) buf.old }
 {
     let count = judged(m, buf.len())?;
-    let mut pen = Pen::new(buf);
-    put_head(m, &mut pen);
-    put_hours(m, &mut pen);
-    pen.finish();
+    let mut page = Page::new(buf);
+    put_head(m, &mut page);
+    put_hours(m, &mut page);
+    page.finish();
     Ok(count)
 }
 

@@ -9,6 +9,23 @@ use answer::Response;
 use rules::row::Row;
 use session::Session;
 
+// The queries' numbers, as a program may keep them: calls have 1 to 10 (crates/book_log).
+pub const VERDICT: u8 = 101;
+
+pub const MATCHED: u8 = 102;
+
+pub const EXECUTED: u8 = 103;
+
+pub const MARKET: u8 = 104;
+
+pub const BILATERAL: u8 = 105;
+
+pub const PRICE: u8 = 106;
+
+pub const MARKET_MAXIMUM: u8 = 107;
+
+pub const BILATERAL_MAXIMUM: u8 = 108;
+
 // A query, with what it asks about. The hour is a number, whether the day has it or not.
 #[derive(Clone, Copy, Debug, PartialEq, Eq)]
 pub enum Query {
@@ -48,25 +65,25 @@ pub enum Query {
 }
 
 impl Query {
-    // The query with a number of its own, as a program may keep it; calls have the numbers 1 to 7 (crates/book_log). It is of a lodging number,
-    // a unit or a border, of a direction and of an hour, as far as it asks for these. No `TryFrom`: it is made of four values.
+    // The query with a number of its own. It is of a lodging number, a unit or a border, of a direction and of an hour, as far as it asks for
+    // these. No `TryFrom`: it is made of four values.
     #[tactic(auto, unfolding(crate::specs::Asked::asked))]
     pub fn numbered(kind: u8, of: u32, export: bool, hour: u32) -> Option<Query>
         ensures { query_of result ≡ asked kind of export hour }
     {
         match kind {
-            101 => Some(Query::Verdict(of)),
-            102 => Some(Query::Matched { unit: of, hour }),
-            103 => Some(Query::Executed { unit: of, hour }),
-            104 => Some(Query::Market { border: of, hour }),
-            105 => Some(Query::Bilateral { border: of, hour }),
-            106 => Some(Query::Price(hour)),
-            107 => Some(Query::MarketMaximum {
+            VERDICT => Some(Query::Verdict(of)),
+            MATCHED => Some(Query::Matched { unit: of, hour }),
+            EXECUTED => Some(Query::Executed { unit: of, hour }),
+            MARKET => Some(Query::Market { border: of, hour }),
+            BILATERAL => Some(Query::Bilateral { border: of, hour }),
+            PRICE => Some(Query::Price(hour)),
+            MARKET_MAXIMUM => Some(Query::MarketMaximum {
                 border: of,
                 export,
                 hour,
             }),
-            108 => Some(Query::BilateralMaximum {
+            BILATERAL_MAXIMUM => Some(Query::BilateralMaximum {
                 border: of,
                 export,
                 hour,
@@ -96,6 +113,13 @@ impl Query {
                 hour,
             } => query_maximum::bilateral_maximum(s, border, export, hour),
         }
+    }
+
+    // The same of a session by value, as the calls have it.
+    pub fn reply_by_value(self, s: Session) -> Response
+        ensures { Answered s (query_in self) result }
+    {
+        self.reply(&s)
     }
 }
 

@@ -18,7 +18,7 @@ pub put_head-requires-clause-room : goal.put_head-requires-clause-room
 unfolding form_for
 put_head-requires-clause-room c =
     let told = none_told (length c.args.buf.now) (fields_in c.args.m.now) (sym (ap (λ w. w.row) c.in_ok-count.ensures)) in
-    rw (c.new-pen.ensures.buffer, c.new-pen.ensures.at_first) (head-room form1 (fields_in c.args.m.now) refl c.args.buf.now told.1)
+    rw (c.new-page.ensures.buffer, c.new-page.ensures.at_first) (head-room form1 (fields_in c.args.m.now) refl c.args.buf.now told.1)
 
 pub put_hours-requires-clause-ranges : goal.put_hours-requires-clause-ranges
 put_hours-requires-clause-ranges c = (none_told (length c.args.buf.now) (fields_in c.args.m.now) (sym (ap (λ w. w.row) c.in_ok-count.ensures))).0
@@ -27,20 +27,20 @@ pub put_hours-requires-clause-room : goal.put_hours-requires-clause-room
 unfolding form_for
 put_hours-requires-clause-room c =
     let told = none_told (length c.args.buf.now) (fields_in c.args.m.now) (sym (ap (λ w. w.row) c.in_ok-count.ensures)) in
-    let head = rw (c.new-pen.ensures.buffer, c.new-pen.ensures.at_first) at c.put_head.ensures.at in
+    let head = rw (c.new-page.ensures.buffer, c.new-page.ensures.at_first) at c.put_head.ensures.at in
     slots-room form1 (fields_in c.args.m.now) refl c.args.buf.now (lit< tt) told.1 head
 
 pub finish-requires : goal.finish-requires
 unfolding form_for
 finish-requires c =
     let told = none_told (length c.args.buf.now) (fields_in c.args.m.now) (sym (ap (λ w. w.row) c.in_ok-count.ensures)) in
-    let head = rw (c.new-pen.ensures.buffer, c.new-pen.ensures.at_first) at c.put_head.ensures.at in
+    let head = rw (c.new-page.ensures.buffer, c.new-page.ensures.at_first) at c.put_head.ensures.at in
     room-last c.put_hours.ensures.at (slots-room form1 (fields_in c.args.m.now) refl c.args.buf.now (lit< tt) told.1 head)
 
 pub returns-clause-buffer : goal.returns-clause-buffer
 unfolding form_for
 returns-clause-buffer c =
     let told = none_told (length c.args.buf.now) (fields_in c.args.m.now) (sym (ap (λ w. w.row) c.in_ok-count.ensures)) in
-    let head = rw (c.new-pen.ensures.buffer, c.new-pen.ensures.at_first) at c.put_head.ensures.at in
+    let head = rw (c.new-page.ensures.buffer, c.new-page.ensures.at_first) at c.put_head.ensures.at in
     let end = (owed-given form1 (fields_in c.args.m.now) refl c.args.buf.now told refl head c.put_hours.ensures.at c.finish.ensures).1 in
     search rules

@@ -1,7 +1,6 @@
 use Rattle.std.proofs.Common.{ap}
-use Rattle.message_pen.specs.Pens.{state_of}
 use Rattle.message_pen.proofs.PenLaws.{shift-whole, shift_fits, put-appended}
-use Rattle.message_pen.proofs.Pen.put_bits.Goals as goal
+use Rattle.message_pen.proofs.Page.put_bits.Goals as goal
 
 pub overflow_add-all : goal.overflow_add-all
 overflow_add-all c = record { fits = shift_fits _ _ _ c.requires.room.byte c.requires.width c.requires.fits }
@@ -9,6 +8,6 @@ overflow_add-all c = record { fits = shift_fits _ _ _ c.requires.room.byte c.req
 pub returns : goal.returns
 returns c = record {
   same = c.put_bytes.ensures.same_reference;
-  at = rw (ap (λ p. p.pos) c.put_bytes.ensures.state)
-      (put-appended _ (state_of c.args.self.now) c.args.v c.args.w _ c.requires.fits (shift-whole _ _ c.requires.room.byte c.requires.width) _ c.put_bytes.ensures.buffer);
+  at = rw (ap (λ p. p.pos) c.put_bytes.ensures.pen)
+      (put-appended _ c.args.self.now.pen c.args.v c.args.w _ c.requires.fits (shift-whole _ _ c.requires.room.byte c.requires.width) _ c.put_bytes.ensures.buffer);
 }

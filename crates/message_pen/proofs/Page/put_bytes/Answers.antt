@@ -1,7 +1,7 @@
 use Rattle.std.proofs.Common.{◌-◌, arith, ap, drop, length, length-drop, ◌∙◌}
 use lib.Seq.{take_all}
 use Rattle.message_pen.proofs.PenLaws.{stored-copy}
-use Rattle.message_pen.proofs.Pen.put_bytes.Goals as goal
+use Rattle.message_pen.proofs.Page.put_bytes.Goals as goal
 
 pub returns-clause-buffer : goal.returns-clause-buffer
 returns-clause-buffer c =

@@ -1,9 +1,0 @@
-use Rattle.message_pen.specs.Pens.{state_of}
-use Rattle.message_pen.proofs.PenLaws.{last-whole, last-part}
-use Rattle.message_pen.proofs.Pen.finish.Goals as goal
-
-pub returns-then-left-ne0 : goal.returns-then-left-ne0
-returns-then-left-ne0 c = last-part _ (state_of c.args.self) c.requires.byte c.if-left-ne0.true
-
-pub returns-else-left-ne0 : goal.returns-else-left-ne0
-returns-else-left-ne0 c = last-whole _ (state_of c.args.self) c.if-left-ne0.false
