@@ -1,6 +1,6 @@
 -- The hours of a session that stands for a closed book, one after the other, and the call's ways out.
 use Prim.Native.Nat.{ℕ, suc, ◌+◌, ◌≤◌, ◌<◌}
-use mathlib.Core.Path.{◌≡◌, refl, sym, ap, ap₂, ◌∙◌}
+use mathlib.Core.Path.{◌≡◌, refl, sym, ap, ap₂, subst, ◌∙◌}
 use mathlib.Core.Bool.{true, false, cond, not, false≢true}
 use mathlib.Core.List.{List, [], ◌∷◌, ◌++◌, map, map-map}
 use mathlib.Core.Option.{none as nothing}
@@ -27,7 +27,9 @@ use Rattle.rules.proofs.BookLaws.{frozen-judgements, frozen-figures}
 use Rattle.hour.specs.declared.Hour.{Hour}
 use Rattle.hour.specs.declared.Figures.{Figures}
 use Rattle.hour.specs.Ready.{is_in_range, figures_in_range}
-use Rattle.hour.specs.View.{hour_in, figures_in, figures_as}
+use Rattle.listed.specs.View.{listed}
+use Rattle.listed.proofs.ViewLaws.{listed-back}
+use Rattle.hour.specs.View.{hour_in, figures_in, figures_as, padded, no_offer, no_execution}
 use Rattle.hour.proofs.RangeLaws.{range-told, range-holds}
 use Rattle.session.specs.declared.Session.{Session}
 use Rattle.session.specs.declared.Unit.{Unit}
@@ -69,6 +71,11 @@ figures-as b h =
     (sym (map-map (λ (u : Unit). sum_of (λ (o : Offer). o.matched) (keep (λ o. eqb o.holder.unit u.number) (R.figures_at b h).offers)) I.unit_of b.units))
     (sym (map-map (λ (u : Unit). sum_of (λ (x : Execution). x.energy) (keep (λ x. eqb x.holder.unit u.number) (R.figures_at b h).executions)) I.unit_of b.units))
 
+-- what stands behind their lists is not read
+padded-same : (f : Figures) → figures_in (padded f) ≡ figures_in f
+unfolding padded figures_in
+padded-same f = rw (listed-back 128 no_offer (listed f.offers), listed-back 128 no_execution (listed f.executions)) refl
+
 -- figures that clearing gives are those of an hour in its ranges
 figures-given : (h : Hour) (f : Figures) → is_in_range h ≡ true → Some f ≡ figures_in_range h → f ≡ figures_as (R.clear_hour (hour_in h))
 unfolding figures_in_range
@@ -78,14 +85,14 @@ figures-none : (h : Hour) (f : Figures) → is_in_range h ≡ false → Some f �
 unfolding figures_in_range
 figures-none h f t e = false≢true (sym (ap (λ o. is_some o) e ∙ rw t refl))
 
-pub hour-told : (s : Session) (hs : List Holder) (k : ℕ) (h : Hour) (f : Figures) (r : HourFigures) → Holders s hs → Built s hs k h → Some f ≡ figures_in_range h
-    → (f ≡ figures_as (figures_in f) → r ≡ cleared_as (figures_in f) (take s.enrolled s.units))
+pub hour-told : (s : Session) (hs : List Holder) (k : ℕ) (h : Hour) (f : Figures) (r : HourFigures) → Holders s hs → Built s hs k h → Some (padded f) ≡ figures_in_range h
+    → (padded f ≡ figures_as (figures_in f) → r ≡ cleared_as (figures_in f) (take s.enrolled s.units))
     → HourAs s k (record { steps = f.steps; figures = r })
 unfolding figures_in R.figures_at
 hour-told s hs k h f r holders t q kept b sound closed e =
     let ranges = hour-in-range s b e sound closed hs holders k h t in
-    let laid : f ≡ figures_as (R.clear_hour (hour_in h)) = figures-given h f (range-told h ranges) q in
-    let read : figures_in f ≡ R.clear_hour (hour_in h) = ap figures_in laid ∙ figures-read ranges in
+    let laid : padded f ≡ figures_as (R.clear_hour (hour_in h)) = figures-given h (padded f) (range-told h ranges) q in
+    let read : figures_in f ≡ R.clear_hour (hour_in h) = sym (padded-same f) ∙ (ap figures_in laid ∙ figures-read ranges) in
     let a : figures_in f ≡ R.figures_at b (suc k) = read ∙ ap R.clear_hour (hour-as s b e closed hs holders k h t sound.directions) in
     (kept (laid ∙ ap figures_as (sym read)) ∙ (ap₂ cleared_as a (units-as s b e) ∙ sym (figures-as b (suc k))), ap (λ (x : R.Figures). x.steps) a)
 
@@ -96,11 +103,17 @@ hour-none s hs k h r holders t q b sound closed e =
     absurd (false≢true (ap (λ o. is_some o) q ∙ rw (range-told h (hour-in-range s b e sound closed hs holders k h t)) refl))
 
 -- energies in range, whatever hour is cleared
-pub figures-small : (h : Hour) (f : Figures) → Some f ≡ figures_in_range h → All (λ (o : Own). o.matched ≤ U.max_energy) f.offers.items × All (λ (x : OwnExecution). x.energy ≤ U.max_energy) f.executions.items
+pub figures-small : (h : Hour) (f : Figures) → Some (padded f) ≡ figures_in_range h → All (λ (o : Own). o.matched ≤ U.max_energy) (listed f.offers) × All (λ (x : OwnExecution). x.energy ≤ U.max_energy) (listed f.executions)
+unfolding padded
 figures-small h f q =
     by_bool (is_in_range h)
-    (λ t. let r = range-holds h t in rw (figures-given h f t q) (matched-small r, executed-small r))
-    (λ t. absurd (figures-none h f t q))
+    (λ t.
+    let r = range-holds h t in
+    let laid = figures-given h (padded f) t q in (
+      subst (λ os. All (λ (o : Own). o.matched ≤ U.max_energy) os) (ap (λ (g : Figures). listed g.offers) (sym laid) ∙ listed-back 128 no_offer (listed f.offers)) (matched-small r),
+      subst (λ xs. All (λ (x : OwnExecution). x.energy ≤ U.max_energy) xs) (ap (λ (g : Figures). listed g.executions) (sym laid) ∙ listed-back 128 no_execution (listed f.executions)) (executed-small r),
+    ))
+    (λ t. absurd (figures-none h (padded f) t q))
 
 -- The loop over the hours
 

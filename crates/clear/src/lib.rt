@@ -9,6 +9,7 @@ ghost use Rattle.clear_gather.specs.Built.{Holders};
 ghost use Rattle.clear.specs.Hours.{HourAs, HoursAs};
 
 use answer::Response;
+use hour::{Figures, Hour};
 use hour_offers::Holder;
 use rules::HOURS;
 use rules::row::Row;
@@ -29,22 +30,29 @@ pub struct DayEnd {
     pub figures: [HourFigures; HOURS],
 }
 
-// The hour at index k, `holders` being those of the standing lodgements. An hour out of its ranges, which no sound
-// book has, gets figures of 0. `Within` is asked: a session is C's struct, so no type of this repository's can say it.
-fn clear_hour(s: &Session, holders: &[Holder], k: usize) -> HourEnd
+// The hour at index k, `holders` being those of the standing lodgements: it is gathered into `hour` and cleared into `figures`, which all hours are. An hour
+// out of its ranges, which no sound book has, gets figures of 0. `Within` is asked: a session is C's struct, so no type of this repository's can say it.
+fn clear_hour(
+    s: &Session,
+    holders: &[Holder],
+    k: usize,
+    hour: &mut Hour,
+    figures: &mut Figures,
+) -> HourEnd
     requires { Within s.now × (length holders.now ≤ 128) × (k < 25) }
     ensures { Holders s.now holders.now → HourAs s.now k result }
 {
-    let hour = clear_gather::hour_at(s, holders, k);
-    match hour_clear::clear_in_range(&hour) {
-        Some(figures) => HourEnd {
+    clear_gather::gather(s, holders, k, hour);
+    if hour_clear::clear_into(hour, figures) {
+        HourEnd {
             steps: figures.steps,
-            figures: clear_store::stored(&s.units[..s.enrolled], &figures),
-        },
-        None => HourEnd {
+            figures: clear_store::stored(&s.units[..s.enrolled], figures),
+        }
+    } else {
+        HourEnd {
             steps: 0,
             figures: session::no_figures(),
-        },
+        }
     }
 }
 
@@ -60,10 +68,12 @@ fn clear_hours(s: &Session) -> DayEnd
     );
     let none = session::no_figures();
     let n = s.hours as usize;
+    let mut hour = Hour::default();
+    let mut cleared = Figures::default();
     let mut figures = [none; HOURS];
     let mut steps: u64 = 0;
     for k in 0..n {
-        let end = clear_hour(s, &holders, k);
+        let end = clear_hour(s, &holders, k, &mut hour, &mut cleared);
         figures[k] = end.figures;
         steps += u64::from(end.steps);
     }

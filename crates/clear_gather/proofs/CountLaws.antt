@@ -6,10 +6,13 @@ use mathlib.Core.List.{List, [], ◌∷◌, ◌++◌, map, append-nil}
 use native.Mathlib.Omega.{arith}
 use native.Mathlib.Numerals.{add-one}
 use lib.Dec.{ltb}
+use lib.ListN.{length, length-append}
 use Rattle.rules.specs.Lists.{keep, from}
 use Rattle.rules.proofs.BoolLaws.{by_bool}
 use Rattle.session.specs.declared.Verdict.{Verdict}
 use Rattle.session.specs.declared.Lodgement.{Lodgement}
+use Rattle.listed.specs.declared.Listed.{Listed}
+use Rattle.listed.specs.View.{listed, Lists}
 use Rattle.clear_gather.specs.Built.{counts}
 
 pub from_last : (a n : ℕ) → from a (suc n) ≡ from a n ++ ((a + n) ∷ [])
@@ -52,3 +55,14 @@ module _ (v : Verdict) (l : Lodgement) (energy : ℕ) where
       and-true : (b : Bool) → (b && true) ≡ b
       and-true true = refl
       and-true false = refl
+
+-- A list that stands whole
+
+module _ {A : Type 0} {n : ℕ} (l : Listed A n) {xs ys : List A} (h : Lists l xs) where
+  -- the same
+  pub stays : listed l ≡ ys → Lists l ys
+  stays e = (e, h.1 ∙ (ap length (sym h.0) ∙ ap length e))
+
+  -- one more
+  pub grows : (m : Listed A n) (x : A) → listed m ≡ listed l ++ (x ∷ []) → m.count ≡ l.count + 1 → listed l ++ (x ∷ []) ≡ ys → Lists m ys
+  grows m x e c q = (e ∙ q, c ∙ ap (λ k. k + 1) (h.1 ∙ ap length (sym h.0)) ∙ sym (length-append (listed l) (x ∷ [])) ∙ ap length q)

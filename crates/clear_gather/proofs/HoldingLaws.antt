@@ -35,6 +35,8 @@ use Rattle.rules.proofs.IndexLaws.{from_all, from-at, length_from}
 use Rattle.hour_borders.specs.Directions.{directed, energies_of, published_in}
 use Rattle.hour_borders.proofs.DirectionLaws.{direction-small}
 use Rattle.hour_offers.specs.View.{execution_in}
+use Rattle.listed.specs.View.{listed}
+use Rattle.listed.proofs.ViewLaws.{listed-few}
 use Rattle.hour.specs.declared.Hour.{Hour}
 use Rattle.hour.specs.View.{fresh_in, energy_among, hour_in}
 use Rattle.hour.specs.Units.{lodgement_of, lodgements_of, unit_energy, both_of, line_in, last_ones, same_unit}
@@ -379,9 +381,11 @@ module _ (h : Hour) (r : Ready h) where
         r.ranges.room,
         length_inserted os xs,
         length-map (hour_in h).offers offer_for,
-        length-map h.offers.items fresh_in,
+        length-map (listed h.offers) fresh_in,
+        listed-few h.offers,
         length-map (hour_in h).executions execution_for,
-        length-map h.executions.items execution_in,
+        length-map (listed h.executions) execution_in,
+        listed-few h.executions,
       )
 
   holders : All (λ l. S.HasUnit us l.key) (insert_all os xs)
@@ -597,7 +601,7 @@ module _ (h : Hour) (r : Ready h) where
 
   unmatched : All (λ o. o.matched ≡ 0) (hour_in h).offers
   unfolding hour_in
-  unmatched = all-mapped fresh_in (all-every (λ o. refl) h.offers.items)
+  unmatched = all-mapped fresh_in (all-every (λ o. refl) (listed h.offers))
 
   abbrev holder_by : ℕ → U.Registered → Holder
   holder_by n q = record { number = n; unit = q.unit.number; border = q.unit.border; purchase = q.unit.purchase; legacy = q.unit.legacy; loss = U.unit_loss losses q.unit }

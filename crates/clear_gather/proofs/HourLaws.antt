@@ -20,6 +20,7 @@ use Rattle.rules.proofs.ListLaws.{hourly-suc, get_or-pad}
 use Rattle.rules.proofs.IndexLaws.{from_all}
 use Rattle.hour_offers.specs.declared.Holder.{Holder as Own}
 use Rattle.hour_offers.specs.View.{execution_in}
+use Rattle.listed.specs.View.{listed}
 use Rattle.hour.specs.declared.Hour.{Hour}
 use Rattle.hour_borders.specs.Directions.{directed, energies_of, published_in}
 use Rattle.hour.specs.View.{fresh_in, hour_in}
@@ -100,18 +101,18 @@ module _ (s : Session) (b : B.Book) (e : s ≡ I.image b) (closed : b.closed ≡
   unfolding price_on
   price-as i l = ap (λ (g : Energies). get_or g.prices k 0) (energies-at s b e i l) ∙ sym (hourly-suc (standing b i).prices k)
 
-  pub offers-as : map fresh_in h.offers.items ≡ map (R.offer_at b.units b.losses (suc k)) (keep (chosen_in b false k) b.standing)
+  pub offers-as : map fresh_in (listed h.offers) ≡ map (R.offer_at b.units b.losses (suc k)) (keep (chosen_in b false k) b.standing)
   unfolding R.offer_at
   offers-as =
-      ap (map fresh_in) t.offers
+      ap (map fresh_in) t.offers.0
       ∙ (map-map fresh_in (offer_on s hs k) _
       ∙ gathered s b e closed false k (R.offer_at b.units b.losses (suc k)) (λ i. fresh_in (offer_on s hs k i)) (length hs) (holders-long s b e hs holders)
       (λ i l. offer-same (holder-at s b e hs holders i l) (price-as i l) (energy-as i l)))
 
-  pub executions-as : map execution_in h.executions.items ≡ map (R.execution_at b.units b.losses (suc k)) (keep (chosen_in b true k) b.standing)
+  pub executions-as : map execution_in (listed h.executions) ≡ map (R.execution_at b.units b.losses (suc k)) (keep (chosen_in b true k) b.standing)
   unfolding R.execution_at
   executions-as =
-      ap (map execution_in) t.executions
+      ap (map execution_in) t.executions.0
       ∙ (map-map execution_in (execution_on s hs k) _
       ∙ gathered s b e closed true k (R.execution_at b.units b.losses (suc k)) (λ i. execution_in (execution_on s hs k i)) (length hs) (holders-long s b e hs holders)
       (λ i l. execution-same (holder-at s b e hs holders i l) (energy-as i l)))

@@ -24,6 +24,7 @@ use Rattle.rules.proofs.IndexLaws.{from_all}
 use Rattle.std.specs.Prelude.{unwrap_or}
 use Rattle.hour_offers.specs.declared.Holder.{Holder as Own}
 use Rattle.hour_offers.specs.View.{execution_in}
+use Rattle.listed.specs.View.{listed}
 use Rattle.hour.specs.declared.Hour.{Hour}
 use Rattle.hour.specs.View.{fresh_in, hour_in}
 use Rattle.hour.specs.Ready.{Between, HolderWithin, OfferWithin, ExecutionWithin, HourInRange}
@@ -172,16 +173,16 @@ module _ (s : Session) (b : B.Book) (e : s ≡ I.image b) (sound : I.Sound b) (c
   same = hour-as s b e closed hs holders k h t sound.directions
 
   -- as many as the rules' hour has
-  offers-count : length h.offers.items ≡ length (keep (λ l. not l.key.execution) (keep (λ l. ltb 0 (L.energy_at l (suc k))) (C.accepted_at b)))
+  offers-count : h.offers.count ≡ length (keep (λ l. not l.key.execution) (keep (λ l. ltb 0 (L.energy_at l (suc k))) (C.accepted_at b)))
   unfolding hour_in R.hour_of_day
   offers-count =
-      sym (length-map h.offers.items fresh_in) ∙ ap (λ x. length x.offers) same
+      t.offers.1 ∙ sym (ap length t.offers.0) ∙ sym (length-map (listed h.offers) fresh_in) ∙ ap (λ x. length x.offers) same
       ∙ length-map (keep (λ l. not l.key.execution) (keep (λ l. ltb 0 (L.energy_at l (suc k))) (C.accepted_at b))) (R.offer_at b.units b.losses (suc k))
 
-  executions-count : length h.executions.items ≡ length (keep (λ l. l.key.execution) (keep (λ l. ltb 0 (L.energy_at l (suc k))) (C.accepted_at b)))
+  executions-count : h.executions.count ≡ length (keep (λ l. l.key.execution) (keep (λ l. ltb 0 (L.energy_at l (suc k))) (C.accepted_at b)))
   unfolding hour_in R.hour_of_day
   executions-count =
-      sym (length-map h.executions.items execution_in) ∙ ap (λ x. length x.executions) same
+      t.executions.1 ∙ sym (ap length t.executions.0) ∙ sym (length-map (listed h.executions) execution_in) ∙ ap (λ x. length x.executions) same
       ∙ length-map (keep (λ l. l.key.execution) (keep (λ l. ltb 0 (L.energy_at l (suc k))) (C.accepted_at b))) (R.execution_at b.units b.losses (suc k))
 
   capacities-range : All (λ c. unwrap_or c 0 ≤ U.max_energy) h.capacities

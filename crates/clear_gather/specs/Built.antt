@@ -15,6 +15,7 @@ use Rattle.session.specs.Parts.{number_is}
 use Rattle.hour_offers.specs.declared.Holder.{Holder}
 use Rattle.hour_offers.specs.declared.Offer.{Offer}
 use Rattle.hour_offers.specs.declared.Execution.{Execution}
+use Rattle.listed.specs.View.{Lists}
 use Rattle.hour.specs.declared.Hour.{Hour}
 
 -- Holders
@@ -69,6 +70,6 @@ capacity_on cs k d = let c = get_or cs d bare_notice in cond c.given (Some (get_
 
 -- The hour at index k, of the lodgements that have these holders
 pub record Built (s : Session) (hs : List Holder) (k : ℕ) (h : Hour) : Type 0 where
-  pub offers : h.offers.items ≡ map (offer_on s hs k) (chosen s (length hs) false k)
-  pub executions : h.executions.items ≡ map (execution_on s hs k) (chosen s (length hs) true k)
+  pub offers : Lists h.offers (map (offer_on s hs k) (chosen s (length hs) false k))
+  pub executions : Lists h.executions (map (execution_on s hs k) (chosen s (length hs) true k))
   pub capacities : h.capacities ≡ map (capacity_on s.capacities k) (from 0 8)

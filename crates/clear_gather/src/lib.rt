@@ -80,30 +80,35 @@ fn capacities_at(notices: &[Notice; DIRECTIONS], k: usize) -> [Option<u32>; DIRE
     std::array::from_fn(|direction| capacity_on(notices, k, direction))
 }
 
-// The hour at index k: its accepted offers and executions by rising lodging number, and its published capacities. `holders` are those
-// of the standing lodgements (`holders_of`), at the index of each, which is also the lodgement's in three arrays of the session, as C has them.
-// (Lengths: DECISIONS.)
-pub fn hour_at(s: &Session, holders: &[Holder], k: usize) -> Hour
+// The hour at index k, in place of what stood in `hour`: its accepted offers and executions by rising lodging number, and its published capacities.
+// `holders` are those of the standing lodgements (`holders_of`), at the index of each, which is also the lodgement's in three arrays of the session, as C
+// has them. The hour is lent, since its lists are long to make and to hand on. (Lengths: DECISIONS.)
+pub fn gather(s: &Session, holders: &[Holder], k: usize, hour: &mut Hour)
     requires { (length holders.now ≤ 128) × (k < 25) }
-    ensures { Built s.now holders.now k result }
+    ensures { Built s.now holders.now k hour.new }
 {
-    let mut offers = ArrayVec::new();
-    let mut executions = ArrayVec::new();
+    hour.offers.clear();
+    hour.executions.clear();
     for (i, holder) in holders.iter().enumerate() {
         let energy = s.energies[i].energies[k];
         if !counted(&s.verdicts[i], energy) {
             continue;
         }
         if s.lodgements[i].key.execution {
-            executions.push(Execution::new(*holder, energy));
+            hour.executions.push(Execution::new(*holder, energy));
         } else {
-            offers.push(Offer::new(*holder, s.energies[i].prices[k], energy));
+            hour.offers.push(Offer::new(*holder, s.energies[i].prices[k], energy));
         }
     }
-    let capacities = capacities_at(&s.capacities, k);
-    Hour {
-        offers,
-        executions,
-        capacities,
-    }
+    hour.capacities = capacities_at(&s.capacities, k);
+}
+
+// The same, an hour of its own. (Lengths: DECISIONS.)
+pub fn hour_at(s: &Session, holders: &[Holder], k: usize) -> Hour
+    requires { (length holders.now ≤ 128) × (k < 25) }
+    ensures { Built s.now holders.now k result }
+{
+    let mut hour = Hour::default();
+    gather(s, holders, k, &mut hour);
+    hour
 }

@@ -9,7 +9,8 @@ ghost use Rattle.std.specs.Fn.{FnReturnsAt};
 ghost use Rattle.rules.specs.Lists.{All};
 ghost use Rattle.rules.specs.Units.{max_energy};
 ghost use Rattle.session.specs.Laid.{pad};
-ghost use Rattle.hour.specs.View.{figures_in, figures_as};
+ghost use Rattle.listed.specs.View.{listed};
+ghost use Rattle.hour.specs.View.{figures_in, figures_as, padded};
 ghost use Rattle.clear_store.specs.Slots.{energy_of, energy_in, Kept};
 ghost use Rattle.clear_store.specs.Shown.{cleared_as};
 
@@ -116,11 +117,11 @@ fn plain(maxima: &[Option<u32>; DIRECTIONS]) -> [u32; DIRECTIONS]
 }
 
 // What the session keeps of an hour's figures, `units` being those registered. Energies are asked to be in range, as an hour's figures are: any caller
-// can build the type.
+// can build the type. What stands behind their lists is not looked at.
 pub fn stored(units: &[Unit], figures: &Figures) -> HourFigures
-    requires { (length units.now ≤ 64) × All (λ o. o.matched ≤ max_energy) figures.now.offers.items
-        × All (λ x. x.energy ≤ max_energy) figures.now.executions.items }
-    ensures { figures.now ≡ figures_as (figures_in figures.now) → result ≡ cleared_as (figures_in figures.now) units.now }
+    requires { (length units.now ≤ 64) × All (λ o. o.matched ≤ max_energy) (listed figures.now.offers)
+        × All (λ x. x.energy ≤ max_energy) (listed figures.now.executions) }
+    ensures { padded figures.now ≡ figures_as (figures_in figures.now) → result ≡ cleared_as (figures_in figures.now) units.now }
 {
     let matched = Slots::of(
         figures.offers.as_slice(),

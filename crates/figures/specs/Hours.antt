@@ -1,8 +1,11 @@
 -- The hour that is being given, part by part, and what is answered of it.
-use Rattle.std.specs.Prelude.{ℕ, cond, ltb, eqb, not, ◌&&◌, List, [], ◌∷◌, ◌++◌, length, set, replicate, Option, Some, None}
+use Rattle.std.specs.Prelude.{ℕ, ◌+◌, cond, ltb, eqb, not, ◌&&◌, List, [], set, replicate, Option, Some, None}
 use Rattle.rules.specs.Units.{direction, loss_of}
 use Rattle.hour_offers.specs.declared.Holder.{Holder}
+use Rattle.listed.specs.declared.Listed.{Listed}
+use Rattle.listed.specs.View.{listed_as}
 use Rattle.hour.specs.declared.Hour.{Hour}
+use Rattle.hour.specs.View.{no_offer, no_execution}
 use Rattle.hour.specs.Ready.{figures_of, figures_in_range}
 use Rattle.figures.specs.declared.hours.Cleared.{Cleared}
 use Rattle.figures.specs.declared.hours.Given.{Given}
@@ -11,7 +14,7 @@ use Rattle.figures.specs.declared.hours.Part.TheVariants.{Offer, Execution, Capa
 
 abbrev pub no_parts : Given
 no_parts = record {
-  hour = record { offers = record { items = [] }; executions = record { items = [] }; capacities = replicate 8 None };
+  hour = record { offers = listed_as 128 no_offer []; executions = listed_as 128 no_execution []; capacities = replicate 8 None };
   losses = replicate 5 0;
 }
 
@@ -22,17 +25,17 @@ with_loss losses x = cond (x.purchase && eqb x.loss 0) (record x { loss = loss_o
 abbrev pub with_hour : Hour → Given → Given
 with_hour h g = record g { hour = h }
 
--- an hour with one part more: a lodgement, where there is room for it, with the loss of its border; a capacity, where it is of a border; a loss of one.
+-- a list with one more; its count goes one past the room, which no hour that is ready has
+unfoldable pub with_one : {A : Type 0} → Listed A 128 → A → Listed A 128
+with_one l x = cond (ltb l.count 128) (record { items = set l.items l.count x; count = l.count + 1 }) (record { items = l.items; count = 129 })
+
+-- an hour with one part more: a lodgement, with the loss of its border; a capacity, where it is of a border; a loss of one.
 -- None has a capacity of border 0, or a loss of what is no border
 abbrev pub with_part : Part → Given → Option Given
 with_part (Offer o) g =
-    cond (ltb (length g.hour.offers.items) 128)
-    (Some (with_hour (record g.hour { offers = record { items = g.hour.offers.items ++ (record o { holder = with_loss g.losses o.holder }) ∷ [] } }) g))
-    None
+    Some (with_hour (record g.hour { offers = with_one g.hour.offers (record o { holder = with_loss g.losses o.holder }) }) g)
 with_part (Execution x) g =
-    cond (ltb (length g.hour.executions.items) 128)
-    (Some (with_hour (record g.hour { executions = record { items = g.hour.executions.items ++ (record x { holder = with_loss g.losses x.holder }) ∷ [] } }) g))
-    None
+    Some (with_hour (record g.hour { executions = with_one g.hour.executions (record x { holder = with_loss g.losses x.holder }) }) g)
 with_part (Capacity border export energy) g =
     cond (eqb border 0) None
     (Some (cond (ltb border 5) (with_hour (record g.hour { capacities = set g.hour.capacities (direction border export) (Some energy) }) g) g))

@@ -1,12 +1,12 @@
 // An hour given line by line, cleared, and its figures shown.
 ghost use Rattle.std.specs.Prelude.{◌≡◌, ◌+◌, true, false, Some, None};
 ghost use Rattle.std.proofs.Math.IntN.{sub_ℕ};
-ghost use Rattle.figures.specs.Hours.{no_parts, with_loss, with_part, put_in, in_range_of, cleared_of, answer_in_range, answer_of};
+ghost use Rattle.figures.specs.Hours.{no_parts, with_loss, with_one, with_part, put_in, in_range_of, cleared_of, answer_in_range, answer_of};
 
-use arrayvec::ArrayVec;
 use hour::{Figures, Hour};
 use hour_offers::{Execution, Holder, Offer};
-use rules::{DIRECTIONS, LOSSES};
+use listed::Listed;
+use rules::{DIRECTIONS, LODGEMENTS, LOSSES};
 use std::{fmt, mem};
 
 // A part of an hour: a lodgement, the capacity of a border's direction, or the loss of a border.
@@ -45,8 +45,20 @@ fn with_loss(losses: &[u32; LOSSES], holder: Holder) -> Holder
     }
 }
 
-// Whether an hour can have a part, which it then has. It has room for so many lodgements, and no hour has a capacity of border 0, or a loss of what
-// is no border. A capacity of that is passed over.
+// One more in a list. The count goes one past the room, which no hour that is ready has.
+#[tactic(auto, unfolding(crate::specs::Hours::with_one))]
+fn add<T: Copy>(list: &mut Listed<T, LODGEMENTS>, element: T)
+    ensures { list.new ≡ with_one list.old element }
+{
+    if list.count < LODGEMENTS {
+        list.push(element);
+    } else {
+        list.count = LODGEMENTS + 1;
+    }
+}
+
+// Whether an hour can have a part, which it then has. No hour has a capacity of border 0, or a loss of what is no border. A capacity of that is
+// passed over.
 fn takes(given: &mut Given, part: Part) -> bool
     ensures taken { result ≡ true → with_part part given.old ≡ Some given.new }
     ensures full { result ≡ false → with_part part given.old ≡ None }
@@ -55,7 +67,8 @@ fn takes(given: &mut Given, part: Part) -> bool
         Part::Offer(offer) => {
             let holder = with_loss(&given.losses, offer.holder);
             let offer = Offer { holder, ..offer };
-            given.hour.offers.try_push(offer).is_ok()
+            add(&mut given.hour.offers, offer);
+            true
         }
         Part::Execution(execution) => {
             let holder = with_loss(&given.losses, execution.holder);
@@ -63,7 +76,8 @@ fn takes(given: &mut Given, part: Part) -> bool
                 holder,
                 ..execution
             };
-            given.hour.executions.try_push(execution).is_ok()
+            add(&mut given.hour.executions, execution);
+            true
         }
         Part::Capacity {
             border,
@@ -88,7 +102,7 @@ fn takes(given: &mut Given, part: Part) -> bool
     }
 }
 
-// The hour that is being given; none after a part that no hour has, or more lodgements than one has room for.
+// The hour that is being given; none after a part that no hour has.
 #[derive(Drop)]
 pub(crate) struct NextHour(Option<Given>);
 
@@ -97,8 +111,8 @@ impl NextHour {
         ensures { result.0 ≡ Some no_parts }
     {
         let hour = Hour {
-            offers: ArrayVec::new(),
-            executions: ArrayVec::new(),
+            offers: Listed::new(Offer::default()),
+            executions: Listed::new(Execution::default()),
             capacities: [None; DIRECTIONS],
         };
         let losses = [0; LOSSES];
@@ -185,11 +199,11 @@ impl fmt::Display for Cleared {
     fn fmt<W: fmt::Write>(&self, f: &mut fmt::Formatter<W>) -> fmt::Result {
         let figures = &self.figures;
         write!(f, "price {} steps {} matched", figures.price, figures.steps)?;
-        for offer in &figures.offers {
+        for offer in figures.offers.as_slice() {
             write!(f, " {}:{}", offer.holder.number, offer.matched)?;
         }
         f.write_str(" executed")?;
-        for execution in &figures.executions {
+        for execution in figures.executions.as_slice() {
             write!(f, " {}:{}", execution.holder.number, execution.energy)?;
         }
         write!(f, " market{}", Balances(&figures.market))?;

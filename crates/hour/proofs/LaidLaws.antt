@@ -26,8 +26,10 @@ use Rattle.hour_borders.specs.Directions.{directed, energies_of, published_in}
 use Rattle.hour_borders.specs.Flows.{MarketFlows, ExecutionFlows}
 use Rattle.hour_borders.proofs.DirectionLaws.{direction-back, directions-same}
 use Rattle.session.specs.Image.{by_direction}
+use Rattle.listed.specs.View.{listed, listed_as}
+use Rattle.listed.proofs.ViewLaws.{listed-back}
 use Rattle.hour.specs.declared.Figures.{Figures}
-use Rattle.hour.specs.View.{offer_as, execution_as, energy_among, laid_by_direction, figures_as, figures_in}
+use Rattle.hour.specs.View.{offer_as, execution_as, energy_among, laid_by_direction, no_offer, no_execution, padded, figures_as, figures_in}
 use Rattle.hour.proofs.RangeLaws.{energy-of}
 
 -- What stands in an array of eight made by index
@@ -143,24 +145,24 @@ pub executions-back : (xs : List RuleExecution) → executions_in (map execution
 executions-back [] = refl
 executions-back (x ∷ xs) = ap (λ l. x ∷ l) (executions-back xs)
 
--- figures that have the flows by direction are as the rules' are laid out
+-- figures that have the flows by direction are as the rules' are laid out, what stands behind their lists apart
 pub figures-laid : (f : Figures) → length f.maxima ≡ 8
-    → length f.market ≡ 8 → MarketFlows f.market (offers_in f.offers.items) → length f.bilateral ≡ 8 → ExecutionFlows f.bilateral (executions_in f.executions.items)
-    → f ≡ figures_as (figures_in f)
-unfolding figures_as figures_in
+    → length f.market ≡ 8 → MarketFlows f.market (offers_in (listed f.offers)) → length f.bilateral ≡ 8 → ExecutionFlows f.bilateral (executions_in (listed f.executions))
+    → padded f ≡ figures_as (figures_in f)
+unfolding figures_as figures_in padded
 figures-laid f long lm fm lx fx =
-    figures-same (sym (offers-again f.offers.items)) (sym (executions-again f.executions.items)) (published-laid f.maxima long) (flows-laid _ f.market lm fm) (flows-laid _ f.bilateral lx fx)
+    figures-same (sym (offers-again (listed f.offers))) (sym (executions-again (listed f.executions))) (published-laid f.maxima long) (flows-laid _ f.market lm fm) (flows-laid _ f.bilateral lx fx)
   where
     figures-same : {o o' : List Offer} {x x' : List Execution} {l l' : List (Option ℕ)} {m m' b b' : List ℕ} {s p : ℕ} → o ≡ o' → x ≡ x' → l ≡ l' → m ≡ m' → b ≡ b'
-        → ◌≡◌ {A = Figures} (record { offers = record { items = o }; executions = record { items = x }; maxima = l; market = m; bilateral = b; steps = s; price = p })
-        (record { offers = record { items = o' }; executions = record { items = x' }; maxima = l'; market = m'; bilateral = b'; steps = s; price = p })
+        → ◌≡◌ {A = Figures} (record { offers = listed_as 128 no_offer o; executions = listed_as 128 no_execution x; maxima = l; market = m; bilateral = b; steps = s; price = p })
+        (record { offers = listed_as 128 no_offer o'; executions = listed_as 128 no_execution x'; maxima = l'; market = m'; bilateral = b'; steps = s; price = p })
     figures-same a b c d e = rw (a, b, c, d, e)
 
 -- figures of published directions are read back from where they are laid
 pub figures-back : (x : C.Figures) (a : List (Option ℕ)) → x.maxima ≡ published_in a → figures_in (figures_as x) ≡ x
 unfolding figures_in figures_as
 figures-back x a m =
-    rules-same (offers-back x.offers) (executions-back x.executions) (ap (λ ds. published_in (laid_by_direction ds)) m ∙ (published-again a ∙ sym m))
+    rules-same (ap offers_in (listed-back 128 no_offer (map offer_as x.offers)) ∙ offers-back x.offers) (ap executions_in (listed-back 128 no_execution (map execution_as x.executions)) ∙ executions-back x.executions) (ap (λ ds. published_in (laid_by_direction ds)) m ∙ (published-again a ∙ sym m))
   where
     rules-same : {o p : List M.Offer} {y z : List RuleExecution} {l m : List Directed} {s q : ℕ} → o ≡ p → y ≡ z → l ≡ m
         → ◌≡◌ {A = C.Figures} (record { offers = o; executions = y; maxima = l; steps = s; price = q }) (record { offers = p; executions = z; maxima = m; steps = s; price = q })

@@ -20,6 +20,8 @@ use Rattle.rules.proofs.ElementLaws.{all-unmapped, pairwise_map}
 use Rattle.hour_offers.specs.View.{offer_in, execution_in, executions_in}
 use Rattle.hour_offers.specs.Sound.{Sound, ExecutionInRange}
 use Rattle.hour.specs.Ranges.{within, loss_within, holder_within, offer_within, execution_within, rises, capacity_within, lodged_within, offer_number, execution_number, capacities_within}
+use Rattle.listed.specs.View.{listed}
+use Rattle.listed.proofs.ViewLaws.{listed-few}
 use Rattle.hour.specs.declared.Hour.{Hour}
 use Rattle.hour.specs.View.{fresh_in, hour_in}
 use Rattle.hour.specs.Units.{lodgement_of, lodgements_of}
@@ -172,8 +174,8 @@ energy-of (c ∷ cs) (suc w) = energy-of cs w
 pub range-holds : (h : Hour) → is_in_range h ≡ true → HourInRange h
 unfolding is_in_range hour_in lodged_within capacities_within offer_within
 range-holds h e =
-    let os = h.offers.items in
-    let xs = h.executions.items in
+    let os = listed h.offers in
+    let xs = listed h.executions in
     let a = both _ _ e in
     let b = both _ _ a.1 in
     let c = both _ _ b.1 in
@@ -194,11 +196,11 @@ range-holds h e =
 pub range-told : (h : Hour) → HourInRange h → is_in_range h ≡ true
 unfolding is_in_range hour_in lodged_within capacities_within offer_within
 range-told h r =
-    let os = h.offers.items in
-    let xs = h.executions.items in
+    let os = listed h.offers in
+    let xs = listed h.executions in
     rw (
-      le-leb (length os) 64 r.offering,
-      le-leb (length os + length xs) 128 r.room,
+      le-leb h.offers.count 64 r.offering,
+      le-leb (h.offers.count + h.executions.count) 128 r.room,
       all-told (λ o. offer_within (offer_in o)) (all_map (λ o e. offer-told (fresh_in o) e) (all-unmapped fresh_in os r.offers)),
       rise-told offer_number (pairwise-unmapped fresh_in os r.offers-rise),
       all-told (λ x. execution_within (execution_in x)) (all_map (λ x e. execution-told (execution_in x) e) (all-unmapped execution_in xs r.executions)),
@@ -213,15 +215,15 @@ module _ {h : Hour} (r : HourInRange h) where
   pub offers-sound : Sound (hour_in h).offers
   unfolding hour_in
   offers-sound = record {
-    few = rw (length-map h.offers.items fresh_in) (omega (arith, r.offering));
+    few = rw (length-map (listed h.offers) fresh_in) (omega (arith, r.offering, listed-few h.offers));
     rising = r.offers-rise;
-    in_range = all-mapped fresh_in (all_map (λ o g. record { border = omega (arith, g.holder.border.1); price = g.price; offered = g.energy.1; matched = omega arith }) (all-unmapped fresh_in h.offers.items r.offers));
+    in_range = all-mapped fresh_in (all_map (λ o g. record { border = omega (arith, g.holder.border.1); price = g.price; offered = g.energy.1; matched = omega arith }) (all-unmapped fresh_in (listed h.offers) r.offers));
   }
 
-  pub few-executions : length h.executions.items ≤ 128
-  few-executions = omega (arith, r.room)
+  pub few-executions : length (listed h.executions) ≤ 128
+  few-executions = omega (arith, r.room, listed-few h.executions)
 
-  pub executions-in-range : All ExecutionInRange (executions_in h.executions.items)
+  pub executions-in-range : All ExecutionInRange (executions_in (listed h.executions))
   unfolding hour_in
   executions-in-range = all_map (λ x g. record { border = omega (arith, g.holder.border.1); energy = g.energy.1 }) r.executions
 

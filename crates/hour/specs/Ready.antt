@@ -5,6 +5,7 @@ use Rattle.rules.specs.Units.{max_energy, max_price, max_loss, passes, increased
 use Rattle.rules.specs.Match.{Holder, Offer}
 use Rattle.rules.specs.Borders.{Execution}
 use Rattle.rules.specs.Clearing as C
+use Rattle.listed.specs.View.{listed}
 use Rattle.hour.specs.Ranges.{offers_within, executions_within, capacities_within}
 use Rattle.hour.specs.declared.Hour.{Hour}
 use Rattle.hour.specs.declared.Figures.{Figures}
@@ -39,14 +40,14 @@ pub record ExecutionWithin (x : Execution) : Type 0 where
   pub holder : HolderWithin 1 x.holder
   pub energy : Between 1 max_energy x.energy
 
--- An hour in its ranges: every part is within its own, as one pass over it tells. What an offer has as matched is not looked at, and no figure
--- depends on it. Clearing needs no more than this to be safe, and so the day's hours, which are all ready, are tested for no more
--- (`hour_clear::clear_in_range`).
+-- An hour in its ranges: every part is within its own, as one pass over it tells. What an offer has as matched, and what stands behind a count,
+-- is not looked at, and no figure depends on it. Clearing needs no more than this to be safe, and so the day's hours, which are all ready, are tested for no more
+-- (`hour_clear::clear_into`).
 pub record HourInRange (h : Hour) : Type 0 where
   -- "At most 64 units", each with one accepted offer at most
-  pub offering : length h.offers.items ≤ 64
+  pub offering : h.offers.count ≤ 64
   -- "There are up to 128 standing lodgements"
-  pub room : length h.offers.items + length h.executions.items ≤ 128
+  pub room : h.offers.count + h.executions.count ≤ 128
   -- each kind by rising lodging number: in this order Share hands out, and equal prices are matched
   pub offers : All OfferWithin (hour_in h).offers
   pub offers-rise : Pairwise (λ o p. o.holder.number < p.holder.number) (hour_in h).offers
@@ -58,9 +59,9 @@ pub record HourInRange (h : Hour) : Type 0 where
 -- `HourInRange` as a test (`range-holds` and `range-told` of proofs/RangeLaws.antt)
 unfoldable pub is_in_range : Hour → Bool
 is_in_range h =
-    let o = h.offers.items in
-    let x = h.executions.items in
-    leb (length o) 64 && (leb (length o + length x) 128 && (offers_within o && (executions_within x && capacities_within h.capacities)))
+    let o = listed h.offers in
+    let x = listed h.executions in
+    leb h.offers.count 64 && (leb (h.offers.count + h.executions.count) 128 && (offers_within o && (executions_within x && capacities_within h.capacities)))
 
 -- two holders with one border, side and legacy mark
 pub record SameUnit (x y : Holder) : Type 0 where

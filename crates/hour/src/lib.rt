@@ -8,26 +8,28 @@ ghost use Rattle.std.specs.Prelude.{◌≡◌};
 ghost use Rattle.hour.specs.Ready.{is_in_range, is_ready};
 
 use crate::ranges::{capacities_within, lodged_within};
-use arrayvec::ArrayVec;
 use hour_offers::{Execution, Offer};
+use listed::Listed;
 use rules::{DIRECTIONS, LODGEMENTS, UNITS};
 
 // An hour as it is cleared: its accepted offers and executions, each kind by rising lodging number, and its published capacities by
-// direction (`hour_borders::direction`). What an offer has as matched is not looked at.
-#[derive(Drop)]
+// direction (`hour_borders::direction`). What an offer has as matched, and what stands behind a count, is not looked at; a count may be anything. The default is an hour with nothing, which
+// `clear_gather::gather` is lent.
+#[derive(Clone, Copy, Default)]
 pub struct Hour {
-    pub offers: ArrayVec<Offer, LODGEMENTS>,
-    pub executions: ArrayVec<Execution, LODGEMENTS>,
+    pub offers: Listed<Offer, LODGEMENTS>,
+    pub executions: Listed<Execution, LODGEMENTS>,
     pub capacities: [Option<u32>; DIRECTIONS],
 }
 
 // What clearing gives: the offers with what is still offered and what is matched of each, the executions with what is executed of each;
 // by direction the market maximum where a capacity is published, and the energy of matched offers and of executions at the end; the count of
-// withdrawal steps and the price. Arrays by direction, as C's `HourFigures` has them.
-#[derive(Drop)]
+// withdrawal steps and the price. Arrays by direction, as C's `HourFigures` has them. The default stands for no hour: it is what a caller lends
+// `hour_clear::clear_into`.
+#[derive(Clone, Copy, Default)]
 pub struct Figures {
-    pub offers: ArrayVec<Offer, LODGEMENTS>,
-    pub executions: ArrayVec<Execution, LODGEMENTS>,
+    pub offers: Listed<Offer, LODGEMENTS>,
+    pub executions: Listed<Execution, LODGEMENTS>,
     pub maxima: [Option<u32>; DIRECTIONS],
     pub market: [u32; DIRECTIONS],
     pub bilateral: [u32; DIRECTIONS],
@@ -42,8 +44,8 @@ pub fn in_range(h: &Hour) -> bool
 {
     let offers = h.offers.as_slice();
     let executions = h.executions.as_slice();
-    offers.len() <= UNITS
-        && offers.len() + executions.len() <= LODGEMENTS
+    h.offers.count <= UNITS
+        && h.executions.count <= LODGEMENTS - h.offers.count
         && lodged_within(offers)
         && lodged_within(executions)
         && capacities_within(&h.capacities)

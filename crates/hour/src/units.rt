@@ -178,11 +178,11 @@ fn any_over(capacities: &[Option<u32>; DIRECTIONS], lodgements: &[Execution]) ->
 // The lodgements of an hour, offers first.
 #[tactic(auto, unfolding(crate::specs::Units::lodgements_of, crate::specs::View::hour_in))]
 fn lodgements_of(h: &Hour) -> ArrayVec<Execution, LODGEMENTS>
-    requires { length h.now.offers.items + length h.now.executions.items ≤ 128 }
+    requires { h.now.offers.count + h.now.executions.count ≤ 128 }
     ensures { executions_in result.items ≡ lodgements_of (hour_in h.now) }
 {
-    let mut lodgements = as_lodgements(&h.offers);
-    add(&h.executions, &mut lodgements);
+    let mut lodgements = as_lodgements(h.offers.as_slice());
+    add(h.executions.as_slice(), &mut lodgements);
     lodgements
 }
 
@@ -210,5 +210,5 @@ pub fn units_possible(h: &Hour) -> bool
     requires { HourInRange h.now }
     ensures { result ≡ units_possible h.now }
 {
-    units_differ(&as_lodgements(&h.offers)) && lodgements_possible(&h.capacities, &lodgements_of(h))
+    units_differ(&as_lodgements(h.offers.as_slice())) && lodgements_possible(&h.capacities, &lodgements_of(h))
 }

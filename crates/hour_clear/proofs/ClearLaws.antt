@@ -6,7 +6,7 @@ use mathlib.Core.List.{List, [], ◌∷◌, ◌++◌, map, map-map}
 use native.Mathlib.Nat.{le_trans}
 use native.Mathlib.Omega.{arith}
 use lib.Dec.{eqb}
-use lib.ListN.{get_or, length, take, drop}
+use lib.ListN.{get_or, length, take}
 use Rattle.std.specs.Prelude.{Option, Some, None, is_some, unwrap_or}
 use Rattle.rules.specs.Lists.{All, Each, each0, each, none, more, keep, from}
 use Rattle.rules.specs.Units.{max_energy}
@@ -22,16 +22,18 @@ use Rattle.rules.proofs.IndexLaws.{from_all, map-all}
 use Rattle.hour_offers.specs.declared.Offer.{Offer}
 use Rattle.hour_offers.specs.declared.Execution.{Execution}
 use Rattle.hour_offers.specs.View.{offers_in, executions_in}
-use Rattle.std.specs.List.{refill}
 use Rattle.hour_borders.specs.Directions.{directed, energies_of, published_in}
 use Rattle.hour_borders.specs.Flows.{MarketFlows, ExecutionFlows}
 use Rattle.hour_borders.proofs.DirectionLaws.{published-once}
 use Rattle.hour_cut.specs.Cuts.{Enough}
 use Rattle.hour_market.specs.declared.Market.{Market}
 use Rattle.hour_market.specs.Parts.{MarketCleared}
+use Rattle.listed.specs.declared.Listed.{Listed}
+use Rattle.listed.specs.View.{listed}
+use Rattle.listed.proofs.ViewLaws.{listed-back}
 use Rattle.hour.specs.declared.Hour.{Hour}
 use Rattle.hour.specs.Ready.{HourInRange}
-use Rattle.hour.specs.View.{hour_in, figures_in, figures_as, offer_as, execution_as}
+use Rattle.hour.specs.View.{hour_in, figures_in, figures_as, padded, no_offer, no_execution, offer_as, execution_as}
 use Rattle.hour.proofs.RangeLaws.{energy-of}
 use Rattle.hour.proofs.LaidLaws.{eight-at, figures-laid, figures-back}
 
@@ -41,24 +43,24 @@ unfolding hour_in
 hour-sound {h} r = record { rising = r.offers-rise; once = published-once h.capacities }
 
 module _ {h : Hour} (ranges : HourInRange h) (os : List Offer) {r : Market}
-    (m : MarketCleared (hour_in h).offers h.capacities (executions_in h.executions.items) (offers_in os) r) where
+    (m : MarketCleared (hour_in h).offers h.capacities (executions_in (listed h.executions)) (offers_in os) r) where
   -- R ≤ G at every cut
-  pub enough-said : All (Enough (offers_in os) (executions_in h.executions.items)) (published_in h.capacities)
+  pub enough-said : All (Enough (offers_in os) (executions_in (listed h.executions))) (published_in h.capacities)
   unfolding hour_in
   enough-said = rw (← m.offers) (all_map (λ c q. q.enough) (H.hour-cleared (hour_in h) (hour-sound ranges)).borders)
 
   -- the figures are the rules'
-  cleared-said : (xs : List Execution) (b : List ℕ) → executions_in xs ≡ cut_all (offers_in os) (published_in h.capacities) (executions_in h.executions.items)
-      → figures_in (record { offers = record { items = os }; executions = record { items = xs }; maxima = r.maxima; market = r.flows; bilateral = b; steps = r.steps; price = r.price }) ≡ C.clear_hour (hour_in h)
+  cleared-said : (o : Listed Offer 128) (x : Listed Execution 128) (b : List ℕ) → listed o ≡ os → executions_in (listed x) ≡ cut_all (offers_in os) (published_in h.capacities) (executions_in (listed h.executions))
+      → figures_in (record { offers = o; executions = x; maxima = r.maxima; market = r.flows; bilateral = b; steps = r.steps; price = r.price }) ≡ C.clear_hour (hour_in h)
   unfolding C.clear_hour figures_in hour_in
-  cleared-said xs b c = rw (c, ← m.offers, ← m.maxima, ← m.steps, ← m.price) refl
+  cleared-said o x b e c = rw (e, c, ← m.offers, ← m.maxima, ← m.steps, ← m.price) refl
 
-  -- laid out
-  pub figures-said : (xs : List Execution) (b : List ℕ) → executions_in xs ≡ cut_all (offers_in os) (published_in h.capacities) (executions_in h.executions.items)
-      → length r.maxima ≡ 8 → length r.flows ≡ 8 → MarketFlows r.flows (offers_in os) → length b ≡ 8 → ExecutionFlows b (executions_in xs)
-      → record { offers = record { items = os }; executions = record { items = xs }; maxima = r.maxima; market = r.flows; bilateral = b; steps = r.steps; price = r.price }
+  -- laid out, what stands behind their lists apart
+  pub figures-said : (o : Listed Offer 128) (x : Listed Execution 128) (b : List ℕ) → listed o ≡ os → executions_in (listed x) ≡ cut_all (offers_in os) (published_in h.capacities) (executions_in (listed h.executions))
+      → length r.maxima ≡ 8 → length r.flows ≡ 8 → MarketFlows r.flows (offers_in os) → length b ≡ 8 → ExecutionFlows b (executions_in (listed x))
+      → padded (record { offers = o; executions = x; maxima = r.maxima; market = r.flows; bilateral = b; steps = r.steps; price = r.price })
       ≡ figures_as (C.clear_hour (hour_in h))
-  figures-said xs b c l lm fm lx fx = figures-laid _ l lm fm lx fx ∙ ap figures_as (cleared-said xs b c)
+  figures-said o x b e c l lm fm lx fx = figures-laid _ l lm (rw e fm) lx fx ∙ ap figures_as (cleared-said o x b e c)
 
 -- What follows of an hour's figures
 
@@ -115,18 +117,19 @@ each_all f (each {x} {y} h t) (more k u) = more (f x y h k) (each_all f t u)
 
 -- so are its matched and executed energies
 module _ {h : Hour} (r : HourInRange h) where
-  pub matched-small : All (λ (o : Offer). o.matched ≤ max_energy) (figures_as (C.clear_hour (hour_in h))).offers.items
+  pub matched-small : All (λ (o : Offer). o.matched ≤ max_energy) (listed (figures_as (C.clear_hour (hour_in h))).offers)
   unfolding figures_as
-  matched-small = all-mapped offer_as (each_all (λ o p f k. le_trans f.matched (le_trans f.offered k.energy.1)) (H.hour-cleared (hour_in h) (hour-sound r)).offers r.offers)
+  matched-small = rw (listed-back 128 no_offer (map offer_as (C.clear_hour (hour_in h)).offers)) (all-mapped offer_as (each_all (λ o p f k. le_trans f.matched (le_trans f.offered k.energy.1)) (H.hour-cleared (hour_in h) (hour-sound r)).offers r.offers))
 
-  pub executed-small : All (λ (x : Execution). x.energy ≤ max_energy) (figures_as (C.clear_hour (hour_in h))).executions.items
+  pub executed-small : All (λ (x : Execution). x.energy ≤ max_energy) (listed (figures_as (C.clear_hour (hour_in h))).executions)
   unfolding figures_as
-  executed-small = all-mapped execution_as (each_all (λ x y f k. le_trans f.energy k.energy.1) (H.hour-cleared (hour_in h) (hour-sound r)).executions r.executions)
+  executed-small = rw (listed-back 128 no_execution (map execution_as (C.clear_hour (hour_in h)).executions)) (all-mapped execution_as (each_all (λ x y f k. le_trans f.energy k.energy.1) (H.hour-cleared (hour_in h) (hour-sound r)).executions r.executions))
 
--- a list written over another as long as it
+-- a list laid in front of an array, as long as its count
 take-front : {A : Type 0} (ws ys : List A) → take (length ws) (ws ++ ys) ≡ ws
 take-front [] ys = refl
 take-front (w ∷ ws) ys = ap (λ l. w ∷ l) (take-front ws ys)
 
-pub refilled : {A : Type 0} (n : ℕ) (xs ws : List A) → n ≡ length ws → refill n xs ws ≡ ws
-refilled n xs ws e = rw e (take-front ws (drop (length ws) xs))
+pub listed-front : {A : Type 0} (n : ℕ) (ws ys : List A) (k : ℕ) → k ≡ length ws → listed {n = n} (record { items = ws ++ ys; count = k }) ≡ ws
+unfolding listed
+listed-front n ws ys k e = rw e (take-front ws ys)

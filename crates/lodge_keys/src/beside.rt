@@ -1,11 +1,12 @@
 // The lodgements that one is judged with: the unit's unhidden lodgements of the other kind, and their energies by hour, added up.
 ghost use Rattle.std.specs.Prelude.{◌≡◌, ℕ, ◌+◌, ◌≤◌, length};
 ghost use Rattle.judge_loads.specs.Loads.{IndicesIn};
+ghost use Rattle.listed.specs.View.{listed};
 ghost use Rattle.lodge_keys.specs.Beside.{counts, beside_marks, CountedOf};
 ghost use Rattle.lodge_keys.specs.Sums.{Below, Added, SumsAt};
 
 use crate::is_hidden;
-use arrayvec::ArrayVec;
+use listed::Listed;
 use rules::{HOURS, LODGEMENTS};
 use session::{Energies, Key, Lodgement};
 
@@ -22,11 +23,11 @@ fn is_beside(lodgements: &[Lodgement], key: Key, l: &Lodgement) -> bool
 
 // The indices of those that are counted. "A default lodgement is judged by its own energy."
 // (Lengths: DECISIONS.)
-pub fn beside_of(lodgements: &[Lodgement], key: Key) -> ArrayVec<usize, LODGEMENTS>
+pub fn beside_of(lodgements: &[Lodgement], key: Key) -> Listed<usize, LODGEMENTS>
     requires { length lodgements.now ≤ 128 }
-    ensures { CountedOf (beside_marks lodgements.now key) (length lodgements.now) result.items }
+    ensures { CountedOf (beside_marks lodgements.now key) (length lodgements.now) (listed result) }
 {
-    let mut counted = ArrayVec::new();
+    let mut counted = Listed::new(0);
     if key.default {
         return counted;
     }

@@ -13,6 +13,7 @@ use Rattle.session.specs.Bare.{bare_notice}
 use Rattle.session.specs.declared.Session.{Session}
 use Rattle.judge_loads.specs.Loads.{IndicesIn}
 use Rattle.judge_loads.proofs.LoadLaws.{indices-in}
+use Rattle.listed.specs.View.{listed}
 use Rattle.lodge_pending.specs.Awaiting.{Awaits}
 use Rattle.lodge_pending.specs.declared.Pending.{Pending}
 use Rattle.lodge_limits.specs.Judging.{load_for, passed_for, judged_for}
@@ -28,7 +29,7 @@ load-sums es ps own sums h a b s = ap (λ k. get_or own (h - 1) 0 + k) (s (h - 1
 
 -- What a message's judgement looks at: those that are counted are indices of energies, and the loads that they make are the rules'
 
-module _ (s : Session) (p : Pending) (a : Awaits s p) (long : length s.energies ≡ 128) (ps : List ℕ) (same : ps ≡ p.beside.items) where
+module _ (s : Session) (p : Pending) (a : Awaits s p) (long : length s.energies ≡ 128) (ps : List ℕ) (same : ps ≡ listed p.beside) where
   pub counted-in : IndicesIn s.energies ps
   counted-in = indices-in _ s.standing s.energies ps (same ∙ a.beside) a.within.standing (omega (arith, a.within.standing))
 

@@ -5,6 +5,7 @@
 ghost use Rattle.std.specs.Prelude.{◌≡◌, ◌≤◌};
 ghost use Rattle.session.specs.Parts.{said};
 ghost use Rattle.judge_limits.specs.Limits.{first_passed};
+ghost use Rattle.listed.specs.View.{listed};
 ghost use Rattle.lodge_keys.specs.Sums.{SumsAt, load_on};
 ghost use Rattle.lodge_pending.specs.Awaiting.{Awaits};
 ghost use Rattle.lodge_limits.specs.Judging.{passed_nowhere, is_clear, passed_for, judged_for};
@@ -51,7 +52,7 @@ fn none_passed(limits: &[Limit], own: &[u32; HOURS], sums: &[u64; HOURS], hours:
 // looked for only where one is.
 fn judge_by(s: &Session, p: &Pending, sums: &[u64; HOURS], limits: &[Limit]) -> Result<(), Refusal>
     requires awaits { Awaits s.now p.now }
-    requires sums { SumsAt s.now.energies p.now.beside.items sums.now }
+    requires sums { SumsAt s.now.energies (listed p.now.beside) sums.now }
     ensures { said result ≡ passed_for s.now p.now limits.now }
 {
     let own = &p.fields.energies;

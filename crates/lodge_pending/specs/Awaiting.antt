@@ -13,6 +13,7 @@ use Rattle.session.specs.Image.{image, key_in}
 use Rattle.session.specs.Parts.{Within, Judges, refused_with, by_row, by_refusal}
 use Rattle.session.specs.Steps.{Met}
 use Rattle.session.specs.declared.Session.{Session}
+use Rattle.listed.specs.View.{listed}
 use Rattle.lodge_keys.specs.Keys.{key_for, key_index}
 use Rattle.lodge_keys.specs.Holding.{FoundAt}
 use Rattle.lodge_keys.specs.Beside.{marks_for, CountedOf}
@@ -26,7 +27,7 @@ pub record Awaits (s : Session) (p : Pending) : Type 0 where
   pub replaced : p.replaces ≡ key_index s p.key
   pub holder : FoundAt s p.fields.unit p.holder
   pub room : Room s p.key
-  pub beside : CountedOf (marks_for s p.fields) s.standing p.beside.items
+  pub beside : CountedOf (marks_for s p.fields) s.standing (listed p.beside)
   pub notice : p.holder.at < 64
 
 -- its unit may hold its key

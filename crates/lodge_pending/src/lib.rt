@@ -8,7 +8,7 @@ ghost use Rattle.session.specs.Parts.{Within};
 ghost use Rattle.lodge_judge.specs.Judging.{GivesRow};
 ghost use Rattle.lodge_pending.specs.Awaiting.{Found, Pends};
 
-use arrayvec::ArrayVec;
+use listed::Listed;
 use lodge_judge::judge_fields;
 use lodge_keys::beside::beside_of;
 use lodge_keys::{key_index, key_of};
@@ -19,13 +19,13 @@ use rules::row::Row;
 use session::{Holder, Key, Session};
 
 // Its fields and their key, the index of the lodgement that it replaces, its unit, and the indices of those that are counted beside it.
-#[derive(Drop)]
+#[derive(Clone, Copy)]
 pub struct Pending {
     pub fields: Fields,
     pub key: Key,
     pub replaces: Option<usize>,
     pub holder: Holder,
-    pub beside: ArrayVec<usize, LODGEMENTS>,
+    pub beside: Listed<usize, LODGEMENTS>,
 }
 
 // What is found for a message of the right form, or the row from 4 to 9 that refuses it. (`Within`: `Session::sound` says why no type has it.)

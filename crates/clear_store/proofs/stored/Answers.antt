@@ -9,7 +9,8 @@ use Rattle.hour_offers.specs.declared.Execution.{Execution}
 use Rattle.hour_offers.specs.View.{offer_in, execution_in}
 use Rattle.hour.specs.declared.Figures.{Figures}
 use Rattle.hour_borders.specs.Directions.{published_in}
-use Rattle.hour.specs.View.{figures_in, figures_as}
+use Rattle.listed.specs.View.{listed}
+use Rattle.hour.specs.View.{figures_in, figures_as, padded}
 use Rattle.session.specs.declared.Unit.{Unit}
 use Rattle.session.specs.Laid.{pad}
 use Rattle.clear_store.specs.Shown.{cleared_as}
@@ -32,7 +33,7 @@ pub of-executed-requires-clause-ranged : goal.of-executed-requires-clause-ranged
 of-executed-requires-clause-ranged c = rw c.as_slice-2.ensures.value (all_map (λ x k p h. search rules) c.requires.2)
 
 pub returns : goal.returns
-unfolding cleared_as figures_in figures_as
+unfolding cleared_as figures_in figures_as padded
 returns c = λ w.
     let f = c.args.figures.now in
     let us = c.args.units.now in
@@ -44,7 +45,7 @@ returns c = λ w.
     (c.plain.ensures ∙ (ap (λ (g : Figures). map (λ o. unwrap_or o 0) g.maxima) w ∙ maxima-as (published_in f.maxima)))
     (c.by_unit.ensures ∙ ap (pad 64 0) (map-all _ _ (all-every (λ (u : Unit).
     c.of-matched.ensures of-offer (all-every (λ x p h. search rules) os.result.now) u.number
-    ∙ rw os.ensures.value (of-holders of-offer u.number f.offers.items ∙ sym (kept-sum offer_in (λ o. o.matched) (λ o. eqb o.holder.unit u.number) f.offers.items))) us)))
+    ∙ rw os.ensures.value (of-holders of-offer u.number (listed f.offers) ∙ sym (kept-sum offer_in (λ o. o.matched) (λ o. eqb o.holder.unit u.number) (listed f.offers)))) us)))
     (c.by_unit-2.ensures ∙ ap (pad 64 0) (map-all _ _ (all-every (λ (u : Unit).
     c.of-executed.ensures of-execution (all-every (λ x p h. search rules) xs.result.now) u.number
-    ∙ rw xs.ensures.value (of-holders of-execution u.number f.executions.items ∙ sym (kept-sum execution_in (λ x. x.energy) (λ x. eqb x.holder.unit u.number) f.executions.items))) us)))
+    ∙ rw xs.ensures.value (of-holders of-execution u.number (listed f.executions) ∙ sym (kept-sum execution_in (λ x. x.energy) (λ x. eqb x.holder.unit u.number) (listed f.executions)))) us)))

@@ -1,0 +1,2 @@
+mod BlankLaws
+pub mod ViewLaws
