@@ -25,20 +25,23 @@
 use answers::{Counted, Named, Told, Written};
 use hours::NextHour;
 use message::Fields;
+use output::Output;
 use questions::Question;
-use std::io;
-use std::io::{BufWriter, Read, Write};
+use std::fmt;
+use std::fmt::Write;
 
 mod answers;
 mod hours;
 mod numbers;
 mod questions;
 
+const STDIN: i32 = 0;
+
 // How many bytes of the input are read. A line that is cut there is a line.
 const INPUT: usize = 262_144;
 
 // A message written, if its room is not more than the buffer has.
-fn write<W: Write>(room: usize, fields: Fields, out: &mut W) -> io::Result<()> {
+fn write(room: usize, fields: Fields, out: &mut Output) -> fmt::Result {
     let mut buffer = [0xA5; 128];
     match buffer.get_mut(..room) {
         Some(buffer) => writeln!(out, "{}", Written::into(buffer, &fields)),
@@ -46,7 +49,7 @@ fn write<W: Write>(room: usize, fields: Fields, out: &mut W) -> io::Result<()> {
     }
 }
 
-fn answer<W: Write>(question: Question, hour: &mut NextHour, out: &mut W) -> io::Result<()> {
+fn answer(question: Question, hour: &mut NextHour, out: &mut Output) -> fmt::Result {
     match question {
         Question::Hours(date) => writeln!(out, "{}", Counted(calendar::hours_at(date))),
         Question::ClockName(date, hour) => writeln!(
@@ -75,32 +78,32 @@ fn answer<W: Write>(question: Question, hour: &mut NextHour, out: &mut W) -> io:
     }
 }
 
-fn answer_line<W: Write>(line: &[u8], hour: &mut NextHour, out: &mut W) -> io::Result<()> {
+fn answer_line(line: &[u8], hour: &mut NextHour, out: &mut Output) -> fmt::Result {
     if line.is_empty() {
         return Ok(());
     }
     match Question::of(line) {
         Some(question) => answer(question, hour, out),
         None => {
-            out.write_all(line)?;
-            out.write_all(b"\n")
+            out.put(line);
+            writeln!(out)
         }
     }
 }
 
-fn answer_all<W: Write>(input: &[u8], out: &mut W) -> io::Result<()> {
+fn answer_all(input: &[u8], out: &mut Output) -> fmt::Result {
     let mut hour = NextHour::new();
     for line in input.split(|b| *b == b'\n') {
         answer_line(line, &mut hour, out)?;
     }
-    out.flush()
+    out.flush();
+    Ok(())
 }
 
-fn main(rt: HostRuntime) -> io::Result<()> {
-    let mut input = Vec::with_capacity(rt.alloc(), INPUT)?;
-    // A read that fails is the end of the input, and an output that takes no more that of the run.
-    let _ = rt.reader().take(INPUT as u64).read_to_end(&mut input);
-    let mut out = BufWriter::new(rt.alloc(), io::writer(&rt))?;
-    let _ = answer_all(input.as_slice(), &mut out);
-    Ok(())
+fn main() {
+    let mut input = [0; INPUT];
+    // A read that fails is the end of the input.
+    let count = io::read_full(STDIN, &mut input);
+    // An output never fails: what it can't write, it passes over.
+    let _ = answer_all(&input[..count], &mut Output::new());
 }

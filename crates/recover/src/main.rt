@@ -15,13 +15,16 @@ use answer::Response;
 use arrayvec::ArrayVec;
 use book::Replayed;
 use calendar::Date;
+use output::Output;
 use rehearse_lines::telling::{Said, tell};
 use rehearse_report::replies::InWords;
 use rehearse_words::lines;
 use rehearse_words::words::{Words, is_blank};
 use session::Session;
-use std::io::Read;
-use std::{fmt, io};
+use std::fmt;
+use std::fmt::Write;
+
+const STDIN: i32 = 0;
 
 // How many bytes of the input are read.
 const INPUT: usize = 262144;
@@ -131,22 +134,22 @@ impl Day {
         }
     }
 
-    fn not_understood(&self, rt: &impl Print) -> io::Result<()> {
-        tell(rt, self.lines, Said::NotUnderstood, &self.session)
+    fn not_understood(&self, out: &mut Output) -> fmt::Result {
+        tell(out, self.lines, Said::NotUnderstood, &self.session)
     }
 
-    fn tell_bytes(&self, rt: &impl Print) -> io::Result<()> {
-        println!(rt; "{}: bytes {}", self.lines, self.log.len())
+    fn tell_bytes(&self, out: &mut Output) -> fmt::Result {
+        writeln!(out, "{}: bytes {}", self.lines, self.log.len())
     }
 
     // From a fresh session of the date, where one is given. Each of the two is a line, and a closure for it would be longer.
-    fn run_log(&mut self, rt: &impl Print, date: Option<Date>, part: Part) -> io::Result<()> {
+    fn run_log(&mut self, out: &mut Output, date: Option<Date>, part: Part) -> fmt::Result {
         let mut room = [NO_ANSWER; ANSWERS];
         let Some(answers) = room.get_mut(..part.room) else {
-            return self.not_understood(rt);
+            return self.not_understood(out);
         };
         let Some(log) = self.log.as_slice().get(part.from..part.to) else {
-            return self.not_understood(rt);
+            return self.not_understood(out);
         };
         let (opened, reached) = match date {
             Some(date) => {
@@ -162,56 +165,57 @@ impl Day {
             read: reached.read,
             answers,
         };
-        println!(rt; "{}: {run}", self.lines)
+        writeln!(out, "{}: {run}", self.lines)
     }
 
-    fn put_byte(&mut self, rt: &impl Print, at: usize, byte: u8) -> io::Result<()> {
+    fn put_byte(&mut self, out: &mut Output, at: usize, byte: u8) -> fmt::Result {
         let Some(x) = self.log.as_mut_slice().get_mut(at) else {
-            return self.not_understood(rt);
+            return self.not_understood(out);
         };
         *x = byte;
-        self.tell_bytes(rt)
+        self.tell_bytes(out)
     }
 
-    fn run(&mut self, rt: &impl Print, line: Option<Line>) -> io::Result<()> {
+    fn run(&mut self, out: &mut Output, line: Option<Line>) -> fmt::Result {
         match line {
-            None => self.not_understood(rt),
+            None => self.not_understood(out),
             Some(Line::Log(log)) => {
                 self.log = log;
-                self.tell_bytes(rt)
+                self.tell_bytes(out)
             }
-            Some(Line::Byte(at, byte)) => self.put_byte(rt, at, byte),
-            Some(Line::Replay(date, part)) => self.run_log(rt, Some(date), part),
-            Some(Line::ReplayOn(part)) => self.run_log(rt, None, part),
+            Some(Line::Byte(at, byte)) => self.put_byte(out, at, byte),
+            Some(Line::Replay(date, part)) => self.run_log(out, Some(date), part),
+            Some(Line::ReplayOn(part)) => self.run_log(out, None, part),
             Some(Line::Rehearsed(line)) => {
                 let said = rehearse_lines::run(&mut self.session, line);
-                tell(rt, self.lines, said, &self.session)
+                tell(out, self.lines, said, &self.session)
             }
         }
     }
 
     // A line's end: blank lines and comments say nothing.
-    fn end_line(&mut self, rt: &impl Print, line: &[u8]) -> io::Result<()> {
+    fn end_line(&mut self, out: &mut Output, line: &[u8]) -> fmt::Result {
         self.lines = self.lines.saturating_add(1);
         if line.iter().all(|b| is_blank(*b)) || line.starts_with(b"#") {
             return Ok(());
         }
-        self.run(rt, read(line))
+        self.run(out, read(line))
     }
 }
 
-fn recover(rt: &impl Print, input: &[u8]) -> io::Result<()> {
+fn recover(out: &mut Output, input: &[u8]) -> fmt::Result {
     let mut day = Day::new();
     for line in input.split(|b| *b == b'\n') {
-        day.end_line(rt, line)?;
+        day.end_line(out, line)?;
+        out.flush();
     }
     Ok(())
 }
 
-fn main(rt: HostRuntime) -> io::Result<()> {
-    let mut input = Vec::with_capacity(rt.alloc(), INPUT)?;
-    // A read that fails is the end of the input, and an output that takes no more that of the run.
-    let _ = rt.reader().take(INPUT as u64).read_to_end(&mut input);
-    let _ = recover(&rt, input.as_slice());
-    Ok(())
+fn main() {
+    let mut input = [0; INPUT];
+    // A read that fails is the end of the input.
+    let count = io::read_full(STDIN, &mut input);
+    // An output never fails: what it can't write, it passes over.
+    let _ = recover(&mut Output::new(), &input[..count]);
 }

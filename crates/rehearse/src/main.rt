@@ -3,16 +3,21 @@
 #![tactic(auto)]
 
 use arrayvec::ArrayVec;
+use output::Output;
 use rehearse_lines::run;
 use rehearse_lines::telling::{Said, tell};
 use rehearse_words::lines;
 use rehearse_words::words::is_blank;
 use session::Session;
-use std::io::{BufRead, BufReader, Read};
-use std::{fmt, io};
+use std::fmt;
+use std::fmt::Write;
+use std::io::Read;
 
 // How many bytes of a line are kept.
 const ROOM: usize = 8192;
+
+// How many bytes are read at once, at most.
+const PIECE: usize = 4096;
 
 // A line so far, from its first word on, and whether there was more than there is room for: a mark beside the bytes, which still say whether a line
 // that is too long is a comment.
@@ -87,7 +92,7 @@ impl Day {
     }
 
     // A line's end: blank lines and comments say nothing.
-    fn end_line(&mut self, rt: &impl Print, line: &Line) -> io::Result<()> {
+    fn end_line(&mut self, out: &mut Output, line: &Line) -> fmt::Result {
         self.lines = self.lines.saturating_add(1);
         if matches!(line.bytes.first(), None | Some(b'#')) {
             return Ok(());
@@ -97,7 +102,23 @@ impl Day {
             None => Said::NotUnderstood,
         };
         self.count(said);
-        tell(rt, self.lines, said, &self.session)
+        tell(out, self.lines, said, &self.session)?;
+        // Whoever writes the next line reads this answer first.
+        out.flush();
+        Ok(())
+    }
+
+    // Bytes of the input: the rest of the line so far, and what follows it.
+    fn take(&mut self, out: &mut Output, line: &mut Line, bytes: &[u8]) -> fmt::Result {
+        for byte in bytes {
+            if *byte == b'\n' {
+                self.end_line(out, line)?;
+                line.clear();
+            } else {
+                line.push(*byte);
+            }
+        }
+        Ok(())
     }
 }
 
@@ -111,27 +132,24 @@ impl fmt::Display for Day {
     }
 }
 
-// A read that fails is the end.
-fn rehearse<R: BufRead + Drop>(rt: &impl Print, input: R) -> io::Result<()> {
+// A read that fails is the end. A proved loop has to end, and nothing says that the input does: no run uses up so many turns.
+fn rehearse<R: Read>(out: &mut Output, input: &mut R) -> fmt::Result {
     let mut day = Day::new();
     let mut line = Line::new();
-    for byte in input.bytes() {
-        match byte {
-            Ok(b'\n') => {
-                day.end_line(rt, &line)?;
-                line.clear();
-            }
-            Ok(byte) => line.push(byte),
-            Err(_) => break,
+    let mut piece = [0; PIECE];
+    for _ in 0..u64::MAX {
+        match input.read(&mut piece) {
+            Ok(0) | Err(_) => break,
+            Ok(count) => day.take(out, &mut line, &piece[..count])?,
         }
     }
-    day.end_line(rt, &line)?;
-    println!(rt; "{day}")
+    day.end_line(out, &line)?;
+    writeln!(out, "{day}")?;
+    out.flush();
+    Ok(())
 }
 
-fn main(rt: HostRuntime) -> io::Result<()> {
-    let input = BufReader::new(rt.alloc(), rt.reader())?;
-    // An output that takes no more ends the run, and is no error of the day.
-    let _ = rehearse(&rt, input);
-    Ok(())
+fn main(rt: HostRuntime) {
+    // An output never fails: what it can't write, it passes over.
+    let _ = rehearse(&mut Output::new(), &mut rt.reader());
 }

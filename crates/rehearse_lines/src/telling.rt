@@ -6,7 +6,7 @@ use answer::{Kind, Response};
 use rehearse_report::Report;
 use rehearse_report::replies::InWords;
 use session::Session;
-use std::{fmt, io};
+use std::fmt;
 
 // The answer of a call or a query, a report, or that the line is none of these.
 #[derive(Clone, Copy)]
@@ -35,10 +35,10 @@ impl fmt::Display for Said {
 }
 
 // "12: accepted"; a report's tables are further lines. No clause: it writes, and what it writes is `Said`'s and `Report`'s `Display`.
-pub fn tell(rt: &impl Print, index: u64, said: Said, session: &Session) -> io::Result<()> {
-    println!(rt; "{index}: {said}")?;
+pub fn tell<W: fmt::Write>(out: &mut W, index: u64, said: Said, session: &Session) -> fmt::Result {
+    writeln!(out, "{index}: {said}")?;
     match said {
-        Said::Report => print!(rt; "{}", Report(session)),
+        Said::Report => write!(out, "{}", Report(session)),
         _ => Ok(()),
     }
 }
