@@ -1,4 +1,6 @@
 // An offer's or an execution's line as the fields of a message.
+ghost use Rattle.std.specs.Prelude.{◌<◌, IfSome};
+
 use crate::calls::contract;
 use crate::words::{Words, number, parted};
 use message::Fields;
@@ -37,15 +39,41 @@ fn names(word: &[u8], hour: u32) -> bool {
     parted(word, b':').is_some_and(|(named, _)| number(named) == Some(hour))
 }
 
+// Where the fields have an hour of the day.
+fn day_index(hour: u32) -> Option<usize>
+    ensures { IfSome result (λ at. at < 25) }
+{
+    (hour as usize).checked_sub(1).filter(|at| *at < HOURS)
+}
+
 // Hour 1 is bit 24, hour 25 bit 0; bit 25 stands for every other hour.
+fn hour_bit(hour: u32) -> u32 {
+    match day_index(hour) {
+        Some(at) => 1 << (HOURS - 1 - at),
+        None => 1 << HOURS,
+    }
+}
+
 fn put(fields: &mut Fields, slot: Slot) {
-    let Some(at) = (slot.hour as usize).checked_sub(1).filter(|at| *at < HOURS) else {
-        fields.map |= 1 << HOURS;
-        return;
-    };
-    fields.map |= 1 << (HOURS - 1 - at);
-    fields.energies[at] = slot.energy;
-    fields.prices[at] = slot.price;
+    fields.map |= hour_bit(slot.hour);
+    if let Some(at) = day_index(slot.hour) {
+        fields.energies[at] = slot.energy;
+        fields.prices[at] = slot.price;
+    }
+}
+
+// A line's hours, none twice. The map has those so far; of hours beyond the day, the words before say which.
+fn put_hours(fields: &mut Fields, words: &mut Words) -> Option<()> {
+    let hours = *words;
+    for (before, word) in words.enumerate() {
+        let slot = read_slot(word, fields.execution)?;
+        let is_marked = fields.map & hour_bit(slot.hour) != 0;
+        if is_marked && hours.take(before).any(|word| names(word, slot.hour)) {
+            return None;
+        }
+        put(fields, slot);
+    }
+    Some(())
 }
 
 // offer 7 default 3:120@4500 4:95@4400; execution 8 contract 12 3:60 4:60. No hour twice.
@@ -63,14 +91,6 @@ pub(crate) fn fields(words: &mut Words, execution: bool) -> Option<Fields> {
         energies: [0; HOURS],
         prices: [0; HOURS],
     };
-    let hours = *words;
-    for word in words {
-        let slot = read_slot(word, execution)?;
-        let second = hours.filter(|word| names(word, slot.hour)).nth(1);
-        if second.is_some() {
-            return None;
-        }
-        put(&mut fields, slot);
-    }
+    put_hours(&mut fields, words)?;
     Some(fields)
 }
