@@ -1,2 +1,3 @@
 pub mod EndLaws
 mod StageLaws
+mod SlottedLaws

@@ -7,8 +7,10 @@ ghost use Rattle.session.specs.Steps.{Met};
 ghost use Rattle.session.specs.Parts.{Within, JudgesRow};
 ghost use Rattle.clear_gather.specs.Built.{Holders};
 ghost use Rattle.clear.specs.Hours.{HourAs, HoursAs};
+ghost use Rattle.clear.specs.Slotted.{Slotted};
 
 use answer::Response;
+use clear_store::unit_slots::UnitSlots;
 use hour::{Figures, Hour};
 use hour_offers::Holder;
 use rules::HOURS;
@@ -30,11 +32,13 @@ pub struct DayEnd {
     pub figures: [HourFigures; HOURS],
 }
 
-// The hour at index k, `holders` being those of the standing lodgements: it is gathered into `hour` and cleared into `figures`, which all hours are. An hour
-// out of its ranges, which no sound book has, gets figures of 0. `Within` is asked: a session is C's struct, so no type of this repository's can say it.
+// The hour at index k, `holders` being those of the standing lodgements and the table the units' slots: it is gathered into `hour` and cleared into
+// `figures`, which all hours are. An hour out of its ranges, which no sound book has, gets figures of 0. `Within` is asked: a session is C's struct, so no
+// type of this repository's can say it.
 fn clear_hour(
     s: &Session,
     holders: &[Holder],
+    table: &UnitSlots,
     k: usize,
     hour: &mut Hour,
     figures: &mut Figures,
@@ -46,7 +50,7 @@ fn clear_hour(
     if hour_clear::clear_into(hour, figures) {
         HourEnd {
             steps: figures.steps,
-            figures: clear_store::stored(&s.units[..s.enrolled], figures),
+            figures: clear_store::stored(&s.units[..s.enrolled], table, figures),
         }
     } else {
         HourEnd {
@@ -54,6 +58,14 @@ fn clear_hour(
             figures: session::no_figures(),
         }
     }
+}
+
+// The slots of the units: that of a lodgement's holder is by the index of its unit.
+fn slots_of(s: &Session) -> UnitSlots
+    requires { Within s.now }
+    ensures { Slotted s.now result.rows result.slots }
+{
+    UnitSlots::of(&s.units[..s.enrolled])
 }
 
 // Every hour of the day, 1 to H. The loop is by index: it is the hour's, in several arrays of C's session and in the figures.
@@ -66,6 +78,7 @@ fn clear_hours(s: &Session) -> DayEnd
         &s.losses,
         &s.lodgements[..s.standing],
     );
+    let table = slots_of(s);
     let none = session::no_figures();
     let n = s.hours as usize;
     let mut hour = Hour::default();
@@ -73,7 +86,7 @@ fn clear_hours(s: &Session) -> DayEnd
     let mut figures = [none; HOURS];
     let mut steps: u64 = 0;
     for k in 0..n {
-        let end = clear_hour(s, &holders, k, &mut hour, &mut cleared);
+        let end = clear_hour(s, &holders, &table, k, &mut hour, &mut cleared);
         figures[k] = end.figures;
         steps += u64::from(end.steps);
     }

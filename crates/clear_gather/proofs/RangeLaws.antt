@@ -64,7 +64,7 @@ pub record GoodUnit (u : U.TradingUnit) : Type 0 where
   pub maximum : u.maximum ≤ U.max_energy
   pub legacy : u.legacy ≡ true → 1 ≤ u.border
 
-good-unit : (u : U.TradingUnit) → U.bad_unit u ≡ false → GoodUnit u
+pub good-unit : (u : U.TradingUnit) → U.bad_unit u ≡ false → GoodUnit u
 unfolding U.bad_unit U.domestic
 good-unit u h =
     let n = U.bad_number u.number || U.bad_number u.agent in

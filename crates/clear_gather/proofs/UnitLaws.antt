@@ -1,5 +1,5 @@
 -- In the session that stands for a sound book each unit has an index of its own.
-use Prim.Native.Nat.{ℕ, zero, suc, ◌<◌}
+use Prim.Native.Nat.{ℕ, zero, suc, ◌%◌, ◌<◌, ◌≤◌}
 use mathlib.Core.Path.{◌≡◌, sym, ap, ◌∙◌}
 use mathlib.Core.Logic.{⊎_elim}
 use mathlib.Core.Bool.{Bool, true, false≢true}
@@ -27,6 +27,7 @@ use Rattle.session.proofs.ImageLaws.{units-as, standing-as, enrolled-as}
 use Rattle.hour_offers.specs.declared.Holder.{Holder}
 use Rattle.clear_gather.specs.Built.{no_holder, Holders}
 use Rattle.clear_gather.proofs.DayLaws.{blank, standing, lodgement-at, holder-at}
+use Rattle.clear_gather.proofs.RangeLaws.{good-unit}
 
 -- what stands at the index of the first that passes a test passes it
 index-passes : {A : Type 0} (p : A → Bool) (d : A) (xs : List A) → any p xs ≡ true → p (get_or xs (index_of p xs) d) ≡ true
@@ -72,6 +73,33 @@ module _ (s : Session) (b : B.Book) (e : s ≡ I.image b) (sound : I.Sound b) wh
       let l : length (take s.enrolled s.units) ≡ length b.units = ap length (units-as s b e) ∙ length-map b.units I.unit_of in
       ap (λ (u : Unit). u.number) (sym (get_or-take s.enrolled s.units p I.no_unit (omega (arith, l, length-take s.enrolled s.units))) ∙ (ap (λ (us : List Unit). get_or us p I.no_unit) (units-as s b e) ∙ get_or-map I.unit_of U.nobody I.no_unit b.units p h))
 
+  registered-at : (i : ℕ) → i < length b.standing → U.is_registered b.units (standing b i).key.unit ≡ true
+  registered-at i h = (RL.all-at i blank sound.ranges.standing.holders h).registered
+
+  index-as : (i : ℕ) → i < length b.standing
+      → index_of (number_is (get_or s.lodgements i I.no_lodgement).key.unit) (take s.enrolled s.units) ≡ index_of (U.has_number (standing b i).key.unit) b.units
+  unfolding U.has_number
+  index-as i h =
+      ap (λ (x : Lodgement). index_of (number_is x.key.unit) (take s.enrolled s.units)) (lodgement-at s b e i h)
+      ∙ (ap (index_of (number_is (standing b i).key.unit)) (units-as s b e) ∙ index-map I.unit_of (number_is (standing b i).key.unit) b.units)
+
+  number-small : (p : ℕ) → p < length b.units → (get_or b.units p U.nobody).unit.number ≤ 65535
+  number-small p h = (good-unit (get_or b.units p U.nobody).unit (RL.all-at p U.nobody sound.ranges.units.ranges h)).number.1
+
+  -- two units are told apart by the two last bytes of their numbers
+  pub units-apart : (i j : ℕ) → i < s.enrolled → j < s.enrolled → (i ≡ j → ⊥) → (get_or s.units i I.no_unit).number % 65536 ≡ (get_or s.units j I.no_unit).number % 65536 → ⊥
+  units-apart i j h k n q =
+      let x : i < length b.units = omega (arith, enrolled-as s b e) in
+      let y : j < length b.units = omega (arith, enrolled-as s b e) in
+      distinct-at b.units sound.ranges.units.distinct i j x y (omega (arith, q, unit-at i x, unit-at j y, number-small i x, number-small j y)) n
+
+  -- a standing lodgement's unit is registered
+  pub unit-inside : (i : ℕ) → i < s.standing → index_of (number_is (get_or s.lodgements i I.no_lodgement).key.unit) (take s.enrolled s.units) < s.enrolled
+  unfolding U.is_registered
+  unit-inside i l =
+      let inside : i < length b.standing = omega (arith, standing-as s b e) in
+      omega (arith, index-as i inside, indexed (U.has_number (standing b i).key.unit) b.units (registered-at i inside), enrolled-as s b e)
+
   -- The index of a standing lodgement's unit is p exactly where its holder is the unit at p: "a unit has one index".
   pub unit-indexed : (hs : List Holder) → Holders s hs → (i p : ℕ) → i < s.standing → p < s.enrolled
       → eqb (index_of (number_is (get_or s.lodgements i I.no_lodgement).key.unit) (take s.enrolled s.units)) p ≡ eqb (get_or hs i no_holder).unit (get_or s.units p I.no_unit).number
@@ -80,10 +108,7 @@ module _ (s : Session) (b : B.Book) (e : s ≡ I.image b) (sound : I.Sound b) wh
       let key = (standing b i).key.unit in
       let inside : i < length b.standing = omega (arith, standing-as s b e) in
       let known : p < length b.units = omega (arith, enrolled-as s b e) in
-      let registered = (RL.all-at i blank sound.ranges.standing.holders inside).registered in
-      let found : index_of (number_is (get_or s.lodgements i I.no_lodgement).key.unit) (take s.enrolled s.units) ≡ index_of (U.has_number key) b.units =
-      ap (λ (x : Lodgement). index_of (number_is x.key.unit) (take s.enrolled s.units)) (lodgement-at s b e i inside)
-      ∙ (ap (index_of (number_is key)) (units-as s b e) ∙ index-map I.unit_of (number_is key) b.units) in
+      let registered = registered-at i inside in
       let number : (get_or hs i no_holder).unit ≡ key =
       ap (λ (x : M.Holder). x.unit) (holder-at s b e hs h i inside) ∙ (ap (λ (r : U.Registered). r.unit.number) (index-first (U.has_number key) U.nobody b.units) ∙ has-number b.units key sound.ranges.units.distinct registered) in
-      rw (found, number, unit-at p known) (own-index b.units key sound.ranges.units.distinct registered p known)
+      rw (index-as i inside, number, unit-at p known) (own-index b.units key sound.ranges.units.distinct registered p known)

@@ -97,7 +97,8 @@ pub fn gather(s: &Session, holders: &[Holder], k: usize, hour: &mut Hour)
         if s.lodgements[i].key.execution {
             hour.executions.push(Execution::new(*holder, energy));
         } else {
-            hour.offers.push(Offer::new(*holder, s.energies[i].prices[k], energy));
+            hour.offers
+                .push(Offer::new(*holder, s.energies[i].prices[k], energy));
         }
     }
     hour.capacities = capacities_at(&s.capacities, k);

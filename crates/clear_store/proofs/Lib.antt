@@ -1,2 +1,3 @@
 mod SlotLaws
 mod SumLaws
+mod UnitSlotLaws

@@ -1,5 +1,5 @@
 -- What one portion more adds, and what stays in range.
-use Prim.Native.Nat.{ℕ, zero, suc, ◌+◌, ◌*◌, ◌%◌, ◌≤◌, ◌<◌}
+use Prim.Native.Nat.{ℕ, zero, suc, ◌+◌, ◌*◌, ◌≤◌, ◌<◌}
 use mathlib.Core.Path.{◌≡◌, refl, sym, ap}
 use mathlib.Core.Logic.{◌⊎◌, inl, inr}
 use mathlib.Core.Bool.{Bool, true, false, cond}
@@ -28,23 +28,23 @@ joined : (x p : Portion) (u : ℕ) → (x.unit ≡ p.unit) ⊎ ((x.unit ≡ p.un
 joined x p u (inl h) = rw h (by_bool (eqb p.unit u) (λ t. rw t refl) (λ t. rw t refl))
 joined x p u (inr z) = rw (z.1, cond-none (eqb x.unit u)) (by_bool (eqb p.unit u) (λ t. rw t (omega arith)) (λ t. rw t refl))
 
-module _ (held : List Portion) (p : Portion) (u : ℕ) where
+module _ (slot : ℕ → ℕ) (held : List Portion) (p : Portion) (u : ℕ) where
   -- what stands at the portion's slot
   abbrev there : Portion
-  there = get_or held (p.unit % 256) nothing
+  there = get_or held (slot p.unit) nothing
 
   -- and with the portion
   abbrev both : Portion
   both = record { unit = p.unit; energy = there.energy + p.energy }
 
-  pub held-more : (there.unit ≡ p.unit) ⊎ ((there.unit ≡ p.unit → ⊥) × (there.energy ≡ 0)) → p.unit % 256 < length held
-      → energy_held u (set held (p.unit % 256) both) ≡ energy_held u held + energy_of u p
+  pub held-more : (there.unit ≡ p.unit) ⊎ ((there.unit ≡ p.unit → ⊥) × (there.energy ≡ 0)) → slot p.unit < length held
+      → energy_held slot u (set held (slot p.unit) both) ≡ energy_held slot u held + energy_of u p
   unfolding energy_held energy_of
   held-more e l =
-      by_bool (eqb (u % 256) (p.unit % 256))
-      (λ t. rw (eqb-true (u % 256) (p.unit % 256) t, get_or-set_same held (p.unit % 256) both nothing l) (joined there p u e))
-      (λ t. let d = eqb-false (u % 256) (p.unit % 256) t in
-      rw (get_or-set_other held (p.unit % 256) (u % 256) both nothing d, ne_eqb p.unit u (λ z. d (ap (λ x. x % 256) (sym z)))) (omega arith))
+      by_bool (eqb (slot u) (slot p.unit))
+      (λ t. rw (eqb-true (slot u) (slot p.unit) t, get_or-set_same held (slot p.unit) both nothing l) (joined there p u e))
+      (λ t. let d = eqb-false (slot u) (slot p.unit) t in
+      rw (get_or-set_other held (slot p.unit) (slot u) both nothing d, ne_eqb p.unit u (λ z. d (ap slot (sym z)))) (omega arith))
 
 -- Nothing yet
 
@@ -53,9 +53,9 @@ blank zero i = refl
 blank (suc n) zero = refl
 blank (suc n) (suc i) = blank n i
 
-pub none-held : (n u : ℕ) → energy_held u (replicate n nothing) ≡ 0
+pub none-held : (slot : ℕ → ℕ) (n u : ℕ) → energy_held slot u (replicate n nothing) ≡ 0
 unfolding energy_held energy_of
-none-held n u = rw (blank n (u % 256)) (cond-none (eqb 0 u))
+none-held slot n u = rw (blank n (slot u)) (cond-none (eqb 0 u))
 
 pub none-room : (n i k : ℕ) → (get_or (replicate n nothing) i nothing).energy ≤ k
 none-room n i k = rw (blank n i) (omega arith)
@@ -68,9 +68,9 @@ unfolding energy_of
 beside-small u ps h = sum_by-le (energy_of u) max_energy ps (λ i d k. omega (arith, cond-le (eqb (get_or ps i d).unit u) (get_or ps i d).energy, h i d k))
 
 -- and so is what stands at a slot
-pub held-small : (u : ℕ) (ps : List Portion) → u % 256 < length ps → Every (λ p. p.energy ≤ 128 * max_energy) ps → energy_held u ps ≤ 128 * max_energy
+pub held-small : (slot : ℕ → ℕ) (u : ℕ) (ps : List Portion) → slot u < length ps → Every (λ p. p.energy ≤ 128 * max_energy) ps → energy_held slot u ps ≤ 128 * max_energy
 unfolding energy_held energy_of
-held-small u ps l h = let p = get_or ps (u % 256) nothing in omega (arith, cond-le (eqb p.unit u) p.energy, h (u % 256) nothing l)
+held-small slot u ps l h = let p = get_or ps (slot u) nothing in omega (arith, cond-le (eqb p.unit u) p.energy, h (slot u) nothing l)
 
 -- a unit's portions are those of its holders
 pub of-holders : {A : Type 0} (portion : A → Portion) (u : ℕ) (xs : List A)

@@ -2,6 +2,7 @@
 #![tactic(auto)]
 
 mod portions;
+pub mod unit_slots;
 
 ghost use Rattle.std.specs.Prelude.{◌≡◌, ◌≤◌, ◌<◌, ◌+◌, ◌^◌, ℕ, map, length, unwrap_or};
 ghost use Rattle.std.specs.List.{sum_by};
@@ -14,7 +15,8 @@ ghost use Rattle.hour.specs.View.{figures_in, figures_as, padded};
 ghost use Rattle.clear_store.specs.Slots.{energy_of, energy_in, Kept};
 ghost use Rattle.clear_store.specs.Shown.{cleared_as};
 
-use crate::portions::{Portion, SLOTS, Slots};
+use crate::portions::{Portion, Slots};
+use crate::unit_slots::{SLOTS, UnitSlots};
 use arrayvec::ArrayVec;
 use hour::Figures;
 use rules::{DIRECTIONS, UNITS};
@@ -38,13 +40,14 @@ fn energy_among(unit: u32, portions: &[Portion]) -> u32
     portions.iter().map(|portion| portion.energy_of(unit)).sum()
 }
 
-impl Slots {
-    fn new() -> Slots
+impl<'a> Slots<'a> {
+    fn new(table: &'a UnitSlots) -> Slots<'a>
         ensures none { (u : ℕ) → energy_in u result ≡ 0 }
         ensures kept { Kept 0 result }
     {
         let others = ArrayVec::new();
         Slots {
+            table,
             held: [Portion { unit: 0, energy: 0 }; SLOTS],
             others,
         }
@@ -58,7 +61,7 @@ impl Slots {
         ensures sums { (u : ℕ) → energy_in u self.new ≡ energy_in u self.old + energy_of u portion }
         ensures kept_after { (k : ℕ) → Kept k self.old → Kept (k + 1) self.new }
     {
-        let slot = portion.unit as usize % SLOTS;
+        let slot = self.table.slot(portion.unit);
         let held = self.held[slot];
         if held.unit == portion.unit || held.energy == 0 {
             self.held[slot] = Portion {
@@ -72,7 +75,7 @@ impl Slots {
 
     // What some holders have: `of` says which unit each one's energy is, and how much it is. No type tells that `of` may be called always, nor
     // that a slice has at most 128 elements.
-    fn of<T, F: Fn(&T) -> Portion>(holders: &[T], of: F) -> Slots
+    fn of<T, F: Fn(&T) -> Portion>(table: &'a UnitSlots, holders: &[T], of: F) -> Slots<'a>
         requires callable { F.IsAlwaysCallable of }
         requires few { length holders.now ≤ 128 }
         requires ranged { All (λ x. (p : Portion) → FnReturnsAt F.Fn of x p → p.energy ≤ max_energy) holders.now }
@@ -80,7 +83,7 @@ impl Slots {
             → All (λ x. (p : Portion) → FnReturnsAt F.Fn of x p → p ≡ portion x) holders.now
             → (u : ℕ) → energy_in u result ≡ sum_by (energy_of u) (map portion holders.now) }
     {
-        let mut slots = Slots::new();
+        let mut slots = Slots::new(table);
         for x in holders {
             slots.add(of(x));
         }
@@ -91,7 +94,7 @@ impl Slots {
     fn energy_of(&self, unit: u32) -> u32
         ensures { result ≡ energy_in unit self.now }
     {
-        let held = self.held[unit as usize % SLOTS];
+        let held = self.held[self.table.slot(unit)];
         held.energy_of(unit) + energy_among(unit, self.others.as_slice())
     }
 
@@ -116,14 +119,15 @@ fn plain(maxima: &[Option<u32>; DIRECTIONS]) -> [u32; DIRECTIONS]
     maxima.map(|maximum| maximum.unwrap_or(0))
 }
 
-// What the session keeps of an hour's figures, `units` being those registered. Energies are asked to be in range, as an hour's figures are: any caller
-// can build the type. What stands behind their lists is not looked at.
-pub fn stored(units: &[Unit], figures: &Figures) -> HourFigures
+// What the session keeps of an hour's figures, `units` being those registered. The table is theirs, for speed; any would do. Energies are asked to be in
+// range, as an hour's figures are: any caller can build the type. What stands behind their lists is not looked at.
+pub fn stored(units: &[Unit], table: &UnitSlots, figures: &Figures) -> HourFigures
     requires { (length units.now ≤ 64) × All (λ o. o.matched ≤ max_energy) (listed figures.now.offers)
         × All (λ x. x.energy ≤ max_energy) (listed figures.now.executions) }
     ensures { padded figures.now ≡ figures_as (figures_in figures.now) → result ≡ cleared_as (figures_in figures.now) units.now }
 {
     let matched = Slots::of(
+        table,
         figures.offers.as_slice(),
         |o| Portion {
             unit: o.holder.unit,
@@ -131,6 +135,7 @@ pub fn stored(units: &[Unit], figures: &Figures) -> HourFigures
         },
     );
     let executed = Slots::of(
+        table,
         figures.executions.as_slice(),
         |x| Portion {
             unit: x.holder.unit,

@@ -3,12 +3,9 @@ ghost use Rattle.std.specs.Prelude.{◌≤◌, ◌*◌};
 ghost use Rattle.std.specs.List.{All};
 ghost use Rattle.rules.specs.Units.{max_energy};
 
+use crate::unit_slots::{SLOTS, UnitSlots};
 use arrayvec::ArrayVec;
 use rules::LODGEMENTS;
-
-// Units are found by slots, the remainders of their numbers: a pass over all for each unit would take most of a quiet hour's time, and a map
-// would need a heap, which the gate does not use.
-pub const SLOTS: usize = 256;
 
 // An energy, and the number of the unit that has it. Beside `hour_share::Amount`, whose energy is looked up by direction: one type over both keys
 // would name neither.
@@ -20,7 +17,8 @@ pub struct Portion {
 
 // What units have in all: a unit's energies added up at its slot, and each by itself where another unit's stand there.
 #[derive(Drop)]
-pub struct Slots {
+pub struct Slots<'a> {
+    pub table: &'a UnitSlots,
     pub held: [Portion; SLOTS],
     pub others: ArrayVec<Portion, LODGEMENTS>,
     // No sum is of more energies than there are lodgements.

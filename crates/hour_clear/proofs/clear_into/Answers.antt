@@ -53,7 +53,7 @@ returns-then-in_range c =
     let wide : own.count ≡ length xs = omega (arith, c.cut-bilateral.auto.executions, length-take own.count own.items, c.uncut.ensures.count, c.as_slice-then-in_range.ensures.fits) in
     let cuts = listed-front 128 xs _ own.count wide in
     let said =
-    figures-said ranges os m _ _ c.cut-bilateral.result (listed-front 128 os _ held.count long) (ap executions_in cuts ∙ cut) (omega arith) (omega arith) c.clear-market.ensures.flows (omega arith)
+    figures-said ranges os m _ (record { items = xs ++ _; count = own.count }) c.cut-bilateral.result (listed-front 128 os _ held.count long) (ap executions_in cuts ∙ cut) (omega arith) (omega arith) c.clear-market.ensures.flows (omega arith)
     (rw cuts (c.cut-bilateral.ensures.flows (rw same flows))) in
     rw passed (ap Some said)
 
