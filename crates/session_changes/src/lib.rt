@@ -1,12 +1,12 @@
 // What calls change, by itself: a lent session is changed in place and not copied. A refused call changes nothing.
 #![tactic(auto)]
 
-ghost use Rattle.std.specs.Prelude.{◌≡◌, ◌<◌, IfOk};
+ghost use Rattle.std.specs.Prelude.{◌≡◌, ◌<◌, ◌≤◌, IfOk, length};
 ghost use Rattle.rules.specs.DayBook as D;
 ghost use Rattle.session.specs.declared.Session.{Session};
 ghost use Rattle.session.specs.Steps.{Met};
 ghost use Rattle.session.specs.Parts.{Within, JudgesRow, Entered};
-ghost use Rattle.session_changes.specs.Changes.{Indexed, Granted, registry_with, notice_with, rights_with, loss_with, standing_with, closed_with, cleared_with};
+ghost use Rattle.session_changes.specs.Changes.{Indexed, Granted, registry_with, notice_with, rights_with, loss_with, moved, standing_with, closed_with, cleared_with};
 ghost use Rattle.session_changes.specs.Effects.{effect_of, done};
 
 use answer::{Refusal, Response};
@@ -129,13 +129,26 @@ impl Change for StandingChange {
     ghost fits = { Indexed };
 
     fn apply(&self, s: &mut Session) {
-        let StandingChange { from, to, .. } = *self;
-        s.lodgements.copy_within(from + 1..to + 1, from);
-        s.energies.copy_within(from + 1..to + 1, from);
+        move_forward(&mut s.lodgements, &mut s.energies, self.from, self.to);
         s.lodgements[self.at] = self.lodgement;
         s.energies[self.at] = self.energies;
         s.standing = self.standing;
         s.last = self.last;
+    }
+}
+
+// The elements after index `from`, up to index `to`, move to the index before theirs: one by one, both arrays in one loop. With `copy_within` the
+// archive for C would need `memmove`.
+fn move_forward(lodgements: &mut [Lodgement], energies: &mut [Energies], from: usize, to: usize)
+    requires forward { from ≤ to }
+    requires lodgements { to < length lodgements.old }
+    requires energies { to < length energies.old }
+    ensures lodgements { lodgements.new ≡ moved from to lodgements.old }
+    ensures energies { energies.new ≡ moved from to energies.old }
+{
+    for i in from..to {
+        lodgements[i] = lodgements[i + 1];
+        energies[i] = energies[i + 1];
     }
 }
 
