@@ -210,5 +210,6 @@ pub fn units_possible(h: &Hour) -> bool
     requires { HourInRange h.now }
     ensures { result ≡ units_possible h.now }
 {
-    units_differ(&as_lodgements(h.offers.as_slice())) && lodgements_possible(&h.capacities, &lodgements_of(h))
+    units_differ(&as_lodgements(h.offers.as_slice()))
+        && lodgements_possible(&h.capacities, &lodgements_of(h))
 }

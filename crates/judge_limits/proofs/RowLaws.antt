@@ -172,18 +172,6 @@ module _ (H : ℕ) (own : List ℕ) (load : ℕ → ℕ) where
     unfolding first_passed own_limits_for maximum_limit_for limit_rows judged_in judged_by limits own_limits border_limits
     judged-normal = first-parts _ _ _ ∙ ap (λ (o : Option Row). else_by (given_by o) by-border) (sym (rows-two maximum-row available-row))
 
-    -- in one piece, by the limits as the code makes them
-    pub judged-normal : (line : O.Option (List ℕ)) → ((h : ℕ) → limit_at line h ≡ line_at u g cs losses h)
-        → judged_in u n g cs losses false H own load ≡ else_by (first_passed (own_limits_for u n) H own load) (first_passed (border_limits_for u g line) H own load)
-    unfolding first_passed border_limits_for limit_rows border_limits
-    judged-normal line is = own-parts ∙ ap (else_by (first_passed (own_limits_for u n) H own load)) (ap given_by (sym (rows-two (border-row line is) rights-row)))
-
-    -- in one piece, by the limits as the code makes them
-    pub judged-normal : (line : O.Option (List ℕ)) → ((h : ℕ) → limit_at line h ≡ line_at u g cs losses h)
-        → judged_in u n g cs losses false H own load ≡ else_by (first_passed (own_limits_for u n) H own load) (first_passed (border_limits_for u g line) H own load)
-    unfolding first_passed border_limits_for limit_rows border_limits
-    judged-normal line is = own-parts ∙ ap (else_by (first_passed (own_limits_for u n) H own load)) (ap given_by (sym (rows-two (border-row line is) rights-row)))
-
     pub own-passed : (q : ℕ × ℕ) → first_passed (own_limits_for u n) H own load ≡ some q → judged_in u n g cs losses false H own load ≡ some q
     unfolding else_by
     own-passed q e = judged-normal ∙ rw e refl

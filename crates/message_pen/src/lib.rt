@@ -91,7 +91,8 @@ impl<'a> Page<'a> {
     {
         let left = self.pen.pos % BYTE;
         if left != 0 {
-            self.buffer[self.pen.pos / BYTE] = ((self.pen.acc << (BYTE - left)) % BYTE_VALUES) as u8;
+            let byte = (self.pen.acc << (BYTE - left)) % BYTE_VALUES;
+            self.buffer[self.pen.pos / BYTE] = byte as u8;
         }
     }
 }
